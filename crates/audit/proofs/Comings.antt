@@ -17,7 +17,7 @@ use Rattle.exchange_core.specs.MessageCoreValue as messages
 use Rattle.exchange_core.specs.CoreValue.{CoreValue}
 use Rattle.exchange_core.specs.Wholes.{core_in, AreWhole}
 use Rattle.node_reports.specs.declared.journal.Journal.{Journal}
-use Rattle.node_reports.specs.Steps.Stations.{StationValue, fresh_station}
+use Rattle.node_reports.specs.Stations.{StationValue, fresh_station}
 use Rattle.audit.specs.declared.item.Item.{Item}
 use Rattle.audit.specs.declared.item.Item.TheVariants.{Start, Restart, Message, Hello, Evaluate, Faulty}
 use Rattle.audit.specs.declared.line.Line.{Line}

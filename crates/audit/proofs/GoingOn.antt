@@ -19,7 +19,7 @@ use Rattle.node_reports.specs.declared.step.Step.{Step}
 use Rattle.node_reports.specs.declared.step.Step.TheVariants.{Took, Made, Restarted, Heard}
 use Rattle.node_reports.specs.declared.journal.Journal.{Journal}
 use Rattle.node_reports.specs.Journals.{made, received, incarnation_after, with_step, firsts_of, IsLawful}
-use Rattle.node_reports.specs.Steps.Stations.{StationValue, PendingValue, IsReceived, IsTold, IsRestarted, IsPending, IsNoted}
+use Rattle.node_reports.specs.Stations.{StationValue, PendingValue, IsReceived, IsTold, IsRestarted, IsPending, IsNoted}
 use Rattle.node_reports.specs.declared.run_fault.RunFault.{RunFault}
 use Rattle.node_reports.specs.declared.run_fault.RunFault.TheVariants.{BookDisagrees}
 use Rattle.node_reports.specs.Reports.{entries_of, Agree, IsAgreeFault}

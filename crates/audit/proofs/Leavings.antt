@@ -15,7 +15,7 @@ use Rattle.node_reports.specs.declared.step.Step.{Step}
 use Rattle.node_reports.specs.declared.step.Step.TheVariants.{Took, Made, Restarted, Heard}
 use Rattle.node_reports.specs.declared.journal.Journal.{Journal}
 use Rattle.node_reports.specs.Journals.{made, newest, last_of, opening_at, with_step, fresh_journal}
-use Rattle.node_reports.specs.Steps.Stations.{StationValue, PendingValue, IsNoted, IsRestarted}
+use Rattle.node_reports.specs.Stations.{StationValue, PendingValue, IsNoted, IsRestarted}
 use Rattle.evaluation.specs.Messages.{MessageValue}
 use Rattle.audit.specs.declared.item.Item.{Item}
 use Rattle.audit.specs.declared.outcome.Outcome.{Outcome}

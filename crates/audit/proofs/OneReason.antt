@@ -14,7 +14,7 @@ use Rattle.book.specs.Book.{BookValue}
 use Rattle.exchange_core.specs.declared.eval_fault.EvalFault.{EvalFault}
 use Rattle.exchange_core.specs.declared.eval_fault.EvalFault.TheVariants as fault
 use Rattle.exchange_core.specs.CoreValue.{CoreValue, IsEvalFault, IsNextOf}
-use Rattle.node_reports.specs.Steps.Stations.{StationValue}
+use Rattle.node_reports.specs.Stations.{StationValue}
 use Rattle.audit.specs.declared.item.Item.{Item}
 use Rattle.audit.specs.declared.item.Item.TheVariants.{Start, Restart, Message, Hello, Evaluate, Faulty}
 use Rattle.audit.specs.declared.needs.Need.{Need}

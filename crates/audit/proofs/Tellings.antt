@@ -5,7 +5,7 @@ use Rattle.std.specs.Global.{Vec}
 use Rattle.std.proofs.lemmas.Option.{slice_get-map}
 use Rattle.plant.specs.PlantValue.{PlantValue}
 use Rattle.book.specs.Book.{BookValue}
-use Rattle.node_reports.specs.Steps.Stations.{StationValue}
+use Rattle.node_reports.specs.Stations.{StationValue}
 use Rattle.audit.specs.declared.item.Item.{Item}
 use Rattle.audit.specs.declared.line.Line.{Line}
 use Rattle.audit.specs.declared.follower.Follower.{Follower}

@@ -15,7 +15,7 @@ use Rattle.exchange_core.specs.CoreValue.{CoreValue, AreOpeningOf, initial_openi
 use Rattle.exchange_core.specs.Wholes.{as_wholes}
 use Rattle.node_reports.specs.declared.journal.Journal.{Journal}
 use Rattle.node_reports.specs.Journals.{last_of, opening_at}
-use Rattle.node_reports.specs.Steps.Stations.{StationValue, PendingValue, fresh_station, IsReceived, IsTold, IsPending, IsNoted, IsRestarted}
+use Rattle.node_reports.specs.Stations.{StationValue, PendingValue, fresh_station, IsReceived, IsTold, IsPending, IsNoted, IsRestarted}
 use Rattle.audit.specs.declared.item.Item.{Item}
 use Rattle.audit.specs.declared.item.Item.TheVariants.{Start, Restart, Message, Hello, Evaluate, Faulty}
 use Rattle.audit.specs.declared.line.Line.{Line}

@@ -2,7 +2,7 @@
 use Rattle.std.specs.Prelude.{◌≡◌, ◌⊎◌, List}
 use Rattle.book.specs.declared.book.misfit.Misfit.{Misfit}
 use Rattle.book.specs.Book.{BookValue}
-use Rattle.node_reports.specs.Steps.Stations.{StationValue}
+use Rattle.node_reports.specs.Stations.{StationValue}
 use Rattle.audit.specs.declared.item.Item.{Item}
 use Rattle.audit.specs.declared.reason.Reason.{Reason}
 use Rattle.audit.specs.declared.reason.Reason.TheVariants as reason

@@ -17,7 +17,7 @@ use Rattle.exchange_core.specs.MessageCoreValue.{IsAnswer}
 use Rattle.exchange_core.specs.CoreValue.{IsEvalFault, IsNextOf, is_news}
 use Rattle.node_reports.specs.declared.journal.Journal.{Journal}
 use Rattle.node_reports.specs.Journals.{incarnation_after}
-use Rattle.node_reports.specs.Steps.Stations.{StationValue}
+use Rattle.node_reports.specs.Stations.{StationValue}
 use Rattle.audit.specs.declared.item.Item.{Item}
 use Rattle.audit.specs.declared.item.Item.TheVariants.{Start, Restart, Message, Hello, Evaluate, Faulty}
 use Rattle.audit.specs.declared.line.Line.{Line}

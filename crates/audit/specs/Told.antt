@@ -3,7 +3,7 @@ use Rattle.std.specs.Prelude.{◌≡◌, ℕ, zero, suc, ◌≤◌, ◌++◌, Li
 use Rattle.std.specs.Global.{Vec}
 use Rattle.plant.specs.PlantValue.{PlantValue}
 use Rattle.book.specs.Book.{BookValue}
-use Rattle.node_reports.specs.Steps.Stations.{StationValue}
+use Rattle.node_reports.specs.Stations.{StationValue}
 use Rattle.audit.specs.declared.journal_file.JournalFile.{JournalFile}
 use Rattle.audit.specs.declared.line.Line.{Line}
 use Rattle.audit.specs.declared.line.Place.{Place}

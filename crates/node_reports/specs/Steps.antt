@@ -1,6 +1,5 @@
 -- Steps of the proofs. Only contracts inside this crate cite them, so no reader has to believe them.
 pub mod Standing
-pub mod Stations
 pub mod Collecting
 pub mod Comparing
 pub mod Looking

@@ -19,7 +19,7 @@ pub struct Station {
 }
 
 impl Model for Station {
-    ghost use Rattle.node_reports.specs.Steps.Stations.{StationValue};
+    ghost use Rattle.node_reports.specs.Stations.{StationValue};
     ghost use Rattle.node_reports.specs.Steps.Standing.{IsStation};
 
     ghost Value = { StationValue };
@@ -32,7 +32,7 @@ impl Model for Station {
 ghost use Rattle.std.specs.Prelude.{◌≡◌, ◌<◌, IfOk, IfErr, OnErr, length};
 ghost use Rattle.exchange_core.specs.CoreValue.{AreOpeningOf, IsCoreFault, IsEvalFault};
 ghost use Rattle.node_reports.specs.Journals.{IsLawful};
-ghost use Rattle.node_reports.specs.Steps.Stations.{fresh_station, IsReceived, IsTold, IsPending, IsRestarted};
+ghost use Rattle.node_reports.specs.Stations.{fresh_station, IsReceived, IsTold, IsPending, IsRestarted};
 ghost use Rattle.node_reports.specs.Steps.Standing.{IsStation};
 
 impl Station {

@@ -10,7 +10,7 @@ use Rattle.book.specs.declared.book.misfit.Misfit.{Misfit}
 use Rattle.book.specs.declared.book.misfit.Misfit.TheVariants.{Memory}
 use Rattle.book.specs.Book.{BookValue, IsMisfit}
 use Rattle.exchange_core.specs.CoreValue.{CoreValue}
-use Rattle.node_reports.specs.Steps.Stations.{StationValue, PendingValue, fresh_station, IsNoted}
+use Rattle.node_reports.specs.Stations.{StationValue, PendingValue, fresh_station, IsNoted}
 use Rattle.audit.specs.declared.item.Item.{Item}
 use Rattle.audit.specs.declared.item.Item.TheVariants.{Start, Restart, Message, Hello, Evaluate, Faulty}
 use Rattle.audit.specs.declared.line.Line.{Line}

@@ -1,6 +1,6 @@
 -- Resources of which none can go on, and what is told of them.
 use Rattle.std.specs.Prelude.{◌≡◌, ◌⊎◌, ℕ, zero, suc, ◌<◌, ◌++◌, List, [], Option, Some, None, length, map, slice_get, slice_index}
-use Rattle.node_reports.specs.Steps.Stations.{StationValue}
+use Rattle.node_reports.specs.Stations.{StationValue}
 use Rattle.audit.specs.declared.line.Line.{Line}
 use Rattle.audit.specs.declared.line.Place.{Place}
 use Rattle.audit.specs.declared.follower.Follower.{Follower}

@@ -5,7 +5,7 @@ use Rattle.evaluation.specs.Meaning.{Evaluated}
 use Rattle.book.specs.Book.{BookValue}
 use Rattle.node_reports.specs.declared.journal.Journal.{Journal}
 use Rattle.node_reports.specs.Journals.{made, received, IsLawful}
-use Rattle.node_reports.specs.Steps.Stations.{StationValue, PendingValue}
+use Rattle.node_reports.specs.Stations.{StationValue, PendingValue}
 use Rattle.node_reports.specs.Reports.{entries_of}
 use Rattle.audit.specs.Lines.{zeros}
 use Rattle.audit.specs.Reasons.{present_of}

@@ -14,7 +14,7 @@ pub struct PendingEvaluation {
 }
 
 impl Model for PendingEvaluation {
-    ghost use Rattle.node_reports.specs.Steps.Stations.{PendingValue};
+    ghost use Rattle.node_reports.specs.Stations.{PendingValue};
     ghost use Rattle.node_reports.specs.Steps.Standing.{IsAhead};
 
     ghost Value = { PendingValue };
@@ -27,7 +27,7 @@ impl Model for PendingEvaluation {
 ghost use Rattle.std.specs.Prelude.{◌≡◌, IfOk, IfErr};
 ghost use Rattle.node_reports.specs.Codes.{IsOfPlant};
 ghost use Rattle.node_reports.specs.Journals.{IsLawful};
-ghost use Rattle.node_reports.specs.Steps.Stations.{IsNoted};
+ghost use Rattle.node_reports.specs.Stations.{IsNoted};
 ghost use Rattle.node_reports.specs.Steps.Standing.{IsAhead};
 
 impl PendingEvaluation {
