@@ -51,13 +51,13 @@ same_not a n k other = by (a.resource == n) (a.task == k) refl
     by false false is = refl
 
 -- what a task is left with by an evaluation of it, and by one of another task
-left_made : (j : Journal) (x : Evaluated) (task : ℕ) → x.name.task.resource ≡ j.resource → x.name.task.task ≡ task → left_in (with_step j (Made x)) task ≡ retained_values x.code x.after
+pub left_made : (j : Journal) (x : Evaluated) (task : ℕ) → x.name.task.resource ≡ j.resource → x.name.task.task ≡ task → left_in (with_step j (Made x)) task ≡ retained_values x.code x.after
 left_made j x task own is =
     ap (λ (before : List Step). left_by (opening_at j.opening (task_of j task)) (last_of (task_of j task) before)) (turned j (Made x))
     ∙ ap (λ b. left_by (opening_at j.opening (task_of j task)) (newest (cond b (x ∷ filter (λ (y : Evaluated). same_task y.name.task (task_of j task)) (made (reverse j.steps))) (filter (λ (y : Evaluated). same_task y.name.task (task_of j task)) (made (reverse j.steps))))))
     (same_here x.name.task j.resource task own is)
 
-left_other : (j : Journal) (x : Evaluated) (task : ℕ) → (x.name.task.task ≡ task → ⊥) → left_in (with_step j (Made x)) task ≡ left_in j task
+pub left_other : (j : Journal) (x : Evaluated) (task : ℕ) → (x.name.task.task ≡ task → ⊥) → left_in (with_step j (Made x)) task ≡ left_in j task
 left_other j x task other =
     ap (λ (before : List Step). left_by (opening_at j.opening (task_of j task)) (last_of (task_of j task) before)) (turned j (Made x))
     ∙ ap (λ b. left_by (opening_at j.opening (task_of j task)) (newest (cond b (x ∷ filter (λ (y : Evaluated). same_task y.name.task (task_of j task)) (made (reverse j.steps))) (filter (λ (y : Evaluated). same_task y.name.task (task_of j task)) (made (reverse j.steps))))))

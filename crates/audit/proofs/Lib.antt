@@ -9,3 +9,5 @@ pub mod Comings
 pub mod Leavings
 pub mod Tellings
 pub mod OneReason
+mod OneTelling
+mod AnswersTold

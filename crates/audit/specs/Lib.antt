@@ -3,6 +3,7 @@ pub mod Readings
 pub mod Delivered
 pub mod Lines
 pub mod OneReason
+pub mod OneTelling
 pub mod Reasons
 pub mod Told
 pub mod Steps

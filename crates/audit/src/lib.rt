@@ -36,7 +36,7 @@ pub use auditing::{Audited, audit};
 pub use book::Misfit;
 pub use item::Item;
 pub use journal_file::JournalFile;
-pub use laws::one_reason;
+pub use laws::{answers_are_told, one_reason, one_telling};
 pub use line::{Line, Place};
 pub use needs::Need;
 pub use reason::{Reason, Unshown};

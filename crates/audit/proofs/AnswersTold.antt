@@ -1,0 +1,73 @@
+-- What a node answers and notes is what a line of its journal tells.
+use Rattle.std.proofs.Common.{◌≡◌, ◌⊎◌, ℕ, ◌++◌, List, [], Option, Some, None, inl, inr, refl, sym, ap, ◌∙◌, subst}
+use Rattle.std.proofs.lemmas.List.{append_cancel_right}
+use Rattle.task_codes.specs.declared.task_ref.TaskRef.{TaskRef}
+use Rattle.evaluation.specs.InputTexts.{words_of}
+use Rattle.text_lines.specs.MessageLines.{message_line}
+use Rattle.world.specs.declared.event.Event.TheVariants as event
+use Rattle.world.specs.ScheduleText.{SpellsEvent}
+use Rattle.live_node.specs.declared.node_line.NodeLine.{NodeLine}
+use Rattle.live_node.specs.declared.node_line.NodeLine.TheVariants as asked
+use Rattle.live_node.specs.NodeAnswers.{Raising, Answers, AnswersAsked, IsAsking}
+use Rattle.live_node.specs.NodeJournal.{note_end, line_note, restart_note}
+use Rattle.live_node.specs.NodeLines.{node_text, SpellsHello}
+use Rattle.live_node.specs.NodeValue.{NodeValue}
+use Rattle.audit.specs.declared.item.Item.TheVariants.{Restart, Message, Hello, Evaluate}
+use Rattle.audit.specs.OneTelling.{HasTold, AnswersAreTold}
+
+abbrev task_of : ℕ → ℕ → TaskRef
+task_of resource task = record { resource = resource; task = task }
+
+-- the text of a line that was noted is that of the line that was read
+noted_text : (line note front : List ℕ) → note ≡ line_note line → note ≡ front ++ note_end → node_text front ≡ front → node_text line ≡ node_text front
+noted_text line note front noted is plain = sym (plain ∙ append_cancel_right front (node_text line) note_end (sym is ∙ noted))
+
+whole_note : (front : List ℕ) → node_text front ≡ front → line_note front ≡ front ++ note_end
+whole_note front plain = ap (λ t. t ++ note_end) plain
+
+module _ (raising : Raising) (old new : NodeValue) (line note text : List ℕ) where
+  asked_told : (a : Option NodeLine) → IsAsking old.core.plant line a → AnswersAsked raising old new line a note text → (note ≡ []) ⊎ HasTold old new note
+  asked_told None read refused = inl refused.unnoted
+  asked_told (Some asked.Idle) read same = inl same.1
+  asked_told (Some (asked.Evaluate t dt inputs)) read (inl done) =
+      let n = old.core.resource in
+      let task : t ≡ task_of n t.task = ap (λ r. task_of r t.task) done.here in
+      inr (record {
+        item = Evaluate t.task dt inputs;
+        comes = (old, done.evaluated, refl, done.made);
+        told = λ front is plain. (
+          (done.made.next.next.code, done.made.next.next.found),
+          (
+            subst (λ u. SpellsEvent old.core.plant 0 (event.Evaluate 0 u dt inputs) (words_of (node_text front))) task
+                (subst (λ l. SpellsEvent old.core.plant 0 (event.Evaluate 0 t dt inputs) (words_of l)) (noted_text line note front done.note_is is plain) read),
+            whole_note front plain,
+          ),
+        );
+      })
+  asked_told (Some (asked.Evaluate t dt inputs)) read (inr refused) = inl refused.2.unnoted
+  asked_told (Some (asked.Take m)) read done =
+      inr (record {
+        item = Message m;
+        comes = (old, done.answer, refl, done.taken);
+        told = λ front is plain. ((read.0, sym (noted_text line note front done.note_is is plain) ∙ read.1), whole_note front plain);
+      })
+  asked_told (Some (asked.Hello of incarnation)) read (inl done) =
+      inr (record {
+        item = Hello of incarnation;
+        comes = (old, done.newer, refl, done.heard);
+        told = λ front is plain. (
+          done.exists,
+          (subst (λ l. SpellsHello old.core.plant of incarnation (words_of l)) (noted_text line note front done.note_is is plain) read, whole_note front plain),
+        );
+      })
+  asked_told (Some (asked.Hello of incarnation)) read (inr refused) = inl refused.1.unnoted
+  asked_told (Some (asked.Restart n)) read (inl done) =
+      inr (record {
+        item = Restart done.incarnation;
+        comes = (old, refl, done.risen);
+        told = λ front is plain. sym is ∙ done.note_is ∙ ap (λ r. restart_note old.core.plant r done.incarnation) done.here;
+      })
+  asked_told (Some (asked.Restart n)) read (inr refused) = inl refused.2.unnoted
+
+pub answers_told : (raising : Raising) → AnswersAreTold raising
+answers_told raising old new line note text answers = asked_told raising old new line note text answers.asked answers.read answers.answered
