@@ -1,12 +1,13 @@
 -- What a resource has made and received after one more step, and that the others stand as before.
 use Rattle.std.proofs.Common.{◌≡◌, ◌≢◌, ◌⊎◌, inl, inr, map, append_assoc, ℕ, ◌+◌, ◌++◌, List, [], ◌∷◌, All, Contains, Some, slice_get, slice_set, slice_index, reverse, cond, eqb, true, false, Bool, zero, suc, ◌<◌, add-zero, zero-add, length, replicate, refl, ap, ap₂, sym, ◌∙◌, subst, arith}
-use Rattle.std.proofs.lemmas.List.{append-nil, length-append, length-set, map-append, nil_from_length, get_or-set_same, get_or-set_other}
+use Rattle.std.proofs.lemmas.List.{append-nil, length-append, length-set, map-append, nil_from_length, get_or-set_same, get_or-set_other, reverse-append}
 use Rattle.std.proofs.lemmas.List.Elements.{filter-append, All-weaker, All-append, All-cons, All-nil}
 use Rattle.std.proofs.lemmas.Bool.{eq-eqb, eqb-true}
 use Rattle.std.proofs.lemmas.Option.{slice_get_within, none-some, same_Some}
 use Rattle.lists.proofs.Members.{all_from_places}
 use Rattle.lists.proofs.Places.{push_cases}
 use Rattle.std.specs.Global.{Vec}
+use Rattle.node_reports.specs.Steps.Appended.{made-append, received-append}
 use Rattle.audit.specs.declared.line.Line.{Line}
 use Rattle.plant.specs.PlantValue.{PlantValue}
 use Rattle.evaluation.specs.Meaning.{Evaluated}
@@ -31,27 +32,12 @@ use Rattle.audit.specs.Reasons.{present_of}
 use Rattle.audit.specs.Steps.Following.{IsFollowed}
 use Rattle.audit.specs.Steps.Settled.{IsSettled, AreSettled}
 use Rattle.audit.proofs.Comings.{followed_left, later_keeps, later_following}
-use Rattle.audit.proofs.Leavings.{turned}
 use Rattle.audit.specs.Steps.Standings.{AuditedBook, empty_book, IsJournalOf, IsGoing, IsEnded, IsStanding, IsPendingFor, journal_in, IsLater, Grows, Goes, IsOfSame, IsAt, AreFrom, AreJournalsFrom}
 use Rattle.audit.specs.Delivered.{AreDelivered}
 
-made-append : (a b : List Step) → made (a ++ b) ≡ made a ++ made b
-made-append [] b = refl
-made-append (Took x ∷ a) b = made-append a b
-made-append (Heard of heard ∷ a) b = made-append a b
-made-append (Made x ∷ a) b = ap (λ xs. x ∷ xs) (made-append a b)
-made-append (Restarted ticket incarnation ∷ a) b = made-append a b
-
-received-append : (a b : List Step) → received (a ++ b) ≡ received a ++ received b
-received-append [] b = refl
-received-append (Took x ∷ a) b = ap (λ xs. x ∷ xs) (received-append a b)
-received-append (Heard of heard ∷ a) b = received-append a b
-received-append (Made x ∷ a) b = received-append a b
-received-append (Restarted ticket incarnation ∷ a) b = received-append a b
-
 -- a step other than a restart leaves the incarnation as it was
 present_with : (j : Journal) (s : Step) → incarnation_after j.first (s ∷ reverse j.steps) ≡ present_of j → present_of (with_step j s) ≡ present_of j
-present_with j s same = ap (incarnation_after j.first) (turned j s) ∙ same
+present_with j s same = ap (incarnation_after j.first) (reverse-append j.steps (s ∷ [])) ∙ same
 
 -- a step that makes nothing and receives nothing
 still : (b : AuditedBook) (j : Journal) (s : Step) → made (s ∷ []) ≡ [] → received (s ∷ []) ≡ [] → incarnation_after j.first (s ∷ reverse j.steps) ≡ present_of j → IsJournalOf b j → IsJournalOf b (with_step j s)
@@ -145,7 +131,7 @@ restarted_journal : (b : AuditedBook) (j : Journal) (ticket incarnation : ℕ) �
 restarted_journal b j ticket incarnation is = record {
   first_is = is.first_is;
   exists = omega (arith, is.exists, length-set b.present j.resource incarnation);
-  present_is = get_or-set_same b.present j.resource incarnation 0 is.exists ∙ sym (ap (incarnation_after j.first) (turned j (Restarted ticket incarnation)));
+  present_is = get_or-set_same b.present j.resource incarnation 0 is.exists ∙ sym (ap (incarnation_after j.first) (reverse-append j.steps (Restarted ticket incarnation ∷ [])));
   made_is = made-append j.steps (Restarted ticket incarnation ∷ []) ∙ append-nil (made j.steps) ∙ is.made_is;
   delivered = subst (All (Contains b.book.entries)) (sym (received-append j.steps (Restarted ticket incarnation ∷ []) ∙ append-nil (received j.steps))) is.delivered;
 }

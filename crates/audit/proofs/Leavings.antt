@@ -1,5 +1,5 @@
 -- What is left of the tasks of a resource, step by step.
-use Rattle.std.proofs.Common.{◌≡◌, ℕ, ◌<◌, ◌++◌, ◌==◌, ◌&&◌, List, [], ◌∷◌, Bool, true, false, cond, Some, length, reverse, slice_get, refl, inl, inr, ap, sym, ◌∙◌, subst, arith, filter}
+use Rattle.std.proofs.Common.{◌≡◌, ℕ, ◌<◌, ◌==◌, ◌&&◌, List, [], ◌∷◌, Bool, true, false, cond, Some, length, reverse, slice_get, refl, inl, inr, ap, sym, ◌∙◌, subst, arith, filter}
 use Rattle.std.specs.Prelude.{slice_set}
 use Rattle.std.proofs.lemmas.List.{reverse-append, length-set}
 use Rattle.std.proofs.lemmas.Bool.{eq-eqb, eqb-true}
@@ -23,9 +23,6 @@ use Rattle.audit.specs.declared.outcome.Outcome.TheVariants.{Done, Waits, Stops}
 use Rattle.audit.specs.Lines.{left_in, AreLeft, Takes, Hears}
 use Rattle.audit.specs.Steps.Following.{Meets}
 
-pub turned : (j : Journal) (s : Step) → reverse (j.steps ++ s ∷ []) ≡ s ∷ reverse j.steps
-turned j s = reverse-append j.steps (s ∷ [])
-
 abbrev task_of : Journal → ℕ → TaskRef
 task_of j task = record { resource = j.resource; task = task }
 
@@ -36,7 +33,7 @@ left_still j s kept none are = record {
   each = λ task values at.
       are.each task values at
       ∙ ap (λ (xs : List Evaluated). left_by (opening_at j.opening (task_of j task)) (newest (filter (λ (x : Evaluated). same_task x.name.task (task_of j task)) xs))) (sym none)
-      ∙ ap (λ (before : List Step). left_by (opening_at j.opening (task_of j task)) (last_of (task_of j task) before)) (sym (turned j s));
+      ∙ ap (λ (before : List Step). left_by (opening_at j.opening (task_of j task)) (last_of (task_of j task) before)) (sym (reverse-append j.steps (s ∷ [])));
 }
 
 same_here : (a : TaskRef) (n k : ℕ) → a.resource ≡ n → a.task ≡ k → same_task a (record { resource = n; task = k }) ≡ true
@@ -53,13 +50,13 @@ same_not a n k other = by (a.resource == n) (a.task == k) refl
 -- what a task is left with by an evaluation of it, and by one of another task
 pub left_made : (j : Journal) (x : Evaluated) (task : ℕ) → x.name.task.resource ≡ j.resource → x.name.task.task ≡ task → left_in (with_step j (Made x)) task ≡ retained_values x.code x.after
 left_made j x task own is =
-    ap (λ (before : List Step). left_by (opening_at j.opening (task_of j task)) (last_of (task_of j task) before)) (turned j (Made x))
+    ap (λ (before : List Step). left_by (opening_at j.opening (task_of j task)) (last_of (task_of j task) before)) (reverse-append j.steps (Made x ∷ []))
     ∙ ap (λ b. left_by (opening_at j.opening (task_of j task)) (newest (cond b (x ∷ filter (λ (y : Evaluated). same_task y.name.task (task_of j task)) (made (reverse j.steps))) (filter (λ (y : Evaluated). same_task y.name.task (task_of j task)) (made (reverse j.steps))))))
     (same_here x.name.task j.resource task own is)
 
 pub left_other : (j : Journal) (x : Evaluated) (task : ℕ) → (x.name.task.task ≡ task → ⊥) → left_in (with_step j (Made x)) task ≡ left_in j task
 left_other j x task other =
-    ap (λ (before : List Step). left_by (opening_at j.opening (task_of j task)) (last_of (task_of j task) before)) (turned j (Made x))
+    ap (λ (before : List Step). left_by (opening_at j.opening (task_of j task)) (last_of (task_of j task) before)) (reverse-append j.steps (Made x ∷ []))
     ∙ ap (λ b. left_by (opening_at j.opening (task_of j task)) (newest (cond b (x ∷ filter (λ (y : Evaluated). same_task y.name.task (task_of j task)) (made (reverse j.steps))) (filter (λ (y : Evaluated). same_task y.name.task (task_of j task)) (made (reverse j.steps))))))
     (same_not x.name.task j.resource task other)
 

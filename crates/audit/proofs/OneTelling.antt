@@ -4,6 +4,7 @@ use Rattle.std.specs.Prelude.{slice_get, slice_set, slice_index}
 use Rattle.std.specs.Option.{option_map, option_and_then}
 use Rattle.std.specs.List.{zip}
 use Rattle.std.proofs.Math.ListN.{get_or-map}
+use Rattle.std.proofs.lemmas.List.{reverse-append}
 use Rattle.std.proofs.lemmas.Bool.{eq-eqb, eqb-true, and_parts}
 use Rattle.std.proofs.lemmas.Option.{same_Some, get_or_from_slice_get, slice_get-get_or, slice_get_within}
 use Rattle.lists.proofs.Places.{same_by_each}
@@ -46,7 +47,7 @@ use Rattle.audit.specs.declared.item.Item.TheVariants.{Start, Restart, Message, 
 use Rattle.audit.specs.declared.line.Line.{Line}
 use Rattle.audit.specs.Lines.{zeros, messages_in, left_in, AreLeft, Rises, Takes, Hears, Evaluates, Does, IsBeginning, StandsAt, item_at, ticket_at, ticket_behind, OpensWith, WasUndone}
 use Rattle.audit.specs.OneTelling.{NodeComes, NodeStandsAt, AreAlike, IsUndoneAt, OneTelling}
-use Rattle.audit.proofs.Leavings.{turned, left_made, left_other}
+use Rattle.audit.proofs.Leavings.{left_made, left_other}
 
 -- what stands in a table behind a change, and in an empty one
 table_same : {X : Type 0} (table : List (List (Option X))) (p : TaskRef) (x : Option X) → (p.resource < length table) × (p.task < length (get_or table p.resource [])) → at_task (with_task table p x) p ≡ x
@@ -113,7 +114,7 @@ kept_same a b long each =
 -- what is left of a task behind a step by which nothing is made
 left_unmade : (j : Journal) (s : Step) (task : ℕ) → made (s ∷ reverse j.steps) ≡ made (reverse j.steps) → left_in (with_step j s) task ≡ left_in j task
 left_unmade j s task none =
-    ap (λ (before : List Step). left_by (opening_at j.opening (ref_of j.resource task)) (last_of (ref_of j.resource task) before)) (turned j s)
+    ap (λ (before : List Step). left_by (opening_at j.opening (ref_of j.resource task)) (last_of (ref_of j.resource task) before)) (reverse-append j.steps (s ∷ []))
     ∙ ap (λ (xs : List Evaluated). left_by (opening_at j.opening (ref_of j.resource task)) (newest (filter (λ (x : Evaluated). same_task x.name.task (ref_of j.resource task)) xs))) none
 
 -- An audit's resource: what a restart would leave of each task is what its journal tells.

@@ -1,5 +1,5 @@
 -- STARTs, and lines that are none.
-use Rattle.std.proofs.Common.{◌≡◌, ℕ, zero, suc, ◌+◌, ◌<◌, ◌++◌, ◌∷◌, [], List, Option, length, map, slice_get, Some, None, sym, ap, refl, ◌∙◌, codes, append_assoc, subst, below_more}
+use Rattle.std.proofs.Common.{◌≡◌, ℕ, zero, suc, ◌+◌, ◌<◌, ◌++◌, ◌∷◌, [], List, Option, map, slice_get, Some, None, sym, ap, refl, ◌∙◌, codes, append_assoc, subst, below_more}
 use Rattle.std.specs.Fmt.{decimal}
 use Rattle.std.specs.List.{AllByRecursion, AllZip, flat_map, zip}
 use Rattle.std.specs.Option.{option_map}
@@ -9,7 +9,7 @@ use Rattle.std_blocks.specs.declared.value.Value.{Value}
 use Rattle.declared_names.specs.Kinds.{kind_of}
 use Rattle.task_codes.specs.CodeValue.{CodeValue}
 use Rattle.task_codes.specs.declared.retained_variable.RetainedVariable.{RetainedVariable}
-use Rattle.plant.specs.PlantValue.{PlantValue, ResourceValue, IsSoundPlant, tasks_at, codes_at}
+use Rattle.plant.specs.PlantValue.{PlantValue, codes_at}
 use Rattle.exchange_core.specs.Openings.{AreOpeningOf}
 use Rattle.text_lines.specs.LineParts.{resource_text}
 use Rattle.text_lines.specs.ReadParts.{IsInRange, IsBehind}
@@ -19,14 +19,6 @@ use Rattle.live_node.specs.NodeJournal.{note_end, kept_text, task_kept_text, all
 use Rattle.audit.specs.JournalLines.{AreInRange, IsStart}
 use Rattle.audit.specs.Steps.Reading.{IsKeptOf, AreKeptOf, start_line, AreKeptRead, IsStartRead, IsNoStartOf}
 use Rattle.audit.proofs.KeptLists.{all_zip}
-
--- each task has its code
-pub as_many_codes : (plant : PlantValue) (n : ℕ) → IsSoundPlant plant → length (codes_at plant n) ≡ length (tasks_at plant n)
-as_many_codes plant n sound = by (slice_get plant.resources n) refl
-  where
-    by : (found : Option ResourceValue) → slice_get plant.resources n ≡ found → length (codes_at plant n) ≡ length (tasks_at plant n)
-    by None is = rw is refl
-    by (Some r) is = rw is (sound.coded r n is)
 
 -- what is kept of a task begins with a blank, or is empty
 pub kept_starts : (e : CodeValue × List Value) (more : List ℕ) → StopsAt 32 more → StopsAt 32 (task_kept_text e ++ more)

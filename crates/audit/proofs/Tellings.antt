@@ -3,6 +3,7 @@ use Rattle.std.proofs.Common.{arith, ◌≡◌, ℕ, zero, suc, ◌+◌, ◌++�
 use Rattle.std.proofs.lemmas.List.{length-map}
 use Rattle.std.specs.Global.{Vec}
 use Rattle.std.proofs.lemmas.Option.{slice_get-map}
+use Rattle.lists.proofs.Mapped.{map-map}
 use Rattle.plant.specs.PlantValue.{PlantValue}
 use Rattle.book.specs.Book.{BookValue}
 use Rattle.node_reports.specs.Stations.{StationValue}
@@ -151,10 +152,6 @@ pub without_less : (all : List (Vec Line)) (n : ℕ) (lines : Vec Line) (before 
 without_less all n lines before at some was =
     was ∙ sym (append-nil (all_without all n)) ∙ ap (λ ns. all_without all n ++ ns) (sym (ap (λ l. without_lines l n) at ∙ some_here lines.items n some)) ∙ ap (all_without all) (sym (add-one n))
 
-map_twice : {A B C : Type 0} (g : B → C) (f : A → B) (xs : List A) → map g (map f xs) ≡ map (λ x. g (f x)) xs
-map_twice g f [] = refl
-map_twice g f (x ∷ xs) = ap (λ ys. g (f x) ∷ ys) (map_twice g f xs)
-
 -- what is shown, and what can't be, is what the journals tell
 pub told_by : (plant : PlantValue) (files : List JournalFile) (r : Audited) (readings : Readings) (b : AuditedBook) (fs : List Follower) → AreReadings plant files readings → b.plant ≡ plant → b.book ≡ r.book → AreFrom b 0 fs
     → length fs ≡ length plant.resources → lines_of fs ≡ readings.resources.items → r.journals ≡ journals_in fs → HaveTold b fs readings.without_start.items r.unshown.items
@@ -164,8 +161,8 @@ told_by plant files r readings b fs read plant_is book_is stand many lines journ
   read = read;
   all = courses_of fs;
   many = length-map fs course_of ∙ many;
-  lines_are = map_twice (λ (c : Course). c.lines) course_of fs ∙ sym (map_twice (λ (v : Vec Line). v.items) (λ (f : Follower). f.lines) fs) ∙ ap (map (λ (v : Vec Line). v.items)) lines;
-  journals_are = journals ∙ sym (map_twice (λ (c : Course). c.journal) course_of fs);
+  lines_are = map-map (λ (c : Course). c.lines) course_of fs ∙ sym (map-map (λ (v : Vec Line). v.items) (λ (f : Follower). f.lines) fs) ∙ ap (map (λ (v : Vec Line). v.items)) lines;
+  journals_are = journals ∙ sym (map-map (λ (c : Course). c.journal) course_of fs);
   unshown = told.unshown;
   shown = subst (λ p. AreShown p r.book (courses_of fs) (length (courses_of fs)) told.unshown) plant_is
       (subst (λ k. AreShown b.plant k (courses_of fs) (length (courses_of fs)) told.unshown) book_is

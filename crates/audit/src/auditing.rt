@@ -15,11 +15,11 @@ use crate::line::Line;
 use crate::reading::{Readings, read_journals};
 use crate::reason::Unshown;
 use crate::telling::{all_unshown, all_without};
+use book::Book;
 use node_reports::{Journal, Journals, PlantBook, RunFault, agreed};
 use plant::Plant;
 use std::alloc::{AllocError, Global};
 use std::sync::Arc;
-use world::Book;
 
 /// What is shown of the journals of a plant's nodes, and what can't be.
 #[derive(Drop)]

@@ -8,8 +8,8 @@ ghost use Rattle.text_lines.specs.ReadParts.{IsBehind};
 ghost use Rattle.text_lines.specs.MessageLines.{IsSmall};
 ghost use Rattle.text_lines.specs.Steps.Reading.{stop_in, HasNone, StopsAt, IsRead, IsOfKind};
 
+use declared_names::Kind;
 use plant::Plant;
-use power_flow::Kind;
 use std_blocks::Value;
 use text_lines::{behind, number_of, resource_name, value_of};
 

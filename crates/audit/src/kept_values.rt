@@ -12,10 +12,10 @@ ghost use Rattle.audit.specs.Steps.Reading.{IsKeptOf, AreKeptOf, AreKeptRead};
 use crate::beginnings::value_at;
 use evaluation::Retained;
 use keepers::before_value;
-use plant::{Plant, TaskCode, TaskRef};
+use plant::Plant;
 use std::alloc::{AllocError, Global};
 use std_blocks::Value;
-use task_codes::RetainedVariable;
+use task_codes::{RetainedVariable, TaskCode, TaskRef};
 use text_lines::behind;
 
 /// What stands behind a blank and a retained variable's name, as ` H.M=`.

@@ -33,7 +33,6 @@ mod trail;
 mod whole_lines;
 
 pub use auditing::{Audited, audit};
-pub use book::Misfit;
 pub use item::Item;
 pub use journal_file::JournalFile;
 pub use laws::{answers_are_told, one_reason, one_telling};

@@ -7,8 +7,9 @@ ghost use Rattle.audit.specs.JournalLines.{HasTask, Tells};
 use crate::item::Item;
 use crate::restart_line::read_restart;
 use live_node::{NodeLine, read_node_line};
-use plant::{Plant, TaskRef};
+use plant::Plant;
 use std::alloc::{AllocError, Global};
+use task_codes::TaskRef;
 use text_lines::are_same;
 use world::without_last;
 

@@ -1,5 +1,5 @@
 -- Where each entry fits those before it, takes that aren't of nothing never fall, over all incarnations of a resource.
-use Rattle.std.proofs.Common.{◌≡◌, ◌⊎◌, arith, inl, inr, ℕ, zero, suc, ◌<◌, ◌≤◌, Bool, true, false, cond, ◌&&◌, List, [], ◌∷◌, Option, Some, None, refl, ap, sym, ◌∙◌, subst, eqb}
+use Rattle.std.proofs.Common.{◌≡◌, ◌⊎◌, arith, inl, inr, ℕ, ◌<◌, ◌≤◌, Bool, true, false, cond, ◌&&◌, List, [], ◌∷◌, Option, Some, None, refl, ap, sym, ◌∙◌, subst, eqb}
 use Rattle.std.specs.Prelude.{slice_get, slice_index, MatchOption, ◌≢◌}
 use Rattle.std.proofs.lemmas.Bool.{false≢true, eqb-true, ne_eqb, cases_lt, cases_eq}
 use Rattle.std.proofs.lemmas.Bool.Decides.{nat_tests}
@@ -7,6 +7,7 @@ use Rattle.std.proofs.lemmas.Option.{none-some, same_Some}
 use Rattle.std.specs.List.{AllByRecursion}
 use Rattle.lists.specs.Among.{Among}
 use Rattle.lists.proofs.Each.{Each-at, Each-from}
+use Rattle.lists.proofs.Places.{index_at}
 use Rattle.task_codes.specs.declared.task_ref.TaskRef.{TaskRef}
 use Rattle.evaluation.specs.declared.name.Name.{Name}
 use Rattle.evaluation.specs.declared.take.Take.{Take}
@@ -93,11 +94,6 @@ number-of : (n i : ℕ) (o : Option ℕ) → is_number i o ≡ true → o ≡ So
 number-of n i None e = absurd (false≢true e)
 number-of n i (Some m) e = ap (λ (k : ℕ). Some k) (eqb-true m i e)
 
-index-of : (xs : List ℕ) (n i : ℕ) → slice_get xs n ≡ Some i → slice_index xs n ≡ i
-index-of [] n i e = absurd (none-some i e)
-index-of (x ∷ xs) zero i e = same_Some x i e
-index-of (x ∷ xs) (suc n) i e = index-of xs n i e
-
 not-below : (g f : ℕ × ℕ) → f.0 ≤ g.0 → (f.0 ≡ g.0 → f.1 ≤ g.1) → is_below (Some g) (Some f) ≡ false
 not-below g f low number = grind (arith, nat_tests)
 
@@ -131,7 +127,7 @@ module _ (first : List ℕ) (older : List Evaluated) (y x : Evaluated) (u t : Ta
       Each-at (IsMeantFor (name_from u.producer g) y.name) older w.0
       (subst (λ o. MatchOption o (Unit {0}) (λ f. AllByRecursion (IsMeantFor (name_from u.producer f) y.name) older)) from_u (Each-at (IsAddressed older y.name) y.takes u fits.addressed in_u away))
       w.1 w.2 in
-      let heard : slice_index w.0.heard y.name.task.resource ≡ y.name.incarnation = index-of w.0.heard y.name.task.resource y.name.incarnation (number-of y.name.task.resource y.name.incarnation (slice_get w.0.heard y.name.task.resource) addressed) in
+      let heard : slice_index w.0.heard y.name.task.resource ≡ y.name.incarnation = index_at w.0.heard y.name.task.resource y.name.incarnation (number-of y.name.task.resource y.name.incarnation (slice_get w.0.heard y.name.task.resource) addressed) in
       let apart : w.0.name.task.resource ≢ x.name.task.resource = (λ e. away (sym (ap (λ (n : Name). n.task.resource) w.2) ∙ e ∙ here)) in
       let told : told_of x.name.task.resource w.0 ≤ x.name.incarnation =
       not-ahead first older all x w.0 in_x w.1 t f in_t (of ∙ sym (ap (λ (n : Name). n.task) w.2)) from_t

@@ -20,6 +20,7 @@ use Rattle.book.specs.declared.book.ledger.place.Place.{Place}
 use Rattle.book.specs.declared.book.ledger.task_places.TaskPlaces.{TaskPlaces}
 use Rattle.book.specs.declared.book.ledger.taker.Taker.{Taker}
 use Rattle.std.specs.List.{AllByRecursion}
+use Rattle.lists.proofs.Each.{each-push}
 use Rattle.book.specs.Fits.{last_in, present_in, IsNumbered, Fits, AllFit}
 use Rattle.book.specs.Presents.{ArePresentWith}
 use Rattle.book.specs.Steps.Deciding.{is_of_task, is_of_resource, is_named, takes_from}
@@ -98,16 +99,12 @@ last-newest t (x ∷ older) = by (is_of_task t x) (last-newest t older) where
   by true ih = last-snoc (places_of t older) (place_of x (length older))
   by false ih = ih
 
-each-snoc : {X : Type 0} (P : X → Type 0) (xs : List X) (x : X) → AllByRecursion P xs → P x → AllByRecursion P (xs ++ x ∷ [])
-each-snoc P [] x all new = (new, tt)
-each-snoc P (y ∷ ys) x all new = (all.0, each-snoc P ys x all.1 new)
-
 -- what holds of the place of each of a task's entries
 each-place : (P : Place → Type 0) (t : TaskRef) (older : List Evaluated) → AllByRecursion (λ (y : Evaluated). y.name.task ≡ t → (k : ℕ) → P (place_of y k)) older → AllByRecursion P (places_of t older)
 each-place P t [] all = tt
 each-place P t (x ∷ older) all = by (is_of_task t x) refl (each-place P t older all.1) where
   by : (b : Bool) → is_of_task t x ≡ b → AllByRecursion P (places_of t older) → AllByRecursion P (cond b (places_of t older ++ place_of x (length older) ∷ []) (places_of t older))
-  by true e ih = each-snoc P (places_of t older) (place_of x (length older)) ih (all.0 ((test-task x.name.task t).holds e) (length older))
+  by true e ih = each-push P (places_of t older) (place_of x (length older)) ih (all.0 ((test-task x.name.task t).holds e) (length older))
   by false e ih = ih
 
 lower : (a b c e : ℕ) → a ≤ c → (a ≡ c → b < e) → ordering_then (nat_cmp a c) (nat_cmp b e) ≡ Less
@@ -129,7 +126,7 @@ below-next first older fit x numbered =
 
 rising-snoc : (ps : List Place) (p : Place) → AreRising ps → AllByRecursion (λ (q : Place). pair_cmp p.incarnation p.number q ≡ Less) ps → AreRising (ps ++ p ∷ [])
 rising-snoc [] p rising low = (tt, tt)
-rising-snoc (q ∷ qs) p rising low = (each-snoc (λ (r : Place). pair_cmp r.incarnation r.number q ≡ Less) qs p rising.0 low.0, rising-snoc qs p rising.1 low.1)
+rising-snoc (q ∷ qs) p rising low = (each-push (λ (r : Place). pair_cmp r.incarnation r.number q ≡ Less) qs p rising.0 low.0, rising-snoc qs p rising.1 low.1)
 
 -- the places of a task's entries rise
 pub places-rise : (first : List ℕ) (t : TaskRef) (older : List Evaluated) → AllFit first older → AreRising (places_of t older)

@@ -3,14 +3,10 @@ use Rattle.std.proofs.Common.{◌≡◌, arith, ℕ, ◌≤◌, cond, List, [], 
 use Rattle.std.specs.Prelude.{slice_index}
 use Rattle.std.proofs.lemmas.Bool.{eq-eqb}
 use Rattle.std.specs.List.{AllByRecursion}
+use Rattle.evaluation.specs.Steps.Facts.{greatest-first}
 use Rattle.evaluation.specs.declared.name.Name.{Name}
 use Rattle.evaluation.specs.Meaning.{Evaluated}
-use Rattle.evaluation.specs.Heard.{greatest}
 use Rattle.book.specs.Fits.{told_of, present_in, IsNumbered}
-
-pub greatest-first : (first : ℕ) (xs : List ℕ) → first ≤ greatest first xs
-greatest-first first [] = omega arith
-greatest-first first (x ∷ xs) = let low = greatest-first first xs in omega (arith, low)
 
 -- the present incarnation isn't below the first one
 pub present-first : (first : List ℕ) (older : List Evaluated) (n : ℕ) → slice_index first n ≤ present_in first older n

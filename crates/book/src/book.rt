@@ -1,5 +1,4 @@
 mod addressed;
-mod entry_at;
 mod fitting;
 mod heard;
 mod last_entry;

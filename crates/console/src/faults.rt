@@ -1,5 +1,4 @@
 use crate::command_fault::CommandFault;
-use crate::refusal::refusal_of;
 use crate::shown::Shown;
 use crate::status::{DIFFERS, FAILED, TEXT_REFUSED, WORD_REFUSED};
 use evaluation::InputFault;
@@ -7,6 +6,17 @@ use guidance::{Refusal, help_with, help_with_a_word};
 use std::io;
 use text_commands::{Difference, TextFault, WordFault, WordFaultKind};
 use world::{LiveFault, SimFault};
+
+/// What is refused, for what helps to mend it.
+fn refusal_of(fault: TextFault) -> Refusal {
+    match fault {
+        TextFault::Draw(fault) => Refusal::Drawing(fault),
+        TextFault::Graph(fault) => Refusal::Networks(fault),
+        TextFault::Bind(fault) => Refusal::Names(fault),
+        TextFault::Plant(fault) => Refusal::Plant(fault),
+        TextFault::TooLong => Refusal::Plan,
+    }
+}
 
 /// Tells what helps to mend a text. The fault was told before: what can't be told here is left out.
 fn print_help<R: Eprint + AllocGlobal>(rt: &R, text: &str, refusal: Refusal) {

@@ -14,7 +14,6 @@ mod given;
 mod help;
 mod node_prepared;
 mod prepared;
-mod refusal;
 mod request;
 mod schedules;
 mod shown;

@@ -1,12 +1,12 @@
 -- Evaluations with the same contents are equal, since the waiting places of a state are those of its code.
 use Rattle.std.proofs.Common.{◌≡◌, List, refl, sym, subst, ap}
+use Rattle.evaluation.specs.Steps.Facts.{same_as_itself, states_of_one}
 use Rattle.power_flow.specs.StateValue.{StateValue}
 use Rattle.task_codes.specs.CodeValue.{CodeValue}
 use Rattle.evaluation.specs.States.{AreStatesOf}
 use Rattle.evaluation.specs.Meaning.{Evaluated, IsWhole}
 use Rattle.evaluation.specs.Messages.{MessageValue}
 use Rattle.evaluation.specs.Steps.Contents.{HaveSameContents}
-use Rattle.evaluation.proofs.InitialStates.{same_as_itself, states_of_one}
 
 pub equal_contents : (x y : Evaluated) → IsWhole x → IsWhole y → HaveSameContents x y → x ≡ y
 equal_contents x y one other same =

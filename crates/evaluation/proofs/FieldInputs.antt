@@ -1,5 +1,5 @@
 -- Field inputs that are read.
-use Rattle.std.proofs.Common.{◌≡◌, ◌≢◌, Bool, true, false, cond, IsTrue, nat_cmp, ℕ, ◌+◌, ◌*◌, ◌<◌, ◌⊎◌, ◌↔◌, inl, inr, List, [], ◌∷◌, length, map, slice_get, Some, arith, refl, sym, ap, ◌∙◌}
+use Rattle.std.proofs.Common.{◌≡◌, ◌≢◌, Bool, true, false, cond, IsTrue, nat_cmp, ℕ, ◌+◌, ◌*◌, ◌<◌, ◌⊎◌, ◌↔◌, inl, inr, List, length, slice_get, Some, arith, sym, ap, ◌∙◌}
 use Rattle.std.proofs.lemmas.Bool.{cases_eq, cases_lt}
 use Rattle.std.proofs.lemmas.Option.{slice_get_within, same_Some}
 use Rattle.words.specs.declared.address.Address.{Address}
@@ -11,10 +11,6 @@ use Rattle.evaluation.specs.InputTexts.{AreApart}
 use Rattle.std.specs.Ordering.{is_eq}
 use Rattle.std.specs.declared.cmp.Ordering.TheVariants.{Less, Equal, Greater}
 use Rattle.std.specs.Cmp.{nat_cmp_is}
-
-pub map_map : {X Y Z : Type 0} (f : Y → Z) (g : X → Y) (xs : List X) → map f (map g xs) ≡ map (λ x. f (g x)) xs
-map_map f g [] = refl
-map_map f g (x ∷ xs) = let rest : map f (map g xs) ≡ map (λ x. f (g x)) xs = map_map f g xs in ap (λ l. f (g x) ∷ l) rest
 
 -- inputs of one key stand at one address, and the other way round
 pub same_key : (a b : FieldInput) → key_of a ≡ key_of b → address_of a ≡ address_of b

@@ -10,6 +10,7 @@ use Rattle.scan_steps.specs.Slots.{variable_at}
 use Rattle.power_flow.specs.Scan.{AllAreWide, ScanMeaning}
 use Rattle.std.specs.Option.{option_and_then}
 use Rattle.lists.proofs.Places.{element_at, same_by_slice_get, somes_same}
+use Rattle.evaluation.specs.Steps.Facts.{same_as_itself, states_of_one}
 use Rattle.power_flow.specs.LadderValue.{LadderValue}
 use Rattle.task_codes.specs.declared.binding.Binding.{Binding}
 use Rattle.task_codes.specs.declared.task_output.TaskOutput.{TaskOutput}
@@ -20,7 +21,6 @@ use Rattle.evaluation.specs.Meaning.{Evaluated, IsUnbound, AreFilled, IsFilled, 
 use Rattle.evaluation.specs.Laws.{OneMeaning, OneEvaluation}
 use Rattle.evaluation.specs.States.{AreStatesOf, AreSame}
 use Rattle.evaluation.proofs.MappedLists.{found_not_none}
-use Rattle.evaluation.proofs.InitialStates.{same_as_itself, states_of_one}
 
 -- a place is bound by some binding, or by none
 bound_or_not : (bindings : List Binding) (place : ℕ) → ((j : ℕ) × (b : Binding) × (slice_get bindings j ≡ Some b) × (b.place ≡ place)) ⊎ IsUnbound bindings place

@@ -4,8 +4,6 @@ use Rattle.std.specs.Option.{option_and_then}
 use Rattle.std.proofs.lemmas.Option.{slice_get_within, same_Some}
 use Rattle.lists.proofs.Places.{element_at, slice_get-set_same, slice_get-set_other}
 use Rattle.std_blocks.specs.declared.value.Value.{Value}
-use Rattle.declared_names.specs.declared.declarations.Kind.{Kind}
-use Rattle.declared_names.specs.declared.declarations.Kind.TheVariants as kind
 use Rattle.declared_names.specs.declared.declarations.Declared.{Declared}
 use Rattle.declared_names.specs.declared.declarations.Declared.TheVariants.{Input, Output, Local, Instance}
 use Rattle.declared_names.specs.Kinds.{kind_of, value_first}
@@ -16,7 +14,7 @@ use Rattle.declared_names.specs.declared.declarations.Declaration.{Declaration}
 use Rattle.power_flow.specs.StateValue.{StateValue, with_variable}
 use Rattle.power_flow.specs.LadderValue.{LadderValue, Fits}
 use Rattle.task_codes.specs.declared.retained_variable.RetainedVariable.{RetainedVariable}
-use Rattle.task_codes.specs.CodeValue.{ProgramValue, CodeValue, IsRetainedOf, IsSoundCode, local_kind, retained_kinds}
+use Rattle.task_codes.specs.CodeValue.{ProgramValue, CodeValue, IsRetainedOf, IsSoundCode, local_kind}
 use Rattle.evaluation.specs.States.{AreStatesOf}
 use Rattle.evaluation.specs.Retained.{Suits, initial_retained, retained_value, retained_values, with_value}
 use Rattle.evaluation.specs.Steps.Warming.{HasPlace}
@@ -65,19 +63,6 @@ kinds_by_each f (v ∷ vs) h =
 -- what states have in the retained variables suits the code
 pub values_suit : (c : CodeValue) (states : List StateValue) → IsSoundCode c → AreStatesOf c states → Suits c (retained_values c states)
 values_suit c states sound fits = kinds_by_each (retained_value states) c.retained (λ k v at. one_kind c states v fits (sound.each_retained k v at))
-
-first_kind : (k : Kind) → kind_of (value_first k) ≡ k
-first_kind kind.Bool = refl
-first_kind kind.Int = refl
-first_kind kind.Time = refl
-
--- and so do the first values
-pub initial_suits : (c : CodeValue) → Suits c (initial_retained c)
-initial_suits c = of (retained_kinds c)
-  where
-    of : (ks : List Kind) → map kind_of (map value_first ks) ≡ ks
-    of [] = refl
-    of (k ∷ ks) = let first : kind_of (value_first k) ≡ k = first_kind k in let rest : map kind_of (map value_first ks) ≡ ks = of ks in cc
 
 -- a value of a retained variable's kind has its place
 pub has_place : (c : CodeValue) (states : List StateValue) (v : RetainedVariable) (x : Value) → AreStatesOf c states → IsRetainedOf c v → kind_of x ≡ v.kind → HasPlace states v x

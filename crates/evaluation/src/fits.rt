@@ -5,7 +5,8 @@ ghost use Rattle.evaluation.specs.States.{AreStatesOf};
 
 use crate::take::Take;
 use crate::task_state::TaskState;
-use power_flow::{Kind, Snapshot};
+use declared_names::Kind;
+use power_flow::Snapshot;
 use task_codes::{TaskCode, TaskRef};
 
 /// Whether a state is one of a task's code: one state for each program, with its variables and their kinds, its blocks, its memories, and the places that a scan works in.

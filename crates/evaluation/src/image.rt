@@ -1,4 +1,4 @@
-use power_flow::{Kind, first_value, kind_of};
+use declared_names::{Kind, first_value, kind_of};
 use std::alloc::{AllocError, Global};
 use std::marker::Model;
 use std_blocks::Value;

@@ -1,6 +1,5 @@
 use crate::field_input::FieldInput;
-use declared_names::kind_of_space;
-use power_flow::first_value;
+use declared_names::{first_value, kind_of_space};
 use std::alloc::{AllocError, Global};
 use std::marker::Model;
 use std::sync::Arc;

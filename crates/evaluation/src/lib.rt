@@ -31,5 +31,5 @@ pub use message::{Message, taken_alike};
 pub use name::Name;
 pub use read_inputs::push_words;
 pub use retained::Retained;
-pub use take::Take;
+pub use take::{Take, are_same_takes};
 pub use task_state::TaskState;

@@ -1,5 +1,6 @@
 use crate::task_state::TaskState;
-use power_flow::{Snapshot, first_value, kind_of};
+use declared_names::{first_value, kind_of};
+use power_flow::Snapshot;
 use std::alloc::{AllocError, Global};
 use std::marker::Model;
 use std_blocks::Value;

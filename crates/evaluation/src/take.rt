@@ -48,7 +48,7 @@ fn are_same_pairs(pair: Option<(u32, u32)>, other: Option<(u32, u32)>) -> bool
 }
 
 /// Whether both lists have the same takes in the same order.
-pub(crate) fn are_same_takes(takes: &[Take], others: &[Take]) -> bool
+pub fn are_same_takes(takes: &[Take], others: &[Take]) -> bool
     ensures { IsTrue result ↔ (takes.now ≡ others.now) }
 {
     if takes.len() != others.len() {

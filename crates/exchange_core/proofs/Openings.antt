@@ -1,24 +1,14 @@
 -- What the tasks of a resource begin with.
-use Rattle.std.proofs.Common.{◌≡◌, ◌≤◌, ◌+◌, ◌⊎◌, ◌++◌, arith, ℕ, List, [], ◌∷◌, Option, Some, None, inl, inr, length, refl, ap, sym, ◌∙◌, subst, take}
+use Rattle.std.proofs.Common.{◌≡◌, ◌≤◌, ◌+◌, ◌⊎◌, ◌++◌, arith, ℕ, List, [], ◌∷◌, Some, inl, inr, length, refl, ap, sym, ◌∙◌, subst, take}
 use Rattle.std.specs.Prelude.{slice_get, map}
-use Rattle.std.specs.Option.{option_map}
 use Rattle.std.proofs.lemmas.List.{map-append, take_more, take_all}
 use Rattle.std.proofs.lemmas.Option.{none-some, same_Some, slice_get_within, get_or_from_slice_get}
 use Rattle.lists.proofs.Places.{push_cases}
 use Rattle.std_blocks.specs.declared.value.Value.{Value}
-use Rattle.lists.specs.Items.{items_or_none}
-use Rattle.plant.specs.PlantValue.{ResourceValue, PlantValue, codes_at, tasks_at, IsSoundPlant}
+use Rattle.plant.specs.PlantValue.{PlantValue, codes_at}
 use Rattle.task_codes.specs.CodeValue.{CodeValue}
 use Rattle.evaluation.specs.Retained.{Suits, initial_retained}
 use Rattle.exchange_core.specs.Openings.{AreOpeningOf, initial_opening}
-
--- each task has its code, also where there is no such resource
-pub codes-many : (plant : PlantValue) (resource : ℕ) → IsSoundPlant plant → length (codes_at plant resource) ≡ length (tasks_at plant resource)
-codes-many plant resource sound = by (slice_get plant.resources resource) refl where
-  by : (o : Option ResourceValue) → slice_get plant.resources resource ≡ o
-      → length (items_or_none (option_map (λ (r : ResourceValue). r.codes) o)) ≡ length (items_or_none (option_map (λ (r : ResourceValue). r.tasks) o))
-  by None e = refl
-  by (Some r) e = sound.coded r resource e
 
 -- the first tasks of a resource begin with their first values
 pub record IsOpened (plant : PlantValue) (resource n : ℕ) (opening : List (List Value)) : Type 0 where

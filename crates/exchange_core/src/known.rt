@@ -1,8 +1,9 @@
 use crate::last::Last;
 use evaluation::{Frame, Message, Name, Retained, TaskState};
-use plant::{Plant, TaskCode, TaskRef};
+use plant::Plant;
 use std::alloc::{AllocError, Global};
 use std::marker::Model;
+use task_codes::{TaskCode, TaskRef};
 
 /// What is known of each task of a plant, by resource and task.
 #[derive(Drop)]

@@ -7,10 +7,11 @@ use crate::restart_fault::RestartFault;
 use crate::takes::takes_of;
 use crate::usable::expects;
 use evaluation::{Evaluation, Frame, Inputs, Message, Name, Retained};
-use plant::{Plant, TaskCode, TaskRef};
+use plant::Plant;
 use std::alloc::{AllocError, Global};
 use std::marker::Model;
 use std::sync::Arc;
+use task_codes::{TaskCode, TaskRef};
 
 /// One resource of a plant: what it holds of other tasks, as a whole or as a message alone, and what its own made last.
 #[derive(Drop)]

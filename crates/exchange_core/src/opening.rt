@@ -2,8 +2,9 @@ ghost use Rattle.std.specs.Prelude.{◌≡◌, ◌↔◌, IsTrue, IfOk};
 ghost use Rattle.exchange_core.specs.Openings.{AreOpeningOf, initial_opening};
 
 use evaluation::Retained;
-use plant::{Plant, TaskRef};
+use plant::Plant;
 use std::alloc::{AllocError, Global};
+use task_codes::TaskRef;
 
 /// What each task of a resource begins with where nothing was kept: FALSE, 0 and T#0ms for all retained variables.
 pub fn initial_opening(

@@ -4,10 +4,11 @@ use crate::eval_fault::EvalFault;
 use crate::message_core::MessageCore;
 use crate::restart_fault::RestartFault;
 use evaluation::{Frame, Inputs, Retained, taken_alike};
-use plant::{Plant, TaskRef};
+use plant::Plant;
 use std::alloc::{AllocError, Global};
 use std::marker::Model;
 use std::sync::Arc;
+use task_codes::TaskRef;
 
 /// One resource of a plant: what it holds of other tasks, and what its own made last.
 #[derive(Drop)]

@@ -4,10 +4,10 @@ ghost use Rattle.evaluation.specs.Messages.{take_from, taken_of};
 ghost use Rattle.exchange_core.specs.HeldMessages.{message_known};
 
 use crate::known::Known;
+use declared_names::Kind;
 use evaluation::{Image, Take};
-use plant::{TaskCode, TaskRef};
-use power_flow::Kind;
 use std::alloc::{AllocError, Global};
+use task_codes::{TaskCode, TaskRef};
 
 /// The take from a producer: of what is known of it, else of nothing, with the initial image.
 fn take_from(

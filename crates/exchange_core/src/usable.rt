@@ -4,7 +4,8 @@ ghost use Rattle.exchange_core.specs.Openings.{Expects};
 ghost use Rattle.exchange_core.specs.Steps.KnowingMessages.{ExpectsOf};
 
 use evaluation::Image;
-use plant::{Plant, TaskCode, TaskRef};
+use plant::Plant;
+use task_codes::{TaskCode, TaskRef};
 
 /// Whether a code takes from a task, and expects an image of these kinds of it.
 fn expects_of(code: &TaskCode, task: TaskRef, image: &Image) -> bool

@@ -2,17 +2,26 @@ ghost use Rattle.std.specs.Prelude.{◌≡◌, ◌++◌, OnOk, IfOk, string_byte
 ghost use Rattle.guidance.specs.Topics.{told_of, of_plant};
 ghost use Rattle.guidance.specs.Helping.{TellsTopic, TellsOf, topic_of};
 
-use crate::drawing_names::names_of_a_drawing;
 use crate::excerpt::{Place, excerpt, line_of, whole_of};
 use crate::mentions::mentions_of;
 use crate::nearest::{beginning, nearest_names};
 use crate::refusal::Refusal;
 use crate::topic::Topic;
 use crate::unknown_word::{declared_for_a_body, unknown_in_a_drawing, unknown_in_a_plant};
+use ladder_text::{Drawing, ReadText};
+use name_faults::Guess;
+use network::Graph;
 use plant::PlantFault;
 use power_flow::{Declarations, Declared, Kind};
 use std::alloc::{AllocError, Global};
 use words::is_plain_name;
+
+/// The names that a drawing declares by their use. `None`: its names aren't reached, or there was no memory left.
+fn names_of_a_drawing(alloc: Global, text: &str) -> Option<Declarations> {
+    let drawing = Drawing::read(alloc, text, 1).ok()?;
+    let graph = Graph::build(alloc, &drawing).ok()?;
+    Declarations::guess(alloc, &graph).ok()
+}
 
 /// Writes what is wrong and how it is mended, with a line feed behind it.
 fn push_sentence(help: &mut String, topic: Topic) -> Result<(), AllocError>

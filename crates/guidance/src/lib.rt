@@ -2,7 +2,6 @@
 #![tactic(auto)]
 
 mod advice;
-mod drawing_names;
 mod excerpt;
 mod explanation;
 mod help;

@@ -1,7 +1,7 @@
 use ladder_text::DrawFault;
+use name_faults::BindFault;
 use network::GraphFault;
 use plant::PlantFault;
-use power_flow::BindFault;
 
 /// Why a text was refused.
 #[derive(Clone, Copy)]

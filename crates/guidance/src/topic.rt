@@ -5,9 +5,9 @@ ghost use Rattle.guidance.specs.Topics.{of_drawing, of_networks, of_names, of_bo
 use crate::advice::{Advice, Layer};
 use crate::table;
 use ladder_text::DrawFaultKind;
+use name_faults::BindKind;
 use network::GraphFaultKind;
 use plant::{BodyFault, PlantFault, PlantFaultKind};
-use power_flow::BindKind;
 
 /// A kind of fault of a text, by the layer that refuses it.
 #[derive(Clone, Copy)]

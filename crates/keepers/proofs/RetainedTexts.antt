@@ -4,6 +4,7 @@ use Rattle.std.specs.List.{AllByRecursion, flat_map, zip}
 use Rattle.std.specs.Fmt.{digits, decimal, signed_decimal}
 use Rattle.std.proofs.lemmas.Fmt.{decimal_by_steps, decimal_injective, signed_decimal_injective, length-decimal-le, length_signed_le}
 use Rattle.std.proofs.lemmas.List.{length-append, length-map, length-take, append_cancel_left, append_cancel_right}
+use Rattle.lists.proofs.Each.{each-append}
 use Rattle.std_blocks.specs.declared.value.Value.{Value}
 use Rattle.std_blocks.specs.declared.value.Value.TheVariants.{Bool as BoolValue, Int as IntValue, Time as TimeValue}
 use Rattle.declared_names.specs.declared.declarations.Kind.{Kind}
@@ -20,10 +21,6 @@ use Rattle.keepers.specs.Steps.Reading.{longest, longest_of, IsLonger}
 abbrev pub HasNoFeed : List ℕ → Type 0
 HasNoFeed text = AllByRecursion (λ c. c ≢ 10) text
 
-no_feed_append : (xs ys : List ℕ) → HasNoFeed xs → HasNoFeed ys → HasNoFeed (xs ++ ys)
-no_feed_append [] ys h k = k
-no_feed_append (x ∷ xs) ys h k = (h.0, no_feed_append xs ys h.1 k)
-
 no_feed_decimal : (n : ℕ) → n < 2 ^ 64 → HasNoFeed (decimal n)
 no_feed_decimal n small = decimal_by_steps (λ m ds. HasNoFeed ds) one more n small
   where
@@ -31,7 +28,7 @@ no_feed_decimal n small = decimal_by_steps (λ m ds. HasNoFeed ds) one more n sm
     one m lt = ((λ e. omega (arith, e)), tt)
 
     more : (m : ℕ) (ds : List ℕ) → 10 ≤ m → HasNoFeed ds → HasNoFeed (ds ++ ((48 + m % 10) ∷ []))
-    more m ds le h = no_feed_append ds ((48 + m % 10) ∷ []) h ((λ e. omega (arith, e)), tt)
+    more m ds le h = each-append (λ (c : ℕ). c ≢ 10) ds ((48 + m % 10) ∷ []) h ((λ e. omega (arith, e)), tt)
 
 -- no value's text has one
 pub no_feed_value : (x : Value) → IsInRange x → HasNoFeed (value_text x)
@@ -41,7 +38,7 @@ no_feed_value (IntValue (pos n)) r = no_feed_decimal n (let s = r.sfits in omega
 no_feed_value (IntValue (negsuc n)) r = ((λ e. omega (arith, e)), no_feed_decimal (suc n) (let s = r.sfits in omega (arith, s)))
 no_feed_value (TimeValue t) r = (
   (λ e. omega (arith, e)),
-  ((λ e. omega (arith, e)), no_feed_append (decimal t) (109 ∷ 115 ∷ []) (no_feed_decimal t (omega (arith, r))) ((λ e. omega (arith, e)), ((λ e. omega (arith, e)), tt))),
+  ((λ e. omega (arith, e)), each-append (λ (c : ℕ). c ≢ 10) (decimal t) (109 ∷ 115 ∷ []) (no_feed_decimal t (omega (arith, r))) ((λ e. omega (arith, e)), ((λ e. omega (arith, e)), tt))),
 )
 
 -- where two texts are the same, so are what stands before their first line feeds and what stands behind

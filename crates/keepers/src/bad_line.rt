@@ -1,5 +1,5 @@
 use crate::retained_text::before_value;
-use power_flow::Kind;
+use declared_names::Kind;
 use std::alloc::{AllocError, Global};
 use task_codes::TaskCode;
 

@@ -7,7 +7,7 @@ ghost use Rattle.evaluation.specs.Retained.{Suits};
 ghost use Rattle.keepers.specs.KeptRetained.{program_name, variable_name, before_value, line_text, retained_text};
 ghost use Rattle.keepers.specs.Steps.Reading.{line_end, longest, longest_of, IsValueOf, IsLonger, IsLineRead, IsReadFault};
 
-use power_flow::Kind;
+use declared_names::Kind;
 use std::alloc::{AllocError, Global};
 use std_blocks::Value;
 use task_codes::{RetainedVariable, TaskCode};

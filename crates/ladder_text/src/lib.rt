@@ -22,12 +22,6 @@ mod symbols;
 
 pub use draw_fault::{DrawFault, DrawFaultKind};
 pub use drawings::{
-    Coil, CoilKind, Contact, ContactKind, Drawing, DrawnBox, DrawnPin, Mark, Operand, Pins, Place,
-    Side,
+    Coil, CoilKind, Contact, ContactKind, Drawing, DrawnBox, DrawnPin, Mark, Operand, Pins, Side,
 };
 pub use read_drawing::ReadText;
-pub use std_blocks::BlockType;
-pub use words::{
-    Text, block_type, duration_up_to, is_duration, is_identifier, is_number, is_plain_name,
-    number_up_to,
-};

@@ -1,5 +1,6 @@
 pub mod Each
 pub mod Longest
+pub mod Mapped
 pub mod Members
 pub mod Orders
 pub mod Pairs

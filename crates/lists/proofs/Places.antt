@@ -1,7 +1,7 @@
 -- What stands at which place of a list.
-use Rattle.std.proofs.Common.{◌≡◌, ℕ, zero, suc, ◌+◌, ◌<◌, ◌⊎◌, inl, inr, List, [], ◌∷◌, ◌++◌, Option, Some, None, is_some, false, length, map, set, slice_get, refl, sym, ap, ◌∙◌, arith}
+use Rattle.std.proofs.Common.{◌≡◌, ℕ, zero, suc, ◌+◌, ◌<◌, ◌⊎◌, inl, inr, List, [], ◌∷◌, ◌++◌, Option, Some, None, is_some, false, length, map, set, slice_get, slice_index, refl, sym, ap, ◌∙◌, arith}
 use Rattle.std.proofs.lemmas.Bool.{cases_lt}
-use Rattle.std.proofs.lemmas.Option.{same_Some, slice_get_past}
+use Rattle.std.proofs.lemmas.Option.{none-some, same_Some, slice_get_past}
 
 -- something stands at each place below the length
 pub element_at : {X : Type 0} (xs : List X) (k : ℕ) → k < length xs → (x : X) × (slice_get xs k ≡ Some x)
@@ -66,6 +66,12 @@ pub push_here : {X : Type 0} (xs : List X) (x : X) → slice_get (xs ++ x ∷ []
 push_here [] x = refl
 push_here (y ∷ xs) x = push_here xs x
 
+-- what stood in a list stands there when one more item does
+pub push_old : {X : Type 0} (xs : List X) (x : X) (k : ℕ) (s : X) → slice_get xs k ≡ Some s → slice_get (xs ++ x ∷ []) k ≡ Some s
+push_old [] x k s h = absurd (none-some s h)
+push_old (y ∷ xs) x zero s h = h
+push_old (y ∷ xs) x (suc k) s h = push_old xs x k s h
+
 pub push_cases : {X : Type 0} (xs : List X) (x : X) (k : ℕ) (s : X) → slice_get (xs ++ x ∷ []) k ≡ Some s → (slice_get xs k ≡ Some s) ⊎ ((k ≡ length xs) × (s ≡ x))
 push_cases [] x zero s h = inr (refl, cc)
 push_cases [] x (suc k) s h = absurd (cc)
@@ -86,3 +92,15 @@ slice_get-append (x ∷ xs) ys (suc k) = elim (slice_get-append xs ys k) [
   | inl w ↦ inl (omega (arith, w.0), w.1)
   | inr w ↦ inr (w.0, omega (arith, w.1), w.2)
 ]
+
+-- where nothing stands nothing is set
+pub set_none : {X : Type 0} (xs : List X) (k : ℕ) (x : X) → slice_get xs k ≡ None → set xs k x ≡ xs
+set_none [] k x none = refl
+set_none (a ∷ xs) zero x none = absurd (none-some a (sym none))
+set_none (a ∷ xs) (suc k) x none = ap (λ l. a ∷ l) (set_none xs k x none)
+
+-- a number of a list of numbers, read as one of those that are 0 past the end
+pub index_at : (xs : List ℕ) (n i : ℕ) → slice_get xs n ≡ Some i → slice_index xs n ≡ i
+index_at [] n i e = absurd (none-some i e)
+index_at (x ∷ xs) zero i e = same_Some x i e
+index_at (x ∷ xs) (suc n) i e = index_at xs n i e

@@ -2,7 +2,6 @@ mod KeptLines
 mod LinesRead
 mod LineTaking
 mod NextAnswered
-mod Opened
 mod Standing
 mod Stopping
 mod Telling

@@ -8,7 +8,7 @@ use Rattle.text_lines.specs.declared.lines.Given.{Given}
 use Rattle.text_lines.specs.declared.lines.Given.TheVariants as gave
 use Rattle.live_node.specs.declared.live_lines.TakenLine.{TakenLine}
 use Rattle.live_node.specs.declared.live_lines.TakenLine.TheVariants.{Line, TooLong, End}
-use Rattle.live_node.specs.Steps.LineTaking.{BeginsLine, TakesToEnd, TakesLine, Takes, TakesRest, TakesWithin, IsTaken, HasPut}
+use Rattle.live_node.specs.Steps.LineTaking.{TakesToEnd, TakesLine, Takes, TakesRest, TakesWithin, IsTaken, HasPut}
 
 -- no line feed is among the bytes of two texts
 pub plain_both : (a b : List ℕ) → HasNoFeed a → HasNoFeed b → HasNoFeed (a ++ b)
@@ -82,11 +82,11 @@ pub takes_last : (given left : Option (List ℕ)) (line : List ℕ) → Gives gi
 takes_last given left line h = (omega (arith, h.1), (h.0, λ _. h.2, (h.3, h.4)))
 
 -- the line goes on behind its first piece
-pub begins_more : (given mid left : Option (List ℕ)) (begun : List ℕ) → HasNoFeed begun → Consumes given mid begun → BeginsLine mid left → BeginsLine given left
+pub begins_more : (given mid left : Option (List ℕ)) (begun : List ℕ) → HasNoFeed begun → Consumes given mid begun → TakesSome mid left → TakesSome given left
 begins_more given mid left begun plain a b = (begun ++ b.0, plain_both begun b.0 plain b.1, Consumes-trans given mid left begun b.0 a b.2)
 
 -- nothing of it was taken yet
-pub begins_none : (given : Option (List ℕ)) → BeginsLine given given
+pub begins_none : (given : Option (List ℕ)) → TakesSome given given
 begins_none given = ([], λ j d lt. absurd (omega (arith, lt)), Consumes-nil given)
 
 -- no more than one line was taken: some of it

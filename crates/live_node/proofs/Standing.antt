@@ -1,16 +1,16 @@
 -- What stands after whole lines of a source.
-use Rattle.std.proofs.Common.{inl, inr, ℕ, ◌++◌, true, false, List, [], ◌∷◌, Option, None, Some, refl, sym, subst, ◌∙◌, arith, append_assoc, append-nil}
+use Rattle.std.proofs.Common.{inl, inr, ℕ, ◌++◌, true, false, List, [], ◌∷◌, Option, Some, refl, sym, subst, arith, append_assoc, append-nil}
 use Rattle.std.specs.Prelude.{reverse}
 use Rattle.std.specs.List.{AllByRecursion}
-use Rattle.std.specs.Io.KnownBytes.{Appends, Consumes, Keeps}
+use Rattle.std.specs.Io.KnownBytes.{Appends, Consumes}
 use Rattle.std.proofs.KnownBytes.{Appends-nil, Appends-trans, Consumes-nil, Consumes-trans}
 use Rattle.std.proofs.lemmas.List.{reverse-append}
+use Rattle.text_lines.proofs.Sending.{appends_kept}
 use Rattle.words.specs.Lines.{lines_of}
-use Rattle.text_lines.specs.Lines.{HasNoFeed}
+use Rattle.text_lines.specs.Lines.{HasNoFeed, TakesSome}
 use Rattle.world.proofs.LinesRead.{fed, fed_more, whole_more, lines_with_last, lines_fed}
 use Rattle.live_node.specs.declared.node_line.NodeLine.TheVariants.{Idle}
 use Rattle.live_node.specs.NodeValue.{NodeValue}
-use Rattle.live_node.specs.Steps.LineTaking.{BeginsLine}
 use Rattle.live_node.specs.NodeAnswers.{Raising}
 use Rattle.live_node.specs.LiveNode.{AnswersLine, HaveAnswered, WritesNode, HasAnsweredSoFar}
 use Rattle.live_node.specs.Steps.Answering.{AnswersTaken, HasAnsweredNext}
@@ -73,7 +73,7 @@ lines_answered raising first last (line ∷ lines) notes text whole h =
     subst (λ ls. HaveAnswered raising first (reverse ls) last notes text) (sym (lines_fed line lines whole)) h
 
 -- the beginning of a further line was read
-pub stands_within : (raising : Raising) (first last : NodeValue) (begun : List ℕ) (lines : List (List ℕ)) (given now left noted_old noted_new from to : Option (List ℕ)) → Stands raising first last begun lines given now noted_old noted_new from to → BeginsLine now left
+pub stands_within : (raising : Raising) (first last : NodeValue) (begun : List ℕ) (lines : List (List ℕ)) (given now left noted_old noted_new from to : Option (List ℕ)) → Stands raising first last begun lines given now noted_old noted_new from to → TakesSome now left
     → HasAnsweredSoFar raising first begun given left from to
 stands_within raising first last begun lines given now left noted_old noted_new from to s b = record {
   lines = lines_of (fed lines);
@@ -88,12 +88,6 @@ stands_within raising first last begun lines given now left noted_old noted_new 
   answered = lines_answered raising first last lines s.notes s.text s.whole s.answered;
   written = s.written;
 }
-
-pub appends_kept : (from now next : Option (List ℕ)) (text : List ℕ) → Appends from now text → Keeps now next → Appends from next text
-appends_kept None now next text a k = tt
-appends_kept (Some x) None next text a k = absurd a
-appends_kept (Some x) (Some y) None text a k = absurd k
-appends_kept (Some x) (Some y) (Some z) text a k = k ∙ a
 
 -- nothing more was there, or a last line without a line feed
 pub stands_ended : (raising : Raising) (first mid last : NodeValue) (begun : List ℕ) (lines : List (List ℕ)) (given now left noted_old noted_mid noted_new from mid_to to : Option (List ℕ)) → Stands raising first mid begun lines given now noted_old noted_mid from mid_to

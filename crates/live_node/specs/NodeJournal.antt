@@ -19,7 +19,7 @@ abbrev pub line_note : List ℕ → List ℕ
 line_note line = node_text line ++ note_end
 
 -- ` PROGRAM.VARIABLE=value`, behind a blank: a retained variable and its value
-abbrev pub kept_text : CodeValue → RetainedVariable × Value → List ℕ
+abbrev pub kept_text : (code : CodeValue) → RetainedVariable × Value → List ℕ
 kept_text code e = codes " " ++ before_value code e.0 ++ value_text e.1
 
 -- those of a task, in order

@@ -20,7 +20,7 @@ abbrev pub node_words : List ℕ → List (List ℕ)
 node_words line = words_of (node_text line)
 
 -- three words: HELLO in either case, a resource, and an incarnation
-abbrev pub SpellsHello : PlantValue → ℕ → ℕ → List (List ℕ) → Type 0
+abbrev pub SpellsHello : (plant : PlantValue) (of incarnation : ℕ) → List (List ℕ) → Type 0
 SpellsHello plant of incarnation [] = ⊥
 SpellsHello plant of incarnation (keyword ∷ []) = ⊥
 SpellsHello plant of incarnation (keyword ∷ first ∷ []) = ⊥

@@ -2,11 +2,11 @@
 
 ghost use Rattle.std.specs.Prelude.{◌≡◌, ℕ, ◌+◌, ◌<◌, ◌≤◌, IfOk, IfErr, OnOk, List, Option, string_bytes};
 ghost use Rattle.std.specs.Io.KnownBytes.{Appends};
+ghost use Rattle.text_lines.specs.Lines.{TakesSome};
 ghost use Rattle.text_lines.specs.Sending.{SendsPart};
 ghost use Rattle.live_node.specs.LiveNode.{HasAnsweredSoFar, WritesNode};
 ghost use Rattle.live_node.specs.Stops.{StopsWithin, StopsNode};
 ghost use Rattle.live_node.specs.Steps.Answering.{HasAnsweredNext, IsUnwritten};
-ghost use Rattle.live_node.specs.Steps.LineTaking.{BeginsLine};
 
 use crate::answers::push_refused;
 use crate::line_refusal::LineRefusal;
@@ -50,7 +50,7 @@ fn do_next<K: Keeper, N: Notes, L: LineSource, W: Write>(
 ) -> Result<bool, LiveStop>
     requires few { node.old.state.lines < 18446744073709551615 }
     requires kept { K.last node.old.keeper ≡ node.old.state.core.incarnation }
-    requires ready { (left : Option (List ℕ)) → BeginsLine (L.left source.old) left → L.is_ready left (W.contents out.old) }
+    requires ready { (left : Option (List ℕ)) → TakesSome (L.left source.old) left → L.is_ready left (W.contents out.old) }
     ensures answered { IfOk result (HasAnsweredNext K.raise_gives node.old.state node.new.state
         (L.left source.old) (L.left source.new) (N.noted node.old.notes) (N.noted node.new.notes)
         (W.contents out.old) (W.contents out.new)) }

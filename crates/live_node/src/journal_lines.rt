@@ -11,11 +11,11 @@ ghost use Rattle.live_node.specs.NodeJournal.{kept_text, task_kept_text, all_kep
 
 use evaluation::Retained;
 use keepers::before_value;
-use plant::{Plant, TaskCode, TaskRef};
+use plant::Plant;
 use std::alloc::{AllocError, Global};
 use std::fmt::Write;
 use std_blocks::Value;
-use task_codes::RetainedVariable;
+use task_codes::{RetainedVariable, TaskCode, TaskRef};
 use text_lines::{push_resource, push_value};
 use world::without_last;
 

@@ -1,7 +1,8 @@
 //! The lines that a node reads. A longer one than it may have is read to its end.
 
 ghost use Rattle.std.specs.Prelude.{◌≡◌, ℕ, ◌≤◌, IfOk, OnErr, List, Option, length};
-ghost use Rattle.live_node.specs.Steps.LineTaking.{BeginsLine, IsTaken, Takes, TakesRest, TakesWithin, HasPut};
+ghost use Rattle.text_lines.specs.Lines.{TakesSome};
+ghost use Rattle.live_node.specs.Steps.LineTaking.{IsTaken, Takes, TakesRest, TakesWithin, HasPut};
 
 use std::io::Write;
 use text_lines::{Given, ReadFault};
@@ -52,7 +53,7 @@ fn take_rest<L: LineSource, W: Write>(
     out: &W,
 ) -> Result<TakenLine, ReadFault>
     requires few { length line.old.items ≤ 16777216 }
-    requires ready { (left : Option (List ℕ)) → BeginsLine (L.left source.old) left → L.is_ready left (W.contents out.now) }
+    requires ready { (left : Option (List ℕ)) → TakesSome (L.left source.old) left → L.is_ready left (W.contents out.now) }
     ensures ok { IfOk result (TakesRest (L.left source.old) (L.left source.new) line.old.items line.new.items) }
     ensures fault { OnErr result (TakesWithin (L.left source.old) (L.left source.new)) }
 {
@@ -78,7 +79,7 @@ pub(crate) fn take_line<L: LineSource, W: Write>(
     piece: &mut Vec<u8>,
     out: &W,
 ) -> Result<TakenLine, ReadFault>
-    requires ready { (left : Option (List ℕ)) → BeginsLine (L.left source.old) left → L.is_ready left (W.contents out.now) }
+    requires ready { (left : Option (List ℕ)) → TakesSome (L.left source.old) left → L.is_ready left (W.contents out.now) }
     ensures ok { IfOk result (Takes (L.left source.old) (L.left source.new) line.new.items) }
     ensures fault { OnErr result (TakesWithin (L.left source.old) (L.left source.new)) }
 {

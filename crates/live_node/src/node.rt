@@ -29,9 +29,10 @@ use crate::sends::{push_greetings, push_hello_to, push_message_sends};
 use evaluation::{Evaluation, Inputs, Message, Retained};
 use exchange_core::Accepted;
 use keepers::{Keeper, KeeperFault};
-use plant::{Plant, TaskRef};
+use plant::Plant;
 use std::alloc::Global;
 use std::sync::Arc;
+use task_codes::TaskRef;
 use world::push_evaluation;
 
 /// One resource on a machine of its own. It notes each line before it does it, and keeps what it is to keep before it answers.

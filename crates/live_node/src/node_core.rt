@@ -1,10 +1,11 @@
 use crate::line_refusal::LineRefusal;
 use evaluation::{Frame, Inputs, Message, Retained};
 use exchange_core::{Accepted, EvalFault, MessageCore};
-use plant::{Plant, TaskRef};
+use plant::Plant;
 use std::alloc::{AllocError, Global};
 use std::marker::Model;
 use std::sync::Arc;
+use task_codes::TaskRef;
 
 /// What stands of a node beside its keeper and its notes: its core, how many lines it has done since it started, and how
 /// many evaluations it made of them.

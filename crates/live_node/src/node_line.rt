@@ -1,5 +1,5 @@
 use evaluation::{Inputs, Message};
-use plant::TaskRef;
+use task_codes::TaskRef;
 
 /// What a line asks of a node.
 #[derive(Drop)]

@@ -5,7 +5,8 @@ ghost use Rattle.std.specs.List.{list_any};
 ghost use Rattle.evaluation.specs.Last.{same_task};
 ghost use Rattle.live_node.specs.Partners.{is_of, takes_from_task, takes_from_resource, is_partner, some_producer};
 
-use plant::{Plant, TaskRef};
+use plant::Plant;
+use task_codes::TaskRef;
 
 fn has_task(producers: &[TaskRef], task: TaskRef) -> bool
     ensures { result ≡ list_any (λ p. same_task p task) producers.now }

@@ -2,13 +2,14 @@
 use Rattle.std.proofs.Common.{◌≡◌, ℕ, ◌+◌, ◌<◌, zero, suc, List, [], ◌∷◌, Bool, true, false, ◌&&◌, not, eqb, ltb, Option, Some, None, All, Contains, get_or, take, slice_get, refl, sym, ap, ◌∙◌, subst, arith, if◌then◌else◌, ◌==◌, ◌-◌}
 use Rattle.std.specs.Prelude.{Any, nat_lt}
 use Rattle.std.specs.List.{flat_map, list_any, before_first}
-use Rattle.std.proofs.lemmas.Bool.{false≢true}
+use Rattle.std.proofs.lemmas.Bool.{false≢true, and_parts}
 use Rattle.std.proofs.lemmas.Bool.Decides.{Decides-eqb, Decides-ltb}
 use Rattle.std.proofs.lemmas.Option.{slice_get-get_or, slice_get_within, get_or_from_slice_get}
 use Rattle.std.proofs.lemmas.List.Elements.{All-append, All-weaker, All-nil, All-cons, All-contains, Contains-append_left, Contains-append_right}
 use Rattle.std.proofs.lemmas.List.Folds.{Any-from_list_any, list_any-from_Any}
 use Rattle.lists.proofs.Places.{some_same}
 use Rattle.lists.proofs.Members.{contains_at, at_contains, cons_first, any_at, any_found}
+use Rattle.lists.proofs.Mapped.{in_flat}
 use Rattle.std_blocks.specs.declared.value.Value.{Value}
 use Rattle.std_blocks.specs.declared.pin.Field.{Field}
 use Rattle.std_blocks.specs.declared.pin.Field.TheVariants.{Bit, Int, Time}
@@ -74,27 +75,17 @@ all_three P x y z f g h = All-cons P x (y ∷ z ∷ []) f (All-cons P y (z ∷ [
 all_one : {X : Type 0} (P : X → Type 0) (x : X) → P x → All P (x ∷ [])
 all_one P x f = All-cons P x [] f (All-nil P)
 
--- an element of a list of lists
-in_flat : {X Y : Type 0} (F : X → List Y) (xs : List X) (i : ℕ) (x : X) (y : Y) → slice_get xs i ≡ Some x → Contains (F x) y → Contains (flat_map F xs) y
-in_flat F [] i x y at h = absurd (nothing_found at)
-in_flat F (z ∷ xs) zero x y at h = Contains-append_left (F z) (flat_map F xs) y (subst (λ w. Contains (F w) y) (sym (some_same at)) h)
-in_flat F (z ∷ xs) (suc i) x y at h = Contains-append_right (F z) (flat_map F xs) y (in_flat F xs i x y at h)
-
 each_flat : {X Y : Type 0} (F : X → List Y) (Q : Y → Type 0) (xs : List X) → ((i : ℕ) (x : X) → slice_get xs i ≡ Some x → All Q (F x)) → All Q (flat_map F xs)
 each_flat F Q [] h = All-nil Q
 each_flat F Q (x ∷ xs) h = All-append Q (F x) (flat_map F xs) (h 0 x refl) (each_flat F Q xs (λ i y at. h (suc i) y at))
 
-both_true : (a b : Bool) → (a && b) ≡ true → (a ≡ true) × (b ≡ true)
-both_true true b e = (refl, e)
-both_true false b e = absurd (false≢true e)
-
 -- one number is right below another
 near : (r row c left n : ℕ) → (r == row && nat_lt c left && (left - c == n)) ≡ true → (r ≡ row) × (c + n ≡ left)
-near r row c left n e = go (both_true (eqb r row && ltb c left) (eqb (left - c) n) e)
+near r row c left n e = go (and_parts (eqb r row && ltb c left) (eqb (left - c) n) e)
   where
     go : ((eqb r row && ltb c left) ≡ true) × (eqb (left - c) n ≡ true) → (r ≡ row) × (c + n ≡ left)
     go (a, b) =
-        let h = both_true (eqb r row) (ltb c left) a in
+        let h = and_parts (eqb r row) (ltb c left) a in
         let lt = (Decides-ltb c left).0 h.1 in
         let is = (Decides-eqb (left - c) n).0 b in
         ((Decides-eqb r row).0 h.0, omega arith)
@@ -419,7 +410,7 @@ module _ (ds : List Declaration) (es : List Element) where
         go true e =
             let test : DrawnPin → Bool = λ q. same_side side q.side && is_bit (own_field b q) in
             let found = any_found (λ (q : DrawnPin). test q ≡ true) b.pins (Any-from_list_any test b.pins e) in
-            let parts = both_true (same_side side found.1.side) (is_bit (own_field b found.1)) found.3 in
+            let parts = and_parts (same_side side found.1.side) (is_bit (own_field b found.1)) found.3 in
             let is = bit (own_field b found.1) parts.1 in
             absurd (never found.1 is.0 (found.0, slice_get_within b.pins found.0 found.1 found.2, get_or_from_slice_get b.pins found.0 found.1 found.1 found.2) (sides side found.1.side parts.0) is.1)
 

@@ -13,10 +13,6 @@ mod name_use;
 mod names;
 
 pub use bind_fault::{BindFault, BindKind};
-pub use declared_names::{
-    Declaration, Declarations, DeclareFault, Declared, Kind, first_value, kind_of,
-    names_of_one_place_are_one,
-};
 pub use guess::Guess;
 pub use literal::literal_value;
 pub use names::parts;

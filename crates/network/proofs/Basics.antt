@@ -15,11 +15,6 @@ one_at xs j k a b e f h = some_is a b (sym f ∙ ap (slice_get xs) e ∙ h)
 pub get_map : {A B : Type 0} (f : A → B) (xs : List A) (k : ℕ) (x : A) → slice_get xs k ≡ Some x → slice_get (map f xs) k ≡ Some (f x)
 get_map f xs k x at = slice_get-map f xs k ∙ ap (option_map f) at
 
-pub map_get : {A B : Type 0} (f : A → B) (xs : List A) (k : ℕ) (b : B) → slice_get (map f xs) k ≡ Some b → (x : A) × (slice_get xs k ≡ Some x) × (f x ≡ b)
-map_get f [] k b h = absurd (cc)
-map_get f (x ∷ xs) zero b h = (x, refl, some_is (f x) b h)
-map_get f (x ∷ xs) (suc k) b h = map_get f xs k b h
-
 -- what a clause by cases says of the case at hand
 pub match_some : {A : Type 0} (P : Type 0) (Q : A → Type 0) (o : Option A) (x : A) → o ≡ Some x → MatchOption o P Q → Q x
 match_some P Q None x e h = absurd (cc)

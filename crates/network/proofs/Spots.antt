@@ -9,12 +9,6 @@ use Rattle.network.specs.declared.places.numbering.Spot.{Spot}
 use Rattle.network.specs.Steps.Numbers.{AreNumbers, IsIndex, IsSpot, KeepsNumbers, number_at}
 use Rattle.network.proofs.Basics.{one_at}
 
--- one more at the end of a list
-pub push_old : {A : Type 0} (xs : List A) (x : A) (k : ℕ) (s : A) → slice_get xs k ≡ Some s → slice_get (xs ++ x ∷ []) k ≡ Some s
-push_old [] x k s h = absurd (cc)
-push_old (y ∷ xs) x zero s h = h
-push_old (y ∷ xs) x (suc k) s h = push_old xs x k s h
-
 -- what is written at a place that has no number doesn't matter
 pub AreNumbers-beside : (spots : List Spot) (old new : List (List ℕ)) (p : Place) → AreNumbers spots old → ((k : ℕ) → IsSpot spots k p → ⊥) → KeepsNumbers p old new → AreNumbers spots new
 AreNumbers-beside spots old new p are never stays = record {

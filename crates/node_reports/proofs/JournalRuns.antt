@@ -10,6 +10,7 @@ use Rattle.plant.specs.PlantValue.{PlantValue}
 use Rattle.evaluation.specs.Meaning.{Evaluated}
 use Rattle.evaluation.specs.Last.{same_task}
 use Rattle.std.specs.List.{AllByRecursion, filter}
+use Rattle.node_reports.specs.Steps.Appended.{made-append}
 use Rattle.book.specs.Fits.{last_in}
 use Rattle.node_reports.specs.declared.step.Step.{Step}
 use Rattle.node_reports.specs.declared.step.Step.TheVariants.{Took, Made, Restarted, Heard}
@@ -81,13 +82,6 @@ made_after plant firsts max_number resource first opening x older (Made z ∷ st
 made_after plant firsts max_number resource first opening x older (Made z ∷ steps) (y ∷ newer) lawful is =
     let rest : made steps ≡ newer ++ x ∷ older = cc in
     made_after plant firsts max_number resource first opening x older steps newer lawful.1 rest
-
-made-append : (a b : List Step) → made (a ++ b) ≡ made a ++ made b
-made-append [] b = refl
-made-append (Took x ∷ a) b = made-append a b
-made-append (Heard of heard ∷ a) b = made-append a b
-made-append (Made x ∷ a) b = ap (λ xs. x ∷ xs) (made-append a b)
-made-append (Restarted ticket incarnation ∷ a) b = made-append a b
 
 pub made-reverse : (steps : List Step) → made (reverse steps) ≡ reverse (made steps)
 made-reverse [] = refl

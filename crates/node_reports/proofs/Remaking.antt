@@ -13,6 +13,7 @@ use Rattle.world.specs.Run.{IsRun, last_of}
 use Rattle.std.specs.List.{AllByRecursion, filter}
 use Rattle.std.specs.Prelude.{slice_index_or}
 use Rattle.std.specs.Option.{option_map}
+use Rattle.lists.proofs.Each.{each-append}
 use Rattle.book.specs.Fits.{Fits, AllFit, last_in}
 use Rattle.book.specs.Book.{BookValue}
 use Rattle.world.specs.Replays.{CouldBeMade, AllCouldBeMade}
@@ -24,10 +25,6 @@ use Rattle.node_reports.proofs.JournalRuns.{IsMadeAfter, made_after, last_made_i
 -- incarnations, its own and those that were heard, are numbers of 32 bits
 abbrev pub HasIncarnation : Evaluated → Type 0
 HasIncarnation x = (x.name.incarnation ≤ 4294967295) × ((m : ℕ) → slice_index x.heard m ≤ 4294967295)
-
-each-append : {X : Type 0} (P : X → Type 0) (xs ys : List X) → AllByRecursion P xs → AllByRecursion P ys → AllByRecursion P (xs ++ ys)
-each-append P [] ys a b = b
-each-append P (x ∷ xs) ys a b = (a.0, each-append P xs ys a.1 b)
 
 pub each-reverse : {X : Type 0} (P : X → Type 0) (xs : List X) → All P xs → AllByRecursion P (reverse xs)
 each-reverse P [] all = tt

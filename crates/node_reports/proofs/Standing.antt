@@ -1,19 +1,22 @@
 -- A core goes on standing where its resource's steps leave it.
-use Rattle.std.proofs.Common.{◌≡◌, ◌+◌, ◌<◌, ◌≤◌, ◌&&◌, zero, suc, max, map, eqb, ltb, ℕ, Bool, true, false, cond, List, [], ◌∷◌, length, Option, Some, None, refl, ap, sym, ◌∙◌, subst, arith, add-one}
+use Rattle.std.proofs.Common.{◌≡◌, ◌+◌, ◌<◌, ◌≤◌, ◌&&◌, zero, suc, max, eqb, ltb, ℕ, Bool, true, false, cond, List, [], ◌∷◌, length, Option, Some, None, refl, ap, sym, ◌∙◌, subst, arith, add-one}
 use Rattle.std.specs.Prelude.{not, slice_get, slice_set, slice_index, ◌≢◌, filter}
-use Rattle.std.specs.List.{enumerate_from, cons_option}
+use Rattle.std.specs.List.{cons_option}
 use Rattle.std.proofs.lemmas.List.{set-get_or}
 use Rattle.lists.proofs.Places.{element_at, same_by_slice_get, slice_get-set_same, slice_get-set_other}
 use Rattle.std.proofs.lemmas.Bool.{false≢true, eq-eqb, eqb-true, eqb-false, ltb-true, ltb-false}
 use Rattle.std.proofs.lemmas.List.Elements.{All-nil}
 use Rattle.std.proofs.lemmas.Option.{none-some, same_Some, slice_get_within}
 use Rattle.std.specs.Option.{option_map}
-use Rattle.lists.proofs.Tables.{both_same, both_itself, cell_same, cell_other, cell_filled, cell_place, row_lengths_kept, row_lengths_filled}
+use Rattle.lists.proofs.Tables.{both_same, both_itself, cell_same, cell_other, cell_place, row_lengths_kept}
 use Rattle.std_blocks.specs.declared.value.Value.{Value}
 use Rattle.declared_names.specs.declared.declarations.Kind.{Kind}
 use Rattle.power_flow.specs.StateValue.{StateValue}
 use Rattle.task_codes.specs.declared.task_ref.TaskRef.{TaskRef}
 use Rattle.lists.specs.Items.{items_or_none}
+use Rattle.lists.proofs.Mapped.{enumerated_at}
+use Rattle.evaluation.specs.Steps.Facts.{state-left}
+use Rattle.exchange_core.specs.Steps.Fresh.{fresh_known, fresh_shape}
 use Rattle.plant.specs.PlantValue.{ResourceValue, PlantValue, code_at, codes_at, IsSoundPlant}
 use Rattle.task_codes.specs.CodeValue.{CodeValue, expected_at, image_kinds}
 use Rattle.evaluation.specs.declared.field_input.FieldInput.{FieldInput}
@@ -212,11 +215,6 @@ same_asked : {a a2 : ℕ} {b b2 : Name} {l l2 : List ℕ} {c c2 : ℕ} {d d2 : L
     → a2 ≡ a → b2 ≡ b → l2 ≡ l → c2 ≡ c → d2 ≡ d → e2 ≡ e → evaluated a b l c d takes e code outputs after ≡ evaluated a2 b2 l2 c2 d2 takes e2 code outputs after
 same_asked f g l h i j = rw (f, g, l, h, i, j) refl
 
--- the state of a task, by what a restart would leave of it
-state-left : (code : CodeValue) (kept left : List Value) (o : Option Evaluated) → left_by kept o ≡ left → state_from code kept o ≡ state_from code left o
-state-left code kept left None e = ap (λ v. state_from code v None) e
-state-left code kept left (Some x) e = refl
-
 -- one more evaluation made
 module _ (resource first : ℕ) (opening : List (List Value)) (before : List Step) (core new : CoreValue) (ticket task dt : ℕ) (inputs : List FieldInput) (x : Evaluated) (stands : Stands resource first opening before core) (done : IsNext core new ticket task dt inputs x) where
   abbrev own_ref : TaskRef
@@ -338,21 +336,9 @@ module _ (resource first : ℕ) (opening : List (List Value)) (before : List Ste
     asked = asked_so;
   }
 
-abbrev codes_long : ResourceValue → ℕ
-codes_long r = length r.codes
-
-abbrev none_known : Option Evaluated
-none_known = None
-
--- what is heard, place by place
-mapped : (f : ℕ × ℕ → ℕ) (xs : List ℕ) (k m : ℕ) → slice_get (map f (enumerate_from k xs)) m ≡ option_map (λ x. f (k + m, x)) (slice_get xs m)
-mapped f [] k m = refl
-mapped f (x ∷ xs) k zero = ap (λ j. Some (f (j, x))) (omega arith)
-mapped f (x ∷ xs) k (suc m) = mapped f xs (k + 1) m ∙ ap (λ j. option_map (λ x. f (j, x)) (slice_get xs m)) (omega arith)
-
 heard-get : (firsts : List ℕ) (n i : ℕ) (told : ℕ → List ℕ) (m : ℕ) → slice_get (heard_numbers firsts n i told) m ≡ option_map (λ x. cond (eqb m n) i (greatest x (told m))) (slice_get firsts m)
 heard-get firsts n i told m =
-    mapped (λ e. cond (eqb e.0 n) i (greatest e.1 (told e.0))) firsts 0 m
+    enumerated_at (λ e. cond (eqb e.0 n) i (greatest e.1 (told e.0))) firsts 0 m
     ∙ (let from : 0 + m ≡ m = omega arith in ap (λ j. option_map (λ x. cond (eqb j n) i (greatest x (told j))) (slice_get firsts m)) from)
 
 option-same : (f g : ℕ → ℕ) (o : Option ℕ) → ((x : ℕ) → f x ≡ g x) → option_map f o ≡ option_map g o
@@ -375,27 +361,23 @@ heard-begins firsts n i = same_by_slice_get (heard_numbers firsts n i (λ m. [])
       sym (subst (λ k. slice_get (slice_set firsts n i) k ≡ Some i) (sym (eqb-true m n e)) (slice_get-set_same firsts n i (subst (λ k. k < length firsts) (eqb-true m n e) (slice_get_within firsts m x f))))
   by m false e (Some x) f = sym f ∙ sym (slice_get-set_other firsts n m i (eqb-false m n e))
 
--- a core that holds nothing stands where nothing was done yet, and where the last step is a restart
-nothing_known : (plant : PlantValue) (p : TaskRef) → known (empty_for plant) p ≡ None
-nothing_known plant p = cell_filled codes_long none_known plant.resources p.resource p.task
-
 none_received : (plant : PlantValue) (resource incarnation : ℕ) (p : TaskRef) (kinds : List Kind) → IsGreatest (ComesTo resource incarnation p kinds) [] (known (empty_for plant) p)
 none_received plant resource incarnation p kinds =
-    subst (IsGreatest (ComesTo resource incarnation p kinds) []) (sym (nothing_known plant p)) (All-nil (λ y. ComesTo resource incarnation p kinds y → ⊥))
+    subst (IsGreatest (ComesTo resource incarnation p kinds) []) (sym (fresh_known plant p)) (All-nil (λ y. ComesTo resource incarnation p kinds y → ⊥))
 
 pub stands-fresh : (plant : PlantValue) (resource : ℕ) (firsts : List ℕ) (incarnation : ℕ) (opening : List (List Value)) (max_number : ℕ) → IsSoundPlant plant → length firsts ≡ length plant.resources
     → AreOpeningOf plant resource opening → Stands resource incarnation opening [] (fresh_core plant resource firsts incarnation opening max_number)
 stands-fresh plant resource firsts incarnation opening max_number sound many opened = record {
   sound = sound;
-  shaped = row_lengths_filled codes_long none_known plant.resources;
+  shaped = fresh_shape plant;
   resource_is = refl;
   incarnation_is = refl;
   firsts = many;
   heard_is = sym (heard-begins firsts resource incarnation);
-  own = λ p here. nothing_known plant p;
+  own = λ p here. fresh_known plant p;
   counted = λ p here. refl;
   long = opened.many;
-  left = λ p here lt. ap (left_by (opening_at opening p)) (nothing_known plant p);
+  left = λ p here lt. ap (left_by (opening_at opening p)) (fresh_known plant p);
   others = λ t code k p here found at away. none_received plant resource incarnation p (expected_at code k);
 }
 
@@ -403,18 +385,18 @@ pub stands-restarted : (resource first : ℕ) (opening : List (List Value)) (bef
     → Stands resource first opening (Restarted ticket incarnation ∷ before) new
 stands-restarted resource first opening before core new ticket incarnation stands after = subst (Stands resource first opening (Restarted ticket incarnation ∷ before)) (sym after.is) (record {
   sound = stands.sound;
-  shaped = row_lengths_filled codes_long none_known core.plant.resources;
+  shaped = fresh_shape core.plant;
   resource_is = stands.resource_is;
   incarnation_is = refl;
   firsts = stands.firsts;
   heard_is = ap (λ r. slice_set core.first r incarnation) stands.resource_is ∙ sym (heard-begins core.first resource incarnation);
-  own = λ p here. nothing_known core.plant p;
+  own = λ p here. fresh_known core.plant p;
   counted = λ p here. refl;
   long = after.long ∙ stands.long;
   left = λ p here lt.
       let within : p.task < length core.kept = omega (arith, after.long) in
       let it : own_task core p.task ≡ p = rw (stands.resource_is, ← here) refl in
-      ap (left_by (kept_at new p.task)) (nothing_known core.plant p)
+      ap (left_by (kept_at new p.task)) (fresh_known core.plant p)
       ∙ after.kept p.task within
       ∙ ap (λ r. left_by (kept_at core p.task) (known core.table r)) it
       ∙ stands.left p here within;

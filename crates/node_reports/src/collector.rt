@@ -26,10 +26,10 @@ use crate::plant_book::PlantBook;
 use crate::report::Report;
 use crate::run_fault::RunFault;
 pub use agreeing::agreed;
+use book::Book;
 use plant::Plant;
 use std::alloc::Global;
 use std::thread::Threads;
-use world::Book;
 
 /// The report of what the threads did, if the book and the journals agree, and answer the commands. Each journal is looked at in a thread of its own where one can be made.
 pub fn collect<R: Threads + Sync>(

@@ -2,22 +2,7 @@ ghost use Rattle.std.specs.Prelude.{◌≡◌, ◌↔◌, IsTrue};
 ghost use Rattle.evaluation.specs.Meaning.{IsMeant, IsWhole};
 ghost use Rattle.node_reports.specs.Steps.Comparing.{AreAskedAlike};
 
-use evaluation::{Evaluation, Frame, Take, one_evaluation};
-
-/// Whether both lists have the same takes in the same order.
-fn are_same_takes(takes: &[Take], others: &[Take]) -> bool
-    ensures { IsTrue result ↔ (takes.now ≡ others.now) }
-{
-    if takes.len() != others.len() {
-        return false;
-    }
-    for i in 0..takes.len() {
-        if !takes[i].same(&others[i]) {
-            return false;
-        }
-    }
-    true
-}
+use evaluation::{Evaluation, Frame, are_same_takes, one_evaluation};
 
 /// Whether both have the same numbers in the same order.
 fn are_same_numbers(numbers: &[u32], others: &[u32]) -> bool

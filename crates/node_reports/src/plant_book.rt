@@ -1,5 +1,5 @@
 use crate::journals::Journals;
-use world::Book;
+use book::Book;
 
 /// A book, and the journals of a plant's resources that made its entries.
 #[derive(Drop)]

@@ -1,7 +1,7 @@
 use crate::journals::Journals;
 use crate::node_faults::NodeFaults;
 use crate::tickets::Tickets;
-use world::Book;
+use book::Book;
 
 /// What the threads of a plant did.
 #[derive(Drop)]

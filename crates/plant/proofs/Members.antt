@@ -1,5 +1,5 @@
 -- One item of a list of whose items something holds, and what is found among them.
-use Rattle.std.proofs.Common.{◌≡◌, ℕ, ◌<◌, ◌++◌, arith, zero, suc, Bool, true, false, IsTrue, List, [], ◌∷◌, Some, None, length, map, get_or, refl, sym, ◌∙◌, subst}
+use Rattle.std.proofs.Common.{◌≡◌, ℕ, ◌<◌, ◌++◌, arith, zero, suc, Bool, true, false, IsTrue, List, [], ◌∷◌, Some, None, length, get_or, refl, sym, ◌∙◌, subst}
 use Rattle.std.specs.Borrow.{Bor}
 use Rattle.std.specs.Prelude.{slice_get, All, Any}
 use Rattle.std.specs.List.{flat_map, find}
@@ -38,12 +38,6 @@ type_found types u known none =
     let found = first_found (λ (t : TypeValue). is_named u.program t.program.name) types at.0 at.1 at.2 at.3 in
     let some = found.1 in
     cc
-
--- an item of the image of a list
-pub mapped_item : {A V : Type 0} (f : A → V) (xs : List A) (k : ℕ) (v : V) → slice_get (map f xs) k ≡ Some v → (x : A) × (slice_get xs k ≡ Some x) × (f x ≡ v)
-mapped_item f [] k v at = cc
-mapped_item f (x ∷ xs) zero v at = (x, refl, some_same at)
-mapped_item f (x ∷ xs) (suc k) v at = mapped_item f xs k v at
 
 -- what is read at a place where something stands
 pub read_item : {A : Type 0} (xs : List A) (k : ℕ) (x y : A) → slice_get xs k ≡ Some x → y ≡ get_or xs k y → slice_get xs k ≡ Some y

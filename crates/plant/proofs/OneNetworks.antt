@@ -4,6 +4,7 @@ use Rattle.std.proofs.lemmas.Bool.{cases_lt}
 use Rattle.std.proofs.lemmas.Option.{slice_get_within}
 use Rattle.lists.proofs.Places.{some_same}
 use Rattle.lists.proofs.Members.{contains_at, at_contains}
+use Rattle.lists.specs.Rising.{IsRising, IsOneWay}
 use Rattle.drawings.specs.declared.place.Place.{Place}
 use Rattle.drawings.specs.Picture.{Picture}
 use Rattle.ladder_rows.specs.Rows.{rows_of}
@@ -17,7 +18,7 @@ use Rattle.power_flow.specs.LadderValue.{LadderValue, diagrams}
 use Rattle.power_flow.specs.Waiting.{HasJustRoom}
 use Rattle.plant.specs.Ladders.{OneLadder}
 use Rattle.plant.proofs.OneLadder.{IsSameDrawing, turned, element_kept, chain_kept, rail_kept, meets_kept, same_layout}
-use Rattle.plant.proofs.RisingLists.{AreRising, AreOneWay, AreWithin, rising_same}
+use Rattle.plant.proofs.RisingLists.{AreWithin, rising_same}
 
 top_kept : (g h : Picture) → IsSameDrawing g h → (e : Element) (row : ℕ) → IsTop g e row → IsTop h e row
 top_kept g h s e row t = record { meets = meets_kept g h s e row t.meets; topmost = λ r m. t.topmost r (meets_kept h g (turned g h s) e r m) }
@@ -47,7 +48,7 @@ rails_same g h s ps qs one other =
 abbrev IsAbove : Picture → List Element → List Element → Type 0
 IsAbove g es fs = (e f : Element) (r s : ℕ) → Contains es e → Contains fs f → IsTop g e r → IsTop g f s → r < s
 
-above_networks : (g : Picture) (graph : GraphValue) → AreNetworks g graph → AreRising (IsAbove g) graph.networks
+above_networks : (g : Picture) (graph : GraphValue) → AreNetworks g graph → IsRising (IsAbove g) graph.networks
 above_networks g graph built k l es fs lt at at' e f r s in' also top other =
     let i = at_contains es e in' in
     let j = at_contains fs f also in
@@ -57,7 +58,7 @@ above_kept : (g h : Picture) → IsSameDrawing g h → (es fs : List Element) �
 above_kept g h s es fs above e f r t in' also top other = above e f r t in' also (top_kept g h s e r top) (top_kept g h s f t other)
 
 -- of two networks one is above the other
-one_way : (g : Picture) (graph : GraphValue) → AreNetworks g graph → HasFaultlessNetworks g → AreOneWay (IsAbove g) graph.networks
+one_way : (g : Picture) (graph : GraphValue) → AreNetworks g graph → HasFaultlessNetworks g → IsOneWay (IsAbove g) graph.networks
 one_way g graph built free es fs in' also a b =
     let k = at_contains graph.networks es in' in
     let l = at_contains graph.networks fs also in
@@ -86,7 +87,7 @@ module _ (g h : Picture) (same : IsSameDrawing g h) (one other : GraphValue) (bu
       let list : fs ≡ there.2.0 = some_same (sym at' ∙ ap (slice_get other.networks) joined ∙ there.2.1) in
       subst (λ (xs : List Element). Contains xs f) (sym list) (contains_at there.2.0 there.1 f there.2.2)
 
-in_order : (g : Picture) (graph : GraphValue) → AreNetworks g graph → (k : ℕ) (es : List Element) → slice_get graph.networks k ≡ Some es → AreRising (λ (e f : Element). Precedes (first_place e) (first_place f)) es
+in_order : (g : Picture) (graph : GraphValue) → AreNetworks g graph → (k : ℕ) (es : List Element) → slice_get graph.networks k ≡ Some es → IsRising (λ (e f : Element). Precedes (first_place e) (first_place f)) es
 in_order g graph built k es at i j e f lt at_e at_f = built.elements k i j e f lt (es, at, at_e) (es, at, at_f)
 
 -- a network of the one is one of the other

@@ -1,14 +1,7 @@
 -- Lists in one order with the same items are equal.
-use Rattle.std.proofs.Common.{◌≡◌, ℕ, suc, ◌<◌, inl, inr, List, [], ◌∷◌, Some, Contains, slice_get, refl, sym, subst, ◌∙◌, arith}
+use Rattle.std.proofs.Common.{◌≡◌, suc, inl, inr, List, [], ◌∷◌, Contains, refl, sym, subst, ◌∙◌, arith}
 use Rattle.lists.proofs.Members.{at_contains, cons_first, cons_later, cons_cases}
-
--- of two items the one that comes first stands so to the other
-abbrev pub AreRising : {X : Type 0} → (X → X → Type 0) → List X → Type 0
-AreRising {X} R xs = (i j : ℕ) (x y : X) → i < j → slice_get xs i ≡ Some x → slice_get xs j ≡ Some y → R x y
-
--- no two items stand so to each other
-abbrev pub AreOneWay : {X : Type 0} → (X → X → Type 0) → List X → Type 0
-AreOneWay {X} R xs = (x y : X) → Contains xs x → Contains xs y → R x y → R y x → ⊥
+use Rattle.lists.specs.Rising.{IsRising, IsOneWay}
 
 -- what the one list has, the other has
 abbrev pub AreWithin : {X : Type 0} → List X → List X → Type 0
@@ -17,17 +10,17 @@ AreWithin {X} xs ys = (x : X) → Contains xs x → Contains ys x
 none_here : {X : Type 0} (x : X) → Contains [] x → ⊥
 none_here x there = omega (arith, there.1)
 
-rising_rest : {X : Type 0} (R : X → X → Type 0) (x : X) (xs : List X) → AreRising R (x ∷ xs) → AreRising R xs
+rising_rest : {X : Type 0} (R : X → X → Type 0) (x : X) (xs : List X) → IsRising R (x ∷ xs) → IsRising R xs
 rising_rest R x xs rising = λ i j a b lt at at'. rising (suc i) (suc j) a b (omega arith) at at'
 
-one_way_rest : {X : Type 0} (R : X → X → Type 0) (x : X) (xs : List X) → AreOneWay R (x ∷ xs) → AreOneWay R xs
+one_way_rest : {X : Type 0} (R : X → X → Type 0) (x : X) (xs : List X) → IsOneWay R (x ∷ xs) → IsOneWay R xs
 one_way_rest R x xs one = λ a b in' also. one a b (cons_later x xs a in') (cons_later x xs b also)
 
 -- the first stands so to each of the others
-after_first : {X : Type 0} (R : X → X → Type 0) (x : X) (xs : List X) → AreRising R (x ∷ xs) → (y : X) → Contains xs y → R x y
+after_first : {X : Type 0} (R : X → X → Type 0) (x : X) (xs : List X) → IsRising R (x ∷ xs) → (y : X) → Contains xs y → R x y
 after_first R x xs rising y there = let at = at_contains xs y there in rising 0 (suc at.0) x y (omega arith) refl at.1
 
-rest_within : {X : Type 0} (R : X → X → Type 0) (x y : X) (xs ys : List X) → x ≡ y → AreRising R (x ∷ xs) → AreOneWay R (x ∷ xs) → AreWithin (x ∷ xs) (y ∷ ys) → AreWithin xs ys
+rest_within : {X : Type 0} (R : X → X → Type 0) (x y : X) (xs ys : List X) → x ≡ y → IsRising R (x ∷ xs) → IsOneWay R (x ∷ xs) → AreWithin (x ∷ xs) (y ∷ ys) → AreWithin xs ys
 rest_within R x y xs ys same rising one within z there = elim (cons_cases y ys z (within z (cons_later x xs z there))) [
   | inl e ↦
       let itself : R z z = subst (λ w. R w z) (same ∙ e) (after_first R x xs rising z there) in
@@ -35,12 +28,12 @@ rest_within R x y xs ys same rising one within z there = elim (cons_cases y ys z
   | inr later ↦ later
 ]
 
-pub rising_same : {X : Type 0} (R : X → X → Type 0) (xs ys : List X) → AreRising R xs → AreRising R ys → AreOneWay R xs → AreWithin xs ys → AreWithin ys xs → xs ≡ ys
+pub rising_same : {X : Type 0} (R : X → X → Type 0) (xs ys : List X) → IsRising R xs → IsRising R ys → IsOneWay R xs → AreWithin xs ys → AreWithin ys xs → xs ≡ ys
 rising_same R [] [] rising rising' one within within' = refl
 rising_same R [] (y ∷ ys) rising rising' one within within' = absurd (none_here y (within' y (cons_first y ys)))
 rising_same R (x ∷ xs) [] rising rising' one within within' = absurd (none_here x (within x (cons_first x xs)))
 rising_same R (x ∷ xs) (y ∷ ys) rising rising' one within within' =
-    let back : AreOneWay R (y ∷ ys) = λ a b in' also. one a b (within' a in') (within' b also) in
+    let back : IsOneWay R (y ∷ ys) = λ a b in' also. one a b (within' a in') (within' b also) in
     let same : x ≡ y = elim (cons_cases y ys x (within x (cons_first x xs))) [
       | inl e ↦ sym e
       | inr later ↦ elim (cons_cases x xs y (within' y (cons_first y ys))) [

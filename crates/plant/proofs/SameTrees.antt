@@ -1,11 +1,12 @@
 -- Trees that say the same are both without a fault.
-use Rattle.std.proofs.Common.{◌≡◌, ℕ, IsTrue, List, [], ◌∷◌, ◌++◌, Some, map, take, drop, refl, sym, ap, ◌∙◌, subst}
+use Rattle.std.proofs.Common.{◌≡◌, ℕ, IsTrue, List, Some, map, take, drop, refl, sym, ap, ◌∙◌, subst}
 use Rattle.std.specs.Prelude.{slice_get, All, Any}
 use Rattle.std.specs.List.{flat_map}
 use Rattle.std.specs.Option.{option_map}
 use Rattle.std.proofs.lemmas.Option.{slice_get-map}
-use Rattle.std.proofs.lemmas.List.{map-append, take-append-drop}
+use Rattle.std.proofs.lemmas.List.{take-append-drop}
 use Rattle.lists.proofs.Members.{any_at, any_found, all_from_places, all_first}
+use Rattle.lists.proofs.Mapped.{mapped_at, mapped_flat}
 use Rattle.declared_names.specs.declared.declarations.Kind.{Kind}
 use Rattle.declared_names.specs.declared.declarations.Declared.TheVariants.{Output}
 use Rattle.declared_names.specs.declared.declarations.Declaration.{Declaration}
@@ -24,14 +25,13 @@ use Rattle.plant_grammar.specs.Parts.{ProgramParts, UseParts, ResourceParts, pro
 use Rattle.power_flow.specs.LadderValue.{LadderValue}
 use Rattle.plant.specs.Ladders.{IsLadderOf, HasLadder}
 use Rattle.plant.specs.Faultless.{DeclaresOutput, RunsType, GivesOutput, HasSource, IsFed, AreBindsFed}
-use Rattle.plant.proofs.Members.{mapped_item}
 use Rattle.plant.proofs.Zips.{all_at}
 
 -- lists whose items say the same, place by place
 pub partner : {A V : Type 0} (f : A → V) (xs ys : List A) → map f xs ≡ map f ys → (k : ℕ) (x : A) → slice_get xs k ≡ Some x → (y : A) × (slice_get ys k ≡ Some y) × (f x ≡ f y)
 partner {A} {V} f xs ys e k x at =
     let there : slice_get (map f ys) k ≡ Some (f x) = ap (λ (vs : List V). slice_get vs k) (sym e) ∙ slice_get-map f xs k ∙ ap (option_map f) at in
-    let y = mapped_item f ys k (f x) there in
+    let y = mapped_at f ys k (f x) there in
     (y.0, y.1, sym y.2)
 
 any_same : {A V : Type 0} (f : A → V) (P Q : A → Type 0) (xs ys : List A) → map f xs ≡ map f ys → ((x y : A) → f x ≡ f y → P x → Q y) → Any P xs → Any Q ys
@@ -45,16 +45,8 @@ all_same f P Q xs ys e go all = all_from_places Q ys (λ k y at.
     let x = partner f ys xs (sym e) k y at in
     go x.0 y (sym x.2) (all_at P xs all k x.0 x.1))
 
-uses_same : (rs qs : List Resource) → map resource_parts rs ≡ map resource_parts qs → map use_parts (flat_map uses_of rs) ≡ map use_parts (flat_map uses_of qs)
-uses_same [] [] e = refl
-uses_same [] (q ∷ qs) e = absurd cc
-uses_same (r ∷ rs) [] e = absurd cc
-uses_same (r ∷ rs) (q ∷ qs) e =
-    let first : resource_parts r ≡ resource_parts q = cc in
-    let rest : map resource_parts rs ≡ map resource_parts qs = cc in
-    let here : map use_parts (uses_of r) ≡ map use_parts (uses_of q) = ap (λ (x : ResourceParts). x.uses) first in
-    map-append use_parts (uses_of r) (flat_map uses_of rs) ∙ ap (λ (us : List UseParts). us ++ map use_parts (flat_map uses_of rs)) here
-    ∙ ap (λ (us : List UseParts). map use_parts (uses_of q) ++ us) (uses_same rs qs rest) ∙ sym (map-append use_parts (uses_of q) (flat_map uses_of qs))
+uses_are : (rs : List Resource) → map use_parts (flat_map uses_of rs) ≡ flat_map (λ (r : ResourceParts). r.uses) (map resource_parts rs)
+uses_are = mapped_flat resource_parts uses_of use_parts (λ (r : ResourceParts). r.uses) (λ r. refl)
 
 -- sources of trees that say the same
 module _ (t u : Tree) (same : IsSameTree t u) where
@@ -95,7 +87,7 @@ module _ (t u : Tree) (same : IsSameTree t u) where
       (λ p q e' each. subst (λ (bs : List Bind). All (IsFed u q) bs) binds (λ k d lt. fed_same p q e' _ (each k d lt))) a b e is
 
   pub sources_same : All (AreBindsFed t) (all_uses t) → All (AreBindsFed u) (all_uses u)
-  sources_same all = all_same use_parts (AreBindsFed t) (AreBindsFed u) (all_uses t) (all_uses u) (uses_same t.resources u.resources same.resources) binds_same all
+  sources_same all = all_same use_parts (AreBindsFed t) (AreBindsFed u) (all_uses t) (all_uses u) (uses_are t.resources ∙ ap (flat_map (λ (r : ResourceParts). r.uses)) same.resources ∙ sym (uses_are u.resources)) binds_same all
 
 -- a ladder of a program is one of each that says the same
 pub ladder_kept : (p q : Program) → program_parts p ≡ program_parts q → (l : LadderValue) → IsLadderOf p l → IsLadderOf q l

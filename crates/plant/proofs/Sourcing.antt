@@ -10,6 +10,8 @@ use Rattle.std.proofs.lemmas.Option.{slice_get_within, slice_get-map, get_or_fro
 use Rattle.lists.proofs.Places.{some_same}
 use Rattle.lists.proofs.Members.{any_at, any_found, contains_at, at_contains}
 use Rattle.lists.proofs.Zips.{zip_at, zip_back}
+use Rattle.lists.proofs.Mapped.{mapped_at, in_flat}
+use Rattle.plant_grammar.specs.Steps.SameNames.{named_back, named_both}
 use Rattle.declared_names.specs.declared.declarations.Kind.{Kind}
 use Rattle.declared_names.specs.declared.declarations.Declared.{Declared}
 use Rattle.declared_names.specs.declared.declarations.Declared.TheVariants as declared
@@ -45,15 +47,8 @@ use Rattle.plant.proofs.ProgramOutputs.{outputs_placed}
 use Rattle.plant.proofs.LinkedPlants.{code_found, code_stands, uses_all}
 use Rattle.plant.proofs.Drafting.{found_place}
 use Rattle.plant.proofs.FirstMentions.{flat_all, all_flat}
-use Rattle.plant.proofs.Members.{first_found, mapped_item}
+use Rattle.plant.proofs.Members.{first_found}
 use Rattle.plant.proofs.Zips.{all_at}
-
--- names of one list
-named_both : (n a b : List ℕ) → IsTrue (is_named n a) → IsTrue (is_named n b) → IsTrue (is_named a b)
-named_both n a b one other = named_alike a b (sym (same_letters n a one) ∙ same_letters n b other)
-
-named_back : (a b : List ℕ) → IsTrue (is_named a b) → IsTrue (is_named b a)
-named_back a b e = named_alike b a (sym (same_letters a b e))
 
 named_through : (a b c : List ℕ) → IsTrue (is_named a b) → IsTrue (is_named b c) → IsTrue (is_named a c)
 named_through a b c one other = named_alike a c (same_letters a b one ∙ same_letters b c other)
@@ -143,11 +138,6 @@ in_front (z ∷ zs) ys x (suc k, lt, is) = let rest = in_front zs ys x (k, omega
 behind : {A : Type 0} (xs ys : List A) (x : A) → Contains ys x → Contains (xs ++ ys) x
 behind [] ys x has = has
 behind (z ∷ zs) ys x has = let rest = behind zs ys x has in (suc rest.0, omega (arith, rest.1), rest.2)
-
-in_flat : {A B : Type 0} (f : A → List B) (xs : List A) (k : ℕ) (x : A) (y : B) → slice_get xs k ≡ Some x → Contains (f x) y → Contains (flat_map f xs) y
-in_flat f [] k x y at has = cc
-in_flat {B = B} f (z ∷ zs) zero x y at has = in_front (f z) (flat_map f zs) y (subst (λ x. Contains (f x) y) (sym (some_same at)) has)
-in_flat f (z ∷ zs) (suc k) x y at has = behind (f z) (flat_map f zs) y (in_flat f zs k x y at has)
 
 enumerated : {A : Type 0} (n : ℕ) (xs : List A) (k m : ℕ) (x : A) → n + k ≡ m → slice_get xs k ≡ Some x → slice_get (enumerate_from n xs) k ≡ Some (m, x)
 enumerated n [] k m x e at = cc
@@ -445,7 +435,7 @@ module _ (programs : List Program) (name : List ℕ) (rs : List Resource) (ds : 
 any_map : {A B : Type 0} (f : A → B) (P : B → Type 0) (xs : List A) → Any P (map f xs) → Any (λ x. P (f x)) xs
 any_map {A} {B} f P xs any =
     let found = any_found P (map f xs) any in
-    let at = mapped_item f xs found.0 found.1 found.2 in
+    let at = mapped_at f xs found.0 found.1 found.2 in
     any_at (λ x. P (f x)) xs found.0 at.0 at.1 (subst P (sym at.2) found.3)
 
 -- the drafts of a lawful tree, by types with their ladders

@@ -4,8 +4,8 @@ ghost use Rattle.std.specs.Prelude.{◌≡◌, Some};
 
 use crate::plant_fault::{BodyFault, PlantFault, PlantFaultKind};
 use ladder_text::{DrawFault, DrawFaultKind};
+use name_faults::{BindFault, BindKind};
 use network::{GraphFault, GraphFaultKind};
-use power_flow::{BindFault, BindKind};
 
 /// The fault of a body on a line.
 fn body_fault(kind: PlantFaultKind, line: u64, inner: BodyFault) -> PlantFault

@@ -7,7 +7,8 @@ ghost use Rattle.plant.specs.ProgramTypes.{AreDrawn};
 
 use crate::plant_fault::PlantFault;
 use crate::program_type::ProgramType;
-use ladder_text::{Drawing, ReadText};
+use drawings::Drawing;
+use ladder_text::ReadText;
 use network::Graph;
 use plant_grammar::ProgramText;
 use power_flow::Ladder;

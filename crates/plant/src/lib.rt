@@ -22,7 +22,5 @@ pub use planning::plan;
 pub use plant::Plant;
 pub use plant_fault::{BodyFault, PlantFault, PlantFaultKind};
 pub use task::Task;
-pub use task_codes::{
-    Binding, Due, PlanFault, RetainedVariable, Source, TaskCode, TaskOutput, TaskRef, one_plan,
-};
+pub use task_codes::{Binding, Due, PlanFault, Source, TaskCode, TaskRef};
 pub use words::{Address, Space};

@@ -2,9 +2,9 @@ ghost use Rattle.std.specs.Prelude.{◌≡◌, None};
 ghost use Rattle.plant.specs.Faults.{kind_of_word};
 
 use ladder_text::DrawFaultKind;
+use name_faults::BindKind;
 use network::GraphFaultKind;
 use plant_grammar::{GrammarFault, GrammarFaultKind};
-use power_flow::BindKind;
 use std::alloc::{AllocError, AllocFailed};
 use std::fmt;
 use thiserror::Error;

@@ -4,6 +4,7 @@ use Rattle.std.specs.Prelude.{Any}
 use Rattle.std.specs.List.{list_any}
 use Rattle.std.proofs.lemmas.List.{append-nil, length-append, length-map}
 use Rattle.std.proofs.lemmas.List.Folds.{Any-from_list_any, list_any-from_Any, list_any-append}
+use Rattle.plant_grammar.specs.Steps.SameNames.{named_back}
 use Rattle.declared_names.specs.declared.declarations.Declaration.{Declaration}
 use Rattle.declared_names.specs.declared.declarations.Declared.{Declared}
 use Rattle.declared_names.specs.Names.{IsDeclared}
@@ -11,7 +12,7 @@ use Rattle.plant_grammar.specs.Names.{is_named}
 use Rattle.plant_grammar.specs.NameFaults.{IsNameTaken}
 use Rattle.plant_grammar.specs.Names.{AreNamesApart}
 use Rattle.plant_grammar.specs.Steps.ReadParts.{IsNew, AreVariables}
-use Rattle.plant_grammar.proofs.Apart.{apart_more, list_any-map, named_back, any_with}
+use Rattle.plant_grammar.proofs.Apart.{apart_more, list_any-map, any_with}
 use Rattle.plant_grammar.specs.Steps.Refusing.{MayBeDeclared}
 use Rattle.plant_grammar.proofs.NewNames.{may_be_declared}
 

@@ -1,7 +1,7 @@
 -- Names that are apart, and lists of lists.
 use Rattle.std.proofs.Common.{◌≡◌, ℕ, ◌-◌, ◌≤◌, ◌<◌, ◌++◌, ◌||◌, ◌↔◌, Bool, IsTrue, inl, inr, List, [], ◌∷◌, length, map, get_or, refl, sym, ap, ◌∙◌, subst, arith, zero, suc}
 use Rattle.std.proofs.Math.Seq.{get_or-append_right}
-use Rattle.std.proofs.lemmas.List.{get_or-map, get_or_append_left, length-append, length-map, map-append}
+use Rattle.std.proofs.lemmas.List.{get_or-map, get_or_append_left, length-append, length-map, map-append, get_or_default}
 use Rattle.std.proofs.lemmas.List.Folds.{Any-from_list_any, list_any-from_Any, list_any-append}
 use Rattle.std.proofs.lemmas.List.Concat.{flat_map-cons}
 use Rattle.std.proofs.lemmas.Bool.{cases_lt}
@@ -9,24 +9,13 @@ use Rattle.std.proofs.lemmas.Slice.Eq.{bytes_eq-Decides}
 use Rattle.std.specs.Prelude.{Any}
 use Rattle.std.specs.List.{flat_map, list_any}
 use Rattle.std.specs.Str.{str_to_ascii_lowercase}
+use Rattle.plant_grammar.specs.Steps.SameNames.{named_back}
 use Rattle.plant_grammar.specs.Names.{is_named, AreNamesApart}
 use Rattle.plant_grammar.specs.Steps.ReadParts.{IsNew}
-
--- one name is another either way round
-pub named_back : (a b : List ℕ) → IsTrue (is_named a b) → IsTrue (is_named b a)
-named_back a b same =
-    let x = str_to_ascii_lowercase a in
-    let y = str_to_ascii_lowercase b in
-    (bytes_eq-Decides y x).1 (sym ((bytes_eq-Decides x y).0 same))
 
 pub list_any-map : {A B : Type 0} (f : A → B) (p : B → Bool) (xs : List A) → list_any p (map f xs) ≡ list_any (λ x. p (f x)) xs
 list_any-map f p [] = refl
 list_any-map f p (x ∷ xs) = ap (λ b. p (f x) || b) (list_any-map f p xs)
-
-get_or-itself : {A : Type 0} (xs : List A) (i : ℕ) (e : A) → i < length xs → get_or xs i (get_or xs i e) ≡ get_or xs i e
-get_or-itself [] i e lt = absurd (omega arith)
-get_or-itself (x ∷ xs) zero e lt = refl
-get_or-itself (x ∷ xs) (suc i) e lt = get_or-itself xs i e (omega arith)
 
 apart_push : {A : Type 0} (f : A → List ℕ) (xs : List A) (y : A) → AreNamesApart (map f xs) → IsNew f xs (f y) → AreNamesApart (map f xs ++ f y ∷ [])
 apart_push f xs y apart new j k d within inside same =
@@ -51,7 +40,7 @@ apart_push f xs y apart new j k d within inside same =
         let last : l - length (map f xs) ≡ 0 = omega arith in
         let right : get_or (map f xs ++ f y ∷ []) l d ≡ f y = get_or-append_right (map f xs) (f y ∷ []) l d (omega arith) ∙ ap (λ m. get_or (f y ∷ []) m d) last in
         let left : get_or (map f xs ++ f y ∷ []) i d ≡ f (get_or xs i y) = get_or_append_left (map f xs) (f y ∷ []) d i (omega arith) ∙ get_or-map f xs i y d early in
-        (i, get_or xs i y, early, get_or-itself xs i y early, rw (left, right) at same')
+        (i, get_or xs i y, early, get_or_default xs i (get_or xs i y) y early, rw (left, right) at same')
 
 -- a new name keeps the names apart
 pub apart_more : {A : Type 0} (f : A → List ℕ) (xs ys : List A) (y : A) → ys ≡ xs ++ y ∷ [] → AreNamesApart (map f xs) → IsNew f xs (f y) → AreNamesApart (map f ys)

@@ -23,6 +23,8 @@ use Rattle.plant_grammar.specs.declared.grammar.tree.Item.TheVariants as item
 use Rattle.plant_grammar.specs.declared.grammar.tree.Resource.{Resource}
 use Rattle.plant_grammar.specs.Kinds.{IsOfInputKind}
 use Rattle.lists.specs.Items.{items_or_none}
+use Rattle.plant_grammar.proofs.MissingWords.{no_task}
+use Rattle.plant_grammar.specs.Steps.SameNames.{named_both}
 use Rattle.plant_grammar.specs.Grammar.{Tree, TextValue, key_word, mark_word, bind_words, with_commas, binds_words, binds_listed, task_words, use_words, item_words, items_words, resource_words, resources_words}
 use Rattle.plant_grammar.specs.Names.{is_named, AreNamesApart}
 use Rattle.plant_grammar.specs.Lawful.{variables, task_of, use_of, uses_of, binds_of, IsUseLawful, IsResourceLawful}
@@ -92,14 +94,6 @@ pub without_binds : (bs : Option (List Bind)) (now rest : List Token) → IsNotN
 without_binds None now rest none h = h
 without_binds (Some bs) now rest none h = absurd (none ((with_commas bs ++ mark_word Close ∷ []) ++ mark_word Semicolon ∷ rest) h)
 
--- names that are one name with a third are one name
-named_both : (n a b : List ℕ) → IsTrue (is_named n a) → IsTrue (is_named n b) → IsTrue (is_named a b)
-named_both n a b first second =
-    let x = str_to_ascii_lowercase n in
-    let y = str_to_ascii_lowercase a in
-    let z = str_to_ascii_lowercase b in
-    (bytes_eq-Decides y z).1 (sym ((bytes_eq-Decides x y).0 first) ∙ (bytes_eq-Decides x z).0 second)
-
 -- of types whose names are apart one alone has a name
 pub the_type : (types : List TextValue) (name : List ℕ) (t : TextValue) (Q : Program → Type 0) → AreTypesApart types → find (λ (t : TextValue). is_named name t.program.name) types ≡ Some t → Any (λ (p : Program). IsTrue (is_named name p.name) × Q p) (programs_of types) → Q t.program
 the_type types name t Q apart found some =
@@ -158,10 +152,6 @@ pub task_allowed : (tree : Tree) (before : List Item) (x : Item) (start rest : L
     → ((t : TaskLine) (after : List Token) → start ≡ task_words t ++ after → IsNew (λ (t : TaskLine). t.name) (flat_map task_of before) t.name → length (flat_map task_of before) < 16 → 0 < t.interval → ⊥) → ⊥
 task_allowed tree before (item.Task t) start rest h next may refuses = refuses t rest h may.0 may.1 may.2
 task_allowed tree before (item.Use u) start rest h next may refuses = let parts = sym next.1 ∙ h ∙ use_parts_of u rest in cc
-
-no_task : (t : TaskLine) (start rest : List Token) → IsNotNext (key_word key.Task) start → start ≡ task_words t ++ rest → ⊥
-unfolding task_words
-no_task t start rest none h = none _ h
 
 -- a line that is an instance is refused wrongly
 pub use_allowed : (tree : Tree) (before : List Item) (tally : TallyValue) (x : Item) (start rest : List Token) → start ≡ item_words x ++ rest → IsNotNext (key_word key.Task) start → MayFollow tree before x → HasRoomFor tally (use_of x)

@@ -122,7 +122,7 @@ pub task_missing : (x : Item) (start rest : List Token) → start ≡ item_words
 task_missing (item.Task t) start rest h next positive missing = missing t rest h (all_at (λ (t : TaskLine). 0 < t.interval) (t ∷ []) [] t [] refl positive)
 task_missing (item.Use u) start rest h next positive missing = let parts = sym next.1 ∙ h ∙ use_parts_of u rest in cc
 
-no_task : (t : TaskLine) (start rest : List Token) → IsNotNext (key_word key.Task) start → start ≡ task_words t ++ rest → ⊥
+pub no_task : (t : TaskLine) (start rest : List Token) → IsNotNext (key_word key.Task) start → start ≡ task_words t ++ rest → ⊥
 unfolding task_words
 no_task t start rest none h = none _ h
 

@@ -11,13 +11,13 @@ use Rattle.plant_grammar.specs.declared.grammar.tree.NameList.{NameList}
 use Rattle.plant_grammar.specs.Grammar.{mark_word, type_word, name_words, list_words, source_words, bind_words}
 use Rattle.plant_grammar.specs.Names.{is_named, AreNamesApart}
 use Rattle.std.proofs.lemmas.Bool.{cases_Bool}
+use Rattle.plant_grammar.specs.Steps.SameNames.{named_back}
 use Rattle.plant_grammar.specs.declared.grammar_fault.GrammarFaultKind.{GrammarFaultKind}
 use Rattle.plant_grammar.specs.declared.grammar_fault.GrammarFaultKind.TheVariants.{TooMany}
 use Rattle.plant_grammar.specs.declared.grammar.tree.Bind.{Bind}
 use Rattle.plant_grammar.specs.NameFaults.{IsNameTaken}
 use Rattle.plant_grammar.specs.Steps.ReadParts.{IsNew}
 use Rattle.plant_grammar.specs.Steps.Refusing.{MayBeDeclared}
-use Rattle.plant_grammar.proofs.Apart.{named_back}
 
 -- a name behind others is none of them
 pub behind_others : (front : List (List ℕ)) (n : List ℕ) (more : List (List ℕ)) → AreNamesApart (front ++ n ∷ more) → (i : ℕ) (x : List ℕ) → i < length front → get_or front i x ≡ x → IsTrue (is_named n x) → ⊥

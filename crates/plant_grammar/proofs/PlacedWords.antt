@@ -3,6 +3,7 @@ use Rattle.plant_grammar.proofs.OneTree.{tree_parts_of}
 use Rattle.std.proofs.Common.{◌≡◌, ◌&&◌, ℕ, ◌+◌, ◌≤◌, Bool, true, false, List, [], ◌∷◌, ◌++◌, length, Option, None, Some, refl, sym, ap, ◌∙◌, append_assoc, subst, arith}
 use Rattle.std.specs.List.{flat_map, list_all}
 use Rattle.std.proofs.lemmas.List.Concat.{flat_map-cons}
+use Rattle.std.proofs.lemmas.Bool.{and_parts}
 use Rattle.plant_text.specs.declared.token.Token.{Token}
 use Rattle.plant_text.specs.declared.token.Token.TheVariants as token
 use Rattle.plant_text.specs.declared.token.Keyword.TheVariants as key
@@ -47,10 +48,6 @@ both p (x ∷ xs) ys h k = go (p x) (list_all p xs) h (both p xs ys)
     go true false h f = absurd cc
     go false b h f = absurd cc
 
-first_of : (a b : Bool) → (a && b) ≡ true → a ≡ true
-first_of true b h = refl
-first_of false b h = absurd cc
-
 rest_of : (a b : Bool) → (a && b) ≡ true → b ≡ true
 rest_of true b h = h
 rest_of false b h = absurd cc
@@ -88,14 +85,14 @@ plain_stays _ = refl
 in_block : (ts rest : List Token) (n : ℕ) → list_all is_inner ts ≡ true → AreInPlace stage.Blocks n rest → AreInPlace stage.Blocks n (ts ++ rest)
 in_block [] rest n h a = a
 in_block (t ∷ ts) rest n h a =
-    let first = first_of (is_inner t) (list_all is_inner ts) h in
+    let first = (and_parts (is_inner t) (list_all is_inner ts) h).0 in
     placed stage.Blocks n t (ts ++ rest) (inner_plain t first) (λ d. absurd cc)
     (subst (λ (s : Stage). AreInPlace s n (ts ++ rest)) (sym (inner_stays t first)) (in_block ts rest n (rest_of (is_inner t) (list_all is_inner ts) h) a))
 
 in_configuration : (ts : List Token) (n : ℕ) → list_all is_plain ts ≡ true → AreInPlace stage.Configuration n ts
 in_configuration [] n h = refl
 in_configuration (t ∷ ts) n h =
-    placed stage.Configuration n t ts (first_of (is_plain t) (list_all is_plain ts) h) (λ d. absurd cc)
+    placed stage.Configuration n t ts (and_parts (is_plain t) (list_all is_plain ts) h).0 (λ d. absurd cc)
     (subst (λ (s : Stage). AreInPlace s n ts) (sym (plain_stays t)) (in_configuration ts n (rest_of (is_plain t) (list_all is_plain ts) h)))
 
 -- programs

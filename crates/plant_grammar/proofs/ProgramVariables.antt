@@ -1,13 +1,14 @@
 -- A program's variables, one by one.
 use Rattle.std.proofs.Common.{◌≡◌, ℕ, ◌<◌, ◌++◌, List, [], ◌∷◌, length, subst, sym, arith, Result, Ok, Err}
 use Rattle.std.specs.Prelude.{OnOk, OnErr}
+use Rattle.plant_grammar.specs.Steps.SameNames.{named_back}
 use Rattle.declared_names.specs.declared.declarations.Declaration.{Declaration}
 use Rattle.declared_names.specs.declared.declarations.Declared.{Declared}
 use Rattle.declared_names.specs.declared.declarations.DeclareFault.{DeclareFault}
 use Rattle.declared_names.specs.declared.declarations.DeclareFault.TheVariants.{Twice}
 use Rattle.declared_names.specs.Names.{IsDeclared}
 use Rattle.plant_grammar.specs.Steps.ReadParts.{AreVariables}
-use Rattle.plant_grammar.proofs.Apart.{named_back, any_with, apart_more}
+use Rattle.plant_grammar.proofs.Apart.{any_with, apart_more}
 use Rattle.plant_grammar.proofs.WordLists.{grown}
 
 -- what was declared at the end is new, or nothing was

@@ -4,3 +4,4 @@ pub mod Lines
 pub mod ReadParts
 pub mod Reading
 pub mod Refusing
+pub mod SameNames

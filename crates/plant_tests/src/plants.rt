@@ -1,8 +1,9 @@
 //! What a plant tells of its tasks.
 
 use crate::checks::{equal, must};
-use plant::{Binding, Plant, RetainedVariable, Source, TaskRef};
+use plant::{Binding, Plant, Source, TaskRef};
 use power_flow::Kind;
+use task_codes::RetainedVariable;
 
 /// Two resources, of which the second takes from itself and from two tasks of the first, in another order than these stand in.
 const TAKERS: &str = "\

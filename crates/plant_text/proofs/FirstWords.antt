@@ -27,7 +27,7 @@ abbrev pub are_letters : List ℕ → Bool
 are_letters [] = true
 are_letters (c ∷ more) = is_name_char c && are_letters more
 
-isnt : (c k : ℕ) → is_name_char c ≡ true → is_name_char k ≡ false → (c == k) ≡ false
+pub isnt : (c k : ℕ) → is_name_char c ≡ true → is_name_char k ≡ false → (c == k) ≡ false
 isnt c k h n = ne_eqb c k (λ e. let same : is_name_char c ≡ is_name_char k = ap is_name_char e in absurd cc)
 
 -- no gap begins with a letter
@@ -40,7 +40,7 @@ letter_begins c more h =
     let f : (c == 40) ≡ false = isnt c 40 h refl in
     rw (a, b, d, e, f) refl
 
-lower_letter : (c : ℕ) → is_name_char (to_ascii_lowercase c) ≡ is_name_char c
+pub lower_letter : (c : ℕ) → is_name_char (to_ascii_lowercase c) ≡ is_name_char c
 lower_letter c = search (rules, tests)
 
 same_letters : (w v : List ℕ) → map to_ascii_lowercase w ≡ map to_ascii_lowercase v → are_letters v ≡ true → are_letters w ≡ true

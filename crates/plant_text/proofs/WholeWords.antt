@@ -13,8 +13,8 @@ use Rattle.plant_text.specs.Spelling.{is_parted, first_line, is_one_line, IsSpac
 use Rattle.plant_text.specs.Steps.Gaps.{behind_space, IsBehindGap}
 use Rattle.plant_text.specs.Steps.Lexing.{is_run_char, front_len, may_follow, stage_behind, is_due, IsWhole, IsInPlace, AreInPlace}
 use Rattle.plant_text.proofs.FoundGaps.{gap_unique}
-use Rattle.plant_text.proofs.FirstWords.{letter_begins, take_while-yes, take_while-no, not_both, letter_at}
-use Rattle.plant_text.proofs.WordShapes.{are_run, IsRun, IsShape, is_mark, known_shape, run_of_letters}
+use Rattle.plant_text.proofs.FirstWords.{letter_begins, take_while-yes, take_while-no, not_both, letter_at, isnt}
+use Rattle.plant_text.proofs.WordShapes.{are_run, IsRun, IsShape, is_mark, known_shape, run_of_letters, run_of_letter}
 
 -- a known word has a character
 some_of : (w : List ℕ) → IsShape w → 0 < length w
@@ -176,13 +176,6 @@ rest_ends w rest l p f = no_run (get_or rest 0 32) (not_both (is_name_char (get_
 run_len : (w rest : List ℕ) → IsRun w → is_parted w rest ≡ true → may_follow rest ≡ true → length (take_while is_run_char (w ++ rest)) ≡ length w
 run_len w rest r p f = ap (λ (x : List ℕ). length x) (run_end w rest r.0 (rest_ends w rest r.2 p f))
 
--- no letter is a mark of its own
-name_no : (c k : ℕ) → is_name_char c ≡ true → is_name_char k ≡ false → (c == k) ≡ false
-name_no c k h n = ne_eqb c k (λ e. let same : is_name_char c ≡ is_name_char k = ap is_name_char e in absurd cc)
-
-run_char : (c : ℕ) → is_name_char c ≡ true → is_run_char c ≡ true
-run_char c h = rw h refl
-
 no_equals : (rest : List ℕ) → may_follow rest ≡ true → (get_or rest 0 32 == 61) ≡ false
 no_equals rest f = elim (cases_Bool (get_or rest 0 32 == 61)) [
   | inl h ↦ absurd (let n : may_follow rest ≡ false = (let o : (get_or rest 0 32 == 35 || true) ≡ true = search (rules, tests) in rw (h, o) refl) in cc)
@@ -191,10 +184,10 @@ no_equals rest f = elim (cases_Bool (get_or rest 0 32 == 61)) [
 
 run_front : (c : ℕ) (w rest : List ℕ) → IsRun (c ∷ w) → is_parted (c ∷ w) rest ≡ true → may_follow rest ≡ true → front_len (c ∷ (w ++ rest)) ≡ length (c ∷ w)
 run_front c w rest r p f =
-    let a : (c == 58) ≡ false = name_no c 58 r.1 refl in
-    let b : (c == 37) ≡ false = name_no c 37 r.1 refl in
+    let a : (c == 58) ≡ false = isnt c 58 r.1 refl in
+    let b : (c == 37) ≡ false = isnt c 37 r.1 refl in
     let first : front_len (c ∷ (w ++ rest)) ≡ cond (is_run_char c) (length (take_while is_run_char (c ∷ (w ++ rest)))) 1 = rw (a, b) refl in
-    first ∙ ap (λ t. cond t (length (take_while is_run_char (c ∷ (w ++ rest)))) 1) (run_char c r.1) ∙ run_len (c ∷ w) rest r p f
+    first ∙ ap (λ t. cond t (length (take_while is_run_char (c ∷ (w ++ rest)))) 1) (run_of_letter c r.1) ∙ run_len (c ∷ w) rest r p f
 
 percent_front : (v rest : List ℕ) → (are_run v ≡ true) → is_name_char (get_or v (length v - 1) 32) ≡ true → 0 < length v → is_parted (37 ∷ v) rest ≡ true → may_follow rest ≡ true → front_len (37 ∷ (v ++ rest)) ≡ length (37 ∷ v)
 percent_front [] rest r l s p f = absurd (omega arith)

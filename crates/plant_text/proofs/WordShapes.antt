@@ -20,7 +20,7 @@ use Rattle.plant_text.specs.Words.{is_name_char, or_else, keyword, punctuation, 
 use Rattle.words.specs.Addresses.{address_space, address}
 use Rattle.plant_text.specs.Steps.Lexing.{is_run_char}
 use Rattle.plant_text.proofs.FoundGaps.{cases_of_cond}
-use Rattle.plant_text.proofs.FirstWords.{are_letters, IsLetters, keyword_letters, same_word_letters, letter_at}
+use Rattle.plant_text.proofs.FirstWords.{are_letters, IsLetters, keyword_letters, same_word_letters, letter_at, lower_letter}
 
 -- all are letters, digits, underscores and `#`
 abbrev pub are_run : List ℕ → Bool
@@ -45,7 +45,7 @@ IsMark w = ((c : ℕ) × (w ≡ c ∷ []) × (is_mark c ≡ true)) ⊎ (w ≡ 58
 abbrev pub IsShape : List ℕ → Type 0
 IsShape w = IsRun w ⊎ (IsPercent w ⊎ IsMark w)
 
-run_of_letter : (c : ℕ) → is_name_char c ≡ true → is_run_char c ≡ true
+pub run_of_letter : (c : ℕ) → is_name_char c ≡ true → is_run_char c ≡ true
 run_of_letter c h = rw h refl
 
 pub run_of_letters : (w : List ℕ) → are_letters w ≡ true → are_run w ≡ true
@@ -175,9 +175,6 @@ spelling_letters (p ∷ q ∷ ps) above w s a =
 lower_run : (c : ℕ) → is_run_char (to_ascii_lowercase c) ≡ is_run_char c
 lower_run c = search (rules, tests)
 
-lower_name : (c : ℕ) → is_name_char (to_ascii_lowercase c) ≡ is_name_char c
-lower_name c = search (rules, tests)
-
 same_run : (w v : List ℕ) → map to_ascii_lowercase w ≡ map to_ascii_lowercase v → are_run v ≡ true → are_run w ≡ true
 same_run [] v e h = refl
 same_run (c ∷ w) [] e h = absurd cc
@@ -193,7 +190,7 @@ same_first [] (d ∷ v) e h = absurd cc
 same_first (c ∷ w) [] e h = absurd cc
 same_first (c ∷ w) (d ∷ v) e h =
     let first : to_ascii_lowercase c ≡ to_ascii_lowercase d = cc in
-    sym (lower_name c) ∙ ap is_name_char first ∙ lower_name d ∙ h
+    sym (lower_letter c) ∙ ap is_name_char first ∙ lower_letter d ∙ h
 
 front_run : (f v w : List ℕ) → same_word f v ≡ true → are_run v ≡ true → is_name_char (get_or v 0 32) ≡ true → IsLetters w → IsRun (f ++ w)
 front_run f v w h run first l =
@@ -314,8 +311,8 @@ percent_of w a b h la lb l = go w ((bytes_eq-Decides (map to_ascii_lowercase (ta
         let second : to_ascii_lowercase d ≡ to_ascii_lowercase a = cc in
         let third : to_ascii_lowercase x ≡ to_ascii_lowercase b = cc in
         let p : c ≡ 37 = lower_mark c 37 first (omega arith) in
-        let i : is_name_char d ≡ true = sym (lower_name d) ∙ ap is_name_char second ∙ lower_name a ∙ la in
-        let j : is_name_char x ≡ true = sym (lower_name x) ∙ ap is_name_char third ∙ lower_name b ∙ lb in
+        let i : is_name_char d ≡ true = sym (lower_letter d) ∙ ap is_name_char second ∙ lower_letter a ∙ la in
+        let j : is_name_char x ≡ true = sym (lower_letter x) ∙ ap is_name_char third ∙ lower_letter b ∙ lb in
         (d ∷ x ∷ w, ap (λ y. y ∷ d ∷ x ∷ w) p, (and_from (is_name_char d) (are_letters (x ∷ w)) i (and_from (is_name_char x) (are_letters w) j l.0), omega arith))
 
 space_percent : (w : List ℕ) (s : Space) → address_space w ≡ Some s → IsLetters (drop 3 w) → IsPercent w

@@ -17,9 +17,10 @@ use console::{
     answer_kinds, answer_schedule, answer_text, answer_verify, file_bytes, file_plant, given_words,
     prepare, print_failure, print_fault, print_given_fault, print_usage, read_words, wanted_for,
 };
-use keepers::{BadLine, FileKeeper, FolderLock, KeeperFault, LockFault, SystemFolder};
-use node::{FreeGate, Gate, Keeper, MemoryKeeper, PacedGate, RunFault};
+use keepers::{BadLine, FileKeeper, FolderLock, Keeper, KeeperFault, LockFault, MemoryKeeper, SystemFolder};
+use node::{FreeGate, Gate, PacedGate};
 use node_command::answer_node;
+use node_reports::RunFault;
 use plant::{Plant, TaskRef};
 use run_command::{Ran, run_text};
 use std::alloc::{AllocError, Global};

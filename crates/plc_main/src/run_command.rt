@@ -3,7 +3,8 @@ ghost use Rattle.plc_main.specs.RunText.{WritesReport, ExplainsRun};
 
 use console::CommandFault;
 use evaluation::Inputs;
-use node::{Gate, Keeper, run_threads};
+use keepers::Keeper;
+use node::{Gate, run_threads};
 use plant::Plant;
 use run_texts::{planned_commands, tell_report};
 use std::alloc::Global;

@@ -12,3 +12,4 @@ pub mod Fused
 pub mod NameSources
 pub mod RowEnds
 pub mod Snapshots
+pub mod ShownScans

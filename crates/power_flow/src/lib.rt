@@ -10,12 +10,9 @@ mod snapshot;
 mod state;
 mod steps;
 
+pub use declared_names::{Declarations, DeclareFault, Declared, Kind};
 pub use ladder::Ladder;
 pub use laws::{fitting_states_are_equal, one_ladder, one_scan};
-pub use name_faults::{
-    BindFault, BindKind, Declaration, Declarations, DeclareFault, Declared, Guess, Kind,
-    first_value, kind_of,
-};
-pub use scan_steps::{Instance, Slot};
+pub use name_faults::{BindFault, BindKind, Guess};
 pub use snapshot::Snapshot;
 pub use state::State;

@@ -1,12 +1,12 @@
 -- A replay in one thread.
-use Rattle.std.proofs.Common.{◌≡◌, ℕ, ◌<◌, ◌≤◌, ◌⊎◌, inl, inr, ◌++◌, true, false, Bool, List, [], ◌∷◌, All, Some, length, reverse, slice_get, refl, sym, ap, ◌∙◌, subst, arith, if◌then◌else◌}
+use Rattle.std.proofs.Common.{◌≡◌, ℕ, ◌<◌, ◌≤◌, ◌⊎◌, inl, inr, true, false, Bool, List, [], ◌∷◌, All, Some, length, reverse, slice_get, refl, sym, ap, ◌∙◌, subst, arith, if◌then◌else◌}
 use Rattle.std.specs.List.{AllByRecursion}
 use Rattle.std.proofs.lemmas.List.{length-map, get_or_past, reverse-append, reverse-reverse}
 use Rattle.std.proofs.lemmas.List.Elements.{All-contains}
 use Rattle.std.proofs.lemmas.Bool.{cases_lt}
 use Rattle.std.proofs.lemmas.Option.{same_Some, none-some, get_or_from_slice_get, slice_get-map, slice_get_past, slice_get_within}
 use Rattle.std.specs.Option.{option_map}
-use Rattle.lists.proofs.Each.{Each-at, slice_get-among}
+use Rattle.lists.proofs.Each.{Each-at, slice_get-among, each-append}
 use Rattle.lists.proofs.Members.{contains_at, all_from_places}
 use Rattle.lists.proofs.Places.{element_at}
 use Rattle.lists.specs.Items.{items_or_none}
@@ -64,10 +64,6 @@ log_of_plant s (Evaluate ticket task dt inputs ∷ h) (x ∷ older) made =
     let next = made.1 in
     let of_task : x.name.task ≡ task = ap (λ (e : Evaluated). e.name.task) next.asked.is in
     (ap (code_at s.plant) of_task ∙ next.found ∙ ap Some (sym (ap (λ (e : Evaluated). e.code) next.asked.is)), log_of_plant s h older made.0)
-
-each-append : {X : Type 0} (P : X → Type 0) (xs ys : List X) → AllByRecursion P xs → AllByRecursion P ys → AllByRecursion P (xs ++ ys)
-each-append P [] ys a b = b
-each-append P (x ∷ xs) ys a b = (a.0, each-append P xs ys a.1 b)
 
 each-turned : {X : Type 0} (P : X → Type 0) (xs : List X) → AllByRecursion P xs → AllByRecursion P (reverse xs)
 each-turned P [] all = tt

@@ -7,7 +7,8 @@ ghost use Rattle.text_lines.specs.Sending.{SendsPart};
 ghost use Rattle.run_texts.specs.AuditText.{file_name, incarnation_text, need_text, misfit_text, reason_text, unshown_line, unshown_lines, without_line, without_lines, audit_lines};
 
 use crate::report_text::write_entries;
-use audit::{Audited, JournalFile, Misfit, Need, Reason, Unshown};
+use audit::{Audited, JournalFile, Need, Reason, Unshown};
+use book::Misfit;
 use plant::Plant;
 use std::alloc::{AllocError, Global};
 use std::fmt::Write as _;

@@ -8,12 +8,13 @@ ghost use Rattle.node_reports.specs.Journals.{firsts_of, openings_of};
 ghost use Rattle.node_reports.specs.Reports.{AreJournalsOf, RunsAgain};
 ghost use Rattle.run_texts.specs.Steps.Replaying.{IsReplay, AreOfOneCode};
 
+use book::Book;
 use evaluation::{Frame, Retained};
 use node_reports::{Journal, are_equal};
 use plant::Plant;
 use std::alloc::{AllocError, Global};
 use std::sync::Arc;
-use world::{Book, Schedule, World, one_run};
+use world::{Schedule, World, one_run};
 
 /// Whether both lists have the same evaluations, which are by the plant's codes.
 fn are_same(frames: &[Frame], others: &[Frame]) -> bool

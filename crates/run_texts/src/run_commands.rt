@@ -5,8 +5,9 @@ ghost use Rattle.run_texts.specs.RunCommands.{interval_at, command_for, commands
 
 use evaluation::Inputs;
 use node_reports::{Act, Command};
-use plant::{Due, Plant, TaskRef};
+use plant::Plant;
 use std::alloc::{AllocError, Global};
+use task_codes::{Due, TaskRef};
 use text_commands::{TextCommandFault, plan_of};
 
 /// The time from one evaluation of a task to the next, in ms.

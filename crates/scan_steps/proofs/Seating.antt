@@ -3,7 +3,7 @@ use Rattle.std.proofs.Common.{◌≡◌, ◌≢◌, ℕ, zero, suc, ◌+◌, ◌
 use Rattle.std.specs.Option.{option_map, option_and_then}
 use Rattle.std.proofs.lemmas.List.{get_or-set_same, get_or-set_other, set-get_or}
 use Rattle.std.proofs.lemmas.Option.{slice_get-get_or, get_or_from_slice_get, slice_get_within}
-use Rattle.lists.proofs.Places.{some_same, slice_get-set_same}
+use Rattle.lists.proofs.Places.{some_same, slice_get-set_same, set_none}
 use Rattle.std_blocks.specs.declared.value.Value.{Value}
 use Rattle.std_blocks.specs.declared.value.Value.TheVariants as value
 use Rattle.std_blocks.specs.declared.block_type.BlockType.TheVariants.{SR}
@@ -132,7 +132,7 @@ others_stay v k (seat.Block j) x m t ne once = refl
 only_bools : (seats : List Seat) (v : ListsValue) (k m : ℕ) (s t : Seat) → IsSeating seats v → slice_get seats k ≡ Some s → slice_get seats m ≡ Some t → m ≢ k → t ≡ s → s ≡ seat.Bool
 only_bools seats v k m s t is at at' ne same = elim (is.apart m k s (at' ∙ ap Some same) at) [ inl bool ↦ bool | inr e ↦ absurd (ne e) ]
 
-inside : (seats : List Seat) (v : ListsValue) (k : ℕ) (s : Seat) → IsSeating seats v → slice_get seats k ≡ Some s → k < length v.bits
+pub inside : (seats : List Seat) (v : ListsValue) (k : ℕ) (s : Seat) → IsSeating seats v → slice_get seats k ≡ Some s → k < length v.bits
 inside seats v k s is at = let lt = slice_get_within seats k s at in let long = is.long in omega arith
 
 -- what stands at a place, whatever else would stand there
@@ -149,12 +149,6 @@ value_at_seat seats v k s x is at =
     ∙ ap (λ p. set slots k (slot_at (lists_put v k s x) p s)) same
     ∙ ap (set slots k) (put_slot v k s x (inside seats v k s is at) (is.within k s at))
     ∙ ap (λ w. set slots k (with_value w x)) (sym (read_there slots k (slot_at v k s) (Variable x) (slot_found seats v k s at)))
-
--- nothing is put beyond the last place
-set_none : {X : Type 0} (xs : List X) (k : ℕ) (x : X) → slice_get xs k ≡ None → set xs k x ≡ xs
-set_none [] k x none = refl
-set_none (a ∷ xs) zero x none = absurd cc
-set_none (a ∷ xs) (suc k) x none = ap (λ l. a ∷ l) (set_none xs k x none)
 
 pub value_at_none : (seats : List Seat) (v : ListsValue) (k : ℕ) (x : Value) → slice_get seats k ≡ None → slots_from 0 seats v ≡ value_put (slots_from 0 seats v) k x
 value_at_none seats v k x none =

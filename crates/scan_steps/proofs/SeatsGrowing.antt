@@ -3,6 +3,7 @@ use Rattle.std.proofs.Common.{◌≡◌, ℕ, suc, ◌+◌, ◌<◌, ◌⊎◌, 
 use Rattle.std.proofs.lemmas.List.{get_or_append_left, length-append}
 use Rattle.std.proofs.lemmas.Option.{get_or_from_slice_get, slice_get_within}
 use Rattle.lists.proofs.Places.{push_cases, push_here}
+use Rattle.scan_steps.proofs.Seating.{inside}
 use Rattle.std_blocks.specs.declared.value.Value.TheVariants as value
 use Rattle.std_blocks.specs.declared.block_type.BlockType.{BlockType}
 use Rattle.std_blocks.specs.declared.block_type.BlockType.TheVariants.{SR}
@@ -66,14 +67,11 @@ one_more_slot n (a ∷ seats) s v w same =
     ∙ ap (λ l. slot_at v n a ∷ l) (one_more_slot (n + 1) seats s v w (λ m t at. let along : n + suc m ≡ n + 1 + m = omega arith in rw along at (same (suc m) t at)))
     ∙ ap (λ p. slot_at v n a ∷ slots_from (n + 1) seats v ++ slot_at w p s ∷ []) further
 
-within_bits : (seats : List Seat) (v : ListsValue) (m : ℕ) (t : Seat) → IsSeating seats v → slice_get seats m ≡ Some t → m < length v.bits
-within_bits seats v m t is at = let lt = slice_get_within seats m t at in let long = is.long in omega arith
-
 grown_slots : (seats : List Seat) (v w : ListsValue) (s : Seat) → IsSeating seats v → Grows v w
     → slots_from 0 (seats ++ s ∷ []) w ≡ slots_from 0 seats v ++ slot_at w (length seats) s ∷ []
 grown_slots seats v w s is grows =
     let none : 0 + length seats ≡ length seats = omega arith in
-    one_more_slot 0 seats s v w (λ m t at. let here : 0 + m ≡ m = omega arith in rw here (old_slot v w m t grows (within_bits seats v m t is at) (is.within m t at)))
+    one_more_slot 0 seats s v w (λ m t at. let here : 0 + m ≡ m = omega arith in rw here (old_slot v w m t grows (inside seats v m t is at) (is.within m t at)))
     ∙ ap (λ p. slots_from 0 seats v ++ slot_at w p s ∷ []) none
 
 grown_seating : (seats : List Seat) (v w : ListsValue) (s : Seat) → IsSeating seats v → Grows v w → IsInLists w (length seats) s
@@ -81,7 +79,7 @@ grown_seating : (seats : List Seat) (v w : ListsValue) (s : Seat) → IsSeating 
 grown_seating seats v w s is grows new fresh = record {
   long = ap (λ b. length b) grows.bits ∙ length-append v.bits (false ∷ []) ∙ ap (λ n. n + 1) is.long ∙ sym (length-append seats (s ∷ []));
   within = λ m t at. elim (push_cases seats s m t at) [
-    | inl old ↦ old_in v w m t grows (within_bits seats v m t is old) (is.within m t old)
+    | inl old ↦ old_in v w m t grows (inside seats v m t is old) (is.within m t old)
     | inr end ↦ subst (λ p. IsInLists w p t) (sym end.0) (subst (IsInLists w (length seats)) (sym end.1) new)
   ];
   apart = λ j k t at at'. both j k t (push_cases seats s j t at) (push_cases seats s k t at');

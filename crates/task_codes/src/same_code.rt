@@ -5,7 +5,8 @@ ghost use Rattle.task_codes.specs.CodeValue.{bindings_at, expected_at, IsSoundCo
 use crate::binding::Binding;
 use crate::task_code::TaskCode;
 use crate::task_ref::TaskRef;
-use power_flow::{Kind, Ladder};
+use declared_names::Kind;
+use power_flow::Ladder;
 
 fn are_same_bindings(bindings: &[Binding], others: &[Binding]) -> bool
     ensures { IsTrue result ↔ (bindings.now ≡ others.now) }

@@ -3,7 +3,8 @@ use crate::program_instance::ProgramInstance;
 use crate::retained_variable::RetainedVariable;
 use crate::task_output::TaskOutput;
 use crate::task_ref::TaskRef;
-use power_flow::{Kind, Ladder};
+use declared_names::Kind;
+use power_flow::Ladder;
 use std::marker::Model;
 
 /// The code of a task: its programs in order of declaration, the bound inputs of each, the tasks from which it takes in order of first mention,

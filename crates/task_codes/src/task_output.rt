@@ -1,4 +1,4 @@
-use power_flow::Kind;
+use declared_names::Kind;
 
 /// An output of a task: the position of its program, the place of the variable, and its kind.
 #[derive(Clone, Copy, Debug, PartialEq, Eq)]

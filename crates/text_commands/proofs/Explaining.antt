@@ -1,24 +1,17 @@
 -- Why a command ended, from why a part of it did.
-use Rattle.std.proofs.Common.{◌≡◌, ℕ, List, Option, Result, Ok, Err, IfErr, inl, inr}
+use Rattle.std.proofs.Common.{◌≡◌, ℕ, List, Option, Result, IfErr, inl, inr}
 use Rattle.std.proofs.KnownBytes.{Keeps-refl}
 use Rattle.network.specs.Links.{Diagram}
 use Rattle.declared_names.specs.declared.declarations.Declaration.{Declaration}
 use Rattle.std.specs.Result.{IsErrAnd}
 use Rattle.lists.proofs.Results.{kept_fault}
-use Rattle.name_faults.specs.declared.bind_fault.BindFault.{BindFault}
-use Rattle.name_faults.specs.declared.bind_fault.BindKind.TheVariants.{Memory as BindMemory}
-use Rattle.network.specs.declared.fault.GraphFault.{GraphFault}
-use Rattle.ladder_text.specs.declared.draw_fault.DrawFault.{DrawFault}
-use Rattle.ladder_text.specs.declared.draw_fault.DrawFaultKind.TheVariants.{Memory as DrawMemory}
-use Rattle.network.specs.declared.fault.GraphFaultKind.TheVariants.{Memory as GraphMemory}
-use Rattle.text_commands.specs.declared.text_fault.TextFault.TheVariants.{Bind, Draw, Graph}
 use Rattle.text_lines.specs.declared.send_fault.SendFault.{SendFault}
 use Rattle.text_lines.specs.declared.send_fault.SendFault.TheVariants as sending
-use Rattle.text_commands.specs.Giving.{GivenFor, sending_fault}
+use Rattle.text_commands.specs.Giving.{sending_fault}
 use Rattle.text_commands.specs.Rows.{RowValue, SpellRows}
 use Rattle.text_commands.specs.declared.text_command_fault.TextCommandFault.{TextCommandFault}
 use Rattle.text_commands.specs.declared.text_command_fault.TextCommandFault.TheVariants.{Text, Word, Write, Memory}
-use Rattle.text_commands.specs.EvalText.{IsLadderOfDrawing, Asked, WritesAll, WritesScans, StopsScans, RefusesNamesOf, RefusesNetworksOf, RefusesDrawing, Explains}
+use Rattle.text_commands.specs.EvalText.{IsLadderOfDrawing, Asked, WritesAll, WritesScans, StopsScans, Explains}
 use Rattle.text_commands.specs.Steps.Refusing.{RefusesLadder, RefusesRows}
 
 pub explain_ladder : (drawing : List ℕ) (words : List (List ℕ)) (dt : ℕ) (old : Option (List ℕ)) (fault : TextCommandFault) → RefusesLadder drawing fault
@@ -54,21 +47,3 @@ pub part_written : {T : Type 0} (drawing : List ℕ) (words : List (List ℕ)) (
 unfolding asked_of
 part_written drawing words dt old new ds networks rows found r is ladder read written =
     kept_fault (sending_fault found) (Explains drawing words dt old new) r is (explain_scans drawing words dt old new (asked_of drawing words ds networks rows ladder read) found written)
-
--- a refusal by binding is one of the text, or of memory
-pub names_refused : {T : Type 0} (drawing : List ℕ) (found : BindFault) (r : Result T TextCommandFault) → IsErrAnd r (GivenFor (found.kind ≡ BindMemory) (Bind found))
-    → ((found.kind ≡ BindMemory → ⊥) → RefusesNamesOf drawing found) → IfErr r (RefusesLadder drawing)
-names_refused drawing found (Ok x) given names = tt
-names_refused drawing found (Err fault) given names = elim given [ inl w ↦ rw w.1 tt | inr w ↦ rw w.1 (names w.0) ]
-
--- a refusal by the networks is one of the text, or of memory
-pub networks_refused : {T : Type 0} (drawing : List ℕ) (found : GraphFault) (r : Result T TextCommandFault) → IsErrAnd r (GivenFor (found.kind ≡ GraphMemory) (Graph found))
-    → ((found.kind ≡ GraphMemory → ⊥) → RefusesNetworksOf drawing found) → IfErr r (RefusesLadder drawing)
-networks_refused drawing found (Ok x) given networks = tt
-networks_refused drawing found (Err fault) given networks = elim given [ inl w ↦ rw w.1 tt | inr w ↦ rw w.1 (networks w.0) ]
-
--- a refusal by the reader of drawings is one of the text, or of memory
-pub drawing_refused : {T : Type 0} (drawing : List ℕ) (found : DrawFault) (r : Result T TextCommandFault) → IsErrAnd r (GivenFor (found.kind ≡ DrawMemory) (Draw found))
-    → ((found.kind ≡ DrawMemory → ⊥) → RefusesDrawing drawing (Draw found)) → IfErr r (RefusesLadder drawing)
-drawing_refused drawing found (Ok x) given drawn = tt
-drawing_refused drawing found (Err fault) given drawn = elim given [ inl w ↦ rw w.1 tt | inr w ↦ rw w.1 (drawn w.0) ]

@@ -1,5 +1,4 @@
 pub mod VariableLines
-pub mod Setting
 pub mod Scanning
 pub mod WordRows
 pub mod Explaining

@@ -1,10 +1,11 @@
 -- Scans follow one another, and so do their lines and drawings.
-use Rattle.std.proofs.Common.{◌≡◌, ℕ, ◌+◌, ◌≤◌, ◌++◌, List, [], ◌∷◌, Bool, false, Option, All, length, map, take, drop, sum_by, replicate, refl, sym, ap, ◌∙◌, subst, arith}
+use Rattle.std.proofs.Common.{◌≡◌, ℕ, ◌+◌, ◌≤◌, ◌++◌, List, [], ◌∷◌, Bool, false, Option, All, length, map, take, sum_by, replicate, refl, sym, ap, ◌∙◌, subst, arith}
 use Rattle.std.proofs.lemmas.List.{length-append, length-map, length-replicate, map-append}
 use Rattle.std.proofs.lemmas.List.Elements.{All-replicate}
 use Rattle.std.proofs.Math.Seq.{take-append-add, take-length}
 use Rattle.std.proofs.KnownBytes.{Appends-nil, Appends-trans}
 use Rattle.std.specs.Io.KnownBytes.{Appends}
+use Rattle.power_flow.specs.Steps.ShownScans.{shows_scan}
 use Rattle.text_lines.specs.Sending.{SendsLess}
 use Rattle.text_lines.specs.declared.send_fault.SendFault.TheVariants.{Write, Memory}
 use Rattle.network.specs.Links.{Diagram}
@@ -13,7 +14,6 @@ use Rattle.scan_steps.specs.declared.slot.Slot.{Slot}
 use Rattle.scan_steps.specs.First.{slot_first}
 use Rattle.power_flow.specs.StateValue.{StateValue}
 use Rattle.power_flow.specs.LadderValue.{LadderValue}
-use Rattle.power_flow.specs.Scan.{ScanMeaning}
 use Rattle.power_flow.specs.Shown.{ShowsPower}
 use Rattle.text_commands.specs.Rows.{RowValue, scans_of}
 use Rattle.text_commands.specs.Lines.{line_of}
@@ -25,13 +25,6 @@ use Rattle.text_commands.specs.Trace.{IsTrace}
 use Rattle.text_commands.specs.Trace.IsTrace.{begun as no_scan, after as next_scan}
 use Rattle.text_commands.specs.Steps.Testing.{slots_of}
 use Rattle.text_commands.specs.Steps.Showing.{IsShownScan, SomeShown, StopsShown}
-
--- what is shown is of a scan
-shows_scan : (ds : List Declaration) (dt : ℕ) (networks : List Diagram) (slots : List Slot) (ms : List Bool) (slots' : List Slot) (ms' shown : List Bool)
-    → ShowsPower ds dt networks slots ms slots' ms' shown → ScanMeaning ds dt networks slots ms slots' ms'
-shows_scan ds dt [] slots ms slots' ms' shown h = (h.0, h.1)
-shows_scan ds dt (d ∷ networks) slots ms slots' ms' shown h =
-    (h.0, h.1.meaning, shows_scan ds dt networks h.0 (drop (length d.elements) ms) slots' (drop (length d.elements) ms') (drop (length d.elements) shown) h.2)
 
 -- scans that are shown are a trace
 pub shown_traced : (drawing : List ℕ) (color : Bool) (ds : List Declaration) (networks : List Diagram) (dt : ℕ) (rows : List RowValue) (states : List (List Slot)) (slots : List Slot) (memories : List Bool)

@@ -1,5 +1,5 @@
 -- What a traced test writes and answers, from what its parts do.
-use Rattle.std.proofs.Common.{◌≡◌, ℕ, List, Bool, true, false, not, ◌&&◌, if◌then◌else◌, None, Some, Option, option_map, string_bytes, refl, sym, subst, ap, ◌∙◌}
+use Rattle.std.proofs.Common.{◌≡◌, ℕ, List, Bool, true, false, not, if◌then◌else◌, None, Some, Option, option_map, string_bytes, refl, sym, subst, ap, ◌∙◌}
 use Rattle.std.specs.Option.{option_map_or}
 use Rattle.std.specs.Io.KnownBytes.{Appends}
 use Rattle.std.proofs.lemmas.List.{length-map}
@@ -8,6 +8,7 @@ use Rattle.declared_names.specs.declared.declarations.Declaration.{Declaration}
 use Rattle.scan_steps.specs.declared.slot.Slot.{Slot}
 use Rattle.power_flow.specs.StateValue.{StateValue}
 use Rattle.std.specs.Prelude.{length}
+use Rattle.std.proofs.lemmas.Bool.{and_parts}
 use Rattle.traces.specs.declared.texts.Wanted.{Wanted}
 use Rattle.traces.specs.declared.texts.TraceTexts.{TraceTexts}
 use Rattle.traces.specs.Tracks.{TrackValue}
@@ -24,10 +25,6 @@ use Rattle.text_commands.specs.Traced.{WritesTraced, step_of, tracks_of}
 use Rattle.text_commands.specs.Steps.Testing.{IsFormTrace, slots_of}
 use Rattle.text_commands.specs.Steps.Tracing.{IsTracedTest}
 
-both : (a b : Bool) → (a && b) ≡ true → (a ≡ true) × (b ≡ true)
-both true b is = (refl, is)
-both false b is = absurd (let no : ⊥ = cc in no)
-
 no_dump : (b : Bool) (x : Option (List ℕ)) → not b ≡ true → (if b then x else None) ≡ None
 no_dump true x is = absurd (let no : ⊥ = cc in no)
 no_dump false x is = refl
@@ -39,7 +36,7 @@ no_diagram (Some title) f is = absurd (let no : ⊥ = cc in no)
 -- where nothing is wanted no texts are all
 pub untraced : (wanted : Wanted) (step moments : ℕ) (tracks : List TrackValue) (texts : TraceTexts) → is_nothing wanted ≡ true → texts.dump ≡ None → texts.diagram ≡ None → AreTexts wanted step moments tracks texts
 untraced wanted step moments tracks texts is dump diagram =
-    let parts = both (not wanted.dump) (option_map_or (λ title. false) wanted.diagram true) is in
+    let parts = and_parts (not wanted.dump) (option_map_or (λ title. false) wanted.diagram true) is in
     record {
       dump = ap (option_map (λ t. string_bytes t)) dump ∙ sym (no_dump wanted.dump (Some (dump_of step moments tracks)) parts.0);
       diagram = ap (option_map (λ t. string_bytes t)) diagram ∙ sym (no_diagram wanted.diagram (λ title. diagram_of title.now step moments tracks) parts.1);

@@ -25,11 +25,11 @@ check_lines plant =
     ++ count_line (codes "programs") (program_count plant) ++ count_line (codes "connections") (connection_count plant)
 
 -- the text is a plant, and its four lines were written
-abbrev pub WritesCheck : List ℕ → Option (List ℕ) → Option (List ℕ) → Type 0
+abbrev pub WritesCheck : (text : List ℕ) (old new : Option (List ℕ)) → Type 0
 WritesCheck text old new = (plant : PlantValue) × IsPlantText text plant × Appends old new (check_lines plant)
 
 -- the text is a plant, and a beginning of its four lines was written, not all of them
-abbrev pub WritesCheckPart : List ℕ → Option (List ℕ) → Option (List ℕ) → Type 0
+abbrev pub WritesCheckPart : (text : List ℕ) (old new : Option (List ℕ)) → Type 0
 WritesCheckPart text old new = (plant : PlantValue) × IsPlantText text plant × SendsLess (check_lines plant) old new
 
 -- a refusal of the text of a plant: not want of memory, with what belongs to its kind, and of no faultless text; the

@@ -36,7 +36,7 @@ test_scans rows expected = max (scans_of rows) (scans_of expected)
 
 -- why a word NAME==BITS is refused behind others: for its name; for the digits behind a good name; for a variable of
 -- which something is expected already
-abbrev pub IsRefusedExpectation : List Declaration → List RowValue → List ℕ → WordFaultKind → Type 0
+abbrev pub IsRefusedExpectation : (ds : List Declaration) (expected : List RowValue) (word : List ℕ) → WordFaultKind → Type 0
 IsRefusedExpectation ds expected word NoVariable = NamesBool ds word → ⊥
 IsRefusedExpectation ds expected word BadDigits = NamesBool ds word × (AreDigits (expected_in word) → ⊥)
 IsRefusedExpectation ds expected word Twice =

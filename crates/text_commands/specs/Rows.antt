@@ -74,7 +74,7 @@ pub record SpellRows (ds : List Declaration) (words : List (List ℕ)) (rows : L
   pub apart : AreOfDistinctVariables rows
 
 -- the words are no rows
-abbrev pub SpellNoRows : List Declaration → List (List ℕ) → Type 0
+abbrev pub SpellNoRows : (ds : List Declaration) (words : List (List ℕ)) → Type 0
 SpellNoRows ds words = (rows : List RowValue) → SpellRows ds words rows → ⊥
 
 -- a BOOL variable has the name in the word

@@ -1,7 +1,9 @@
--- Steps of the proofs. Only contracts inside this crate cite them, so no reader has to believe them.
+-- Steps of the proofs. Only contracts inside this crate cite them, and proofs of `verifying`, so no reader has to
+-- believe them.
 pub mod Refusing
 pub mod Joining
 pub mod Rows
 pub mod Testing
 pub mod Showing
 pub mod Tracing
+pub mod Setting

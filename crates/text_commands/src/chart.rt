@@ -7,7 +7,8 @@ ghost use Rattle.text_commands.specs.Chart.{change_text, chart_line, chart_of, i
 ghost use Rattle.text_commands.specs.Steps.Testing.{last_of, slots_of};
 
 use crate::line::state_line;
-use power_flow::{Declarations, Declared, State};
+use declared_names::{Declarations, Declared};
+use power_flow::State;
 use std::alloc::{AllocError, Global};
 use std_blocks::Value;
 use text_lines::push_value;

@@ -6,7 +6,8 @@ ghost use Rattle.text_commands.specs.Steps.Testing.{slots_of};
 
 use crate::difference::Difference;
 use crate::row::Row;
-use power_flow::{Declarations, State};
+use declared_names::Declarations;
+use power_flow::State;
 use std::alloc::{AllocError, Global};
 use std_blocks::Value;
 

@@ -29,7 +29,7 @@ pub use eval_command::eval;
 pub use form::Form;
 pub use line::state_line;
 pub use plan_command::{plan_of, plan_text};
-pub use row::Row;
+pub use row::{Row, is_bool_variable};
 pub use rows::read_rows;
 pub use test_command::eval_test;
 pub use text_command_fault::TextCommandFault;

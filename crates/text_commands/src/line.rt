@@ -2,7 +2,8 @@ ghost use Rattle.std.specs.Prelude.{◌≡◌, ◌+◌, ◌<◌, ◌++◌, OnOk,
 ghost use Rattle.text_commands.specs.Lines.{item_text, line_of};
 ghost use Rattle.text_commands.specs.Steps.Joining.{ready, IsLineTo};
 
-use power_flow::{Declarations, State};
+use declared_names::Declarations;
+use power_flow::State;
 use std::alloc::{AllocError, Global};
 use std_blocks::Value;
 use text_lines::push_value;

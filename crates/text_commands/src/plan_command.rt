@@ -7,10 +7,11 @@ ghost use Rattle.text_commands.specs.PlanText.{due_line, plan_lines, RefusesPlan
 
 use crate::check_command::read_plant;
 use crate::text_command_fault::TextCommandFault;
-use plant::{Due, Plant, plan};
+use plant::{Plant, plan};
 use std::alloc::{AllocError, Global};
 use std::fmt::Write as _;
 use std::io::Write;
+use task_codes::Due;
 use text_lines::{SendFault, push_task, send_full, write_text};
 
 fn push_due(lines: &mut String, plant: &Plant, due: Due) -> Result<(), AllocError>

@@ -4,7 +4,8 @@ ghost use Rattle.plant.specs.PlantValue.{IsSoundPlant, codes_at, code_at};
 ghost use Rattle.task_codes.specs.CodeValue.{CodeValue};
 ghost use Rattle.plant.specs.Counts.{task_count, instances_of, program_count, connections_of, connection_count};
 
-use plant::{Plant, TaskCode, TaskRef};
+use plant::Plant;
+use task_codes::{TaskCode, TaskRef};
 
 /// How many tasks a plant has.
 pub fn count_tasks(plant: &Plant) -> usize

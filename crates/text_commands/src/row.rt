@@ -4,7 +4,7 @@ ghost use Rattle.text_commands.specs.Rows.{RowValue, IsRow, IsBoolAt, IsRefusedF
 ghost use Rattle.text_commands.specs.Expectations.{IsExpected, IsRefusedExpectation};
 
 use crate::word_fault::WordFaultKind;
-use power_flow::{Declarations, Declared, Kind};
+use declared_names::{Declarations, Declared, Kind};
 use std::marker::Model;
 
 /// A word NAME=BITS: the place of its variable, and a digit 0 or 1 for each of the first scans.
@@ -46,7 +46,8 @@ impl<'a> Row<'a> {
     }
 }
 
-fn is_bool_variable(declared: Declared) -> bool
+/// Whether it is a BOOL variable.
+pub fn is_bool_variable(declared: Declared) -> bool
     ensures { result ≡ is_bool declared }
 {
     match declared {

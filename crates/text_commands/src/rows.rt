@@ -5,7 +5,7 @@ ghost use Rattle.text_commands.specs.Steps.Refusing.{RefusesRows};
 use crate::row::{Row, read_row};
 use crate::text_command_fault::TextCommandFault;
 use crate::word_fault::{WordFault, WordFaultKind};
-use power_flow::Declarations;
+use declared_names::Declarations;
 use std::alloc::Global;
 
 /// Whether a row is of the variable at a place.

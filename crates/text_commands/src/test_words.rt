@@ -8,7 +8,7 @@ use crate::row::{Row, read_expectation, read_row, split_at_equals};
 use crate::rows::{has_place, scan_count};
 use crate::text_command_fault::TextCommandFault;
 use crate::word_fault::{WordFault, WordFaultKind};
-use power_flow::Declarations;
+use declared_names::Declarations;
 use std::alloc::Global;
 
 /// What the words of a test say: what variables are before the scans, and what they are to be after them.

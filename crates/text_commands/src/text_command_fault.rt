@@ -3,10 +3,11 @@ ghost use Rattle.std.specs.Prelude.{◌≡◌};
 use crate::text_fault::TextFault;
 use crate::word_fault::WordFault;
 use ladder_text::{DrawFault, DrawFaultKind};
+use name_faults::{BindFault, BindKind};
 use network::{GraphFault, GraphFaultKind};
-use plant::{PlanFault, PlantFault, PlantFaultKind};
-use power_flow::{BindFault, BindKind};
+use plant::{PlantFault, PlantFaultKind};
 use std::alloc::{AllocError, AllocFailed};
+use task_codes::PlanFault;
 use text_lines::{SendFault, WriteFault};
 use thiserror::Error;
 

@@ -1,7 +1,7 @@
 use ladder_text::DrawFault;
+use name_faults::BindFault;
 use network::GraphFault;
 use plant::PlantFault;
-use power_flow::BindFault;
 use thiserror::Error;
 
 /// Why the text of a drawing is refused, in the words `LINE:COLUMN: Kind`, or that of a plant, as `LINE: Kind`.

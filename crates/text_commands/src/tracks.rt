@@ -6,7 +6,8 @@ ghost use Rattle.text_commands.specs.Traced.{step_of, track_of, tracks_of};
 ghost use Rattle.text_commands.specs.Steps.Testing.{slots_of};
 
 use crate::chart::is_variable;
-use power_flow::{Declarations, State};
+use declared_names::Declarations;
+use power_flow::State;
 use std::alloc::{AllocError, Global};
 use std_blocks::Value;
 use traces::{TraceTexts, Track, Wanted, trace_texts};

@@ -1,5 +1,5 @@
 -- A line is read byte by byte.
-use Rattle.std.proofs.Common.{◌≡◌, ℕ, ◌==◌, false, List, [], ◌∷◌, ◌++◌, Option, Result, Ok, Err, OnErr}
+use Rattle.std.proofs.Common.{◌≡◌, ℕ, ◌==◌, false, List, [], ◌∷◌, ◌++◌, Option}
 use Rattle.std.specs.Io.KnownBytes.{Consumes}
 use Rattle.std.proofs.KnownBytes.{Consumes-trans}
 use Rattle.std.proofs.lemmas.Bool.{ne_eqb}
@@ -9,8 +9,3 @@ use Rattle.text_lines.specs.Lines.{HasNoFeed, TakesSome}
 -- one byte more was taken
 pub takes_more : (a b c : Option (List ℕ)) (line : List ℕ) (byte : ℕ) → HasNoFeed line → (byte ≡ 10 → ⊥) → Consumes a b line → Consumes b c (byte ∷ []) → TakesSome a c
 takes_more a b c line byte none ne p q = (line ++ byte ∷ [], All-push (λ x. (x == 10) ≡ false) line byte none (ne_eqb byte 10 ne), Consumes-trans a b c line (byte ∷ []) p q)
-
--- what holds anyhow holds at a fault
-pub at_fault : {X E P : Type 0} (r : Result X E) → P → OnErr r P
-at_fault (Ok x) p = tt
-at_fault (Err e) p = p

@@ -8,6 +8,7 @@ use Rattle.std.proofs.lemmas.Slice.Zip.{length-zip, get_or-zip}
 use Rattle.std.proofs.lemmas.Option.{none-some, some_pair_parts, slice_get_within, slice_get-map, get_or_from_slice_get}
 use Rattle.lists.proofs.Places.{element_at}
 use Rattle.lists.proofs.Zips.{zip_at, zip_length}
+use Rattle.lists.proofs.Each.{each-push}
 use Rattle.std_blocks.specs.declared.value.Value.{Value}
 use Rattle.declared_names.specs.declared.declarations.Kind.{Kind}
 use Rattle.declared_names.specs.Kinds.{kind_of}
@@ -104,10 +105,6 @@ module _ {A B : Type 0} (f : A × B → List ℕ) (xs : List A) (ys : List B) (m
   pub written_all : (k : ℕ) (now : List ℕ) → length ys ≤ k → now ≡ old ++ flat_map f (take k (zip xs ys)) → now ≡ old ++ flat_map f (zip xs ys)
   written_all k now end is = is ∙ ap (λ l. old ++ flat_map f l) (take_all k (zip xs ys) (omega (arith, end, length-zip xs ys)))
 
-all_and : {B : Type 0} (P : B → Type 0) (ys : List B) (y : B) → AllByRecursion P ys → P y → AllByRecursion P (ys ++ y ∷ [])
-all_and P [] y all so = (so, tt)
-all_and P (x ∷ ys) y all so = (all.0, all_and P ys y all.1 so)
-
 -- one more number was read
 pub heard_more : (rs : List ResourceValue) (text : List ℕ) (k : ℕ) (found all : List ℕ) (rest : List ℕ) (n : ℕ) (left : List ℕ) → k < length rs → length found ≡ k → AllByRecursion IsSmall found
     → AreFirst heard_item IsHeardOf rs text k found rest → IsSmall n → ((r : ResourceValue) → slice_get rs k ≡ Some r → IsRead (λ m. heard_text (r, m)) (IsHeardOf r) 32 rest (Some (n, left)))
@@ -115,7 +112,7 @@ pub heard_more : (rs : List ResourceValue) (text : List ℕ) (k : ℕ) (found al
 heard_more rs text k found all rest n left within many small before one read is =
     let here = element_at rs k within in (
       omega (arith, many, ap (λ l. length l) is, length-append found (n ∷ [])),
-      subst (AllByRecursion IsSmall) (sym is) (all_and IsSmall found n small one),
+      subst (AllByRecursion IsSmall) (sym is) (each-push IsSmall found n small one),
       subst (λ l. AreFirst heard_item IsHeardOf rs text (k + 1) l left) (sym is) (first_more heard_item IsHeardOf rs text k here.0 found rest n left here.1 before (read here.0 here.1)),
     )
 
@@ -138,7 +135,7 @@ give_more code text k found all rest x left kind within kinds ranges before same
       ap (map kind_of) is ∙ map-append kind_of found (x ∷ []) ∙ ap (λ l. l ++ kind_of x ∷ []) kinds
           ∙ ap (λ (q : Kind). take k (image_kinds code) ++ q ∷ []) (one.0 ∙ of ∙ sym (get_or_from_slice_get (image_kinds code) k o.kind o.kind listed))
           ∙ sym (take_more (image_kinds code) k o.kind (slice_get_within (image_kinds code) k o.kind listed)),
-      subst (AllByRecursion IsInRange) (sym is) (all_and IsInRange found x ranges one.1),
+      subst (AllByRecursion IsInRange) (sym is) (each-push IsInRange found x ranges one.1),
       subst (λ l. AreFirst (give_text code) IsGivenOf code.outputs text (k + 1) l left) (sym is)
           (first_more (give_text code) IsGivenOf code.outputs text k o found rest x left here.1 before
           (subst (λ q. IsRead (λ v. blank_give code (o, v)) (IsOfKind q) 32 rest (Some (x, left))) of (read o here.1))),

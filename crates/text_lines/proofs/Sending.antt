@@ -4,7 +4,7 @@ use Rattle.std.proofs.Math.Seq.{take-append_seam, take-append-add}
 use Rattle.std.proofs.lemmas.List.{take-append-drop, take_more, append-nil, take-append-le, length-append}
 use Rattle.std.proofs.lemmas.List.Concat.{flat_map-append}
 use Rattle.std.proofs.KnownBytes.{Appends-nil, Appends-trans}
-use Rattle.std.specs.Io.KnownBytes.{Appends}
+use Rattle.std.specs.Io.KnownBytes.{Appends, Keeps}
 use Rattle.std.specs.List.{flat_map}
 use Rattle.text_lines.specs.Sending.{Sends, SendsPart, SendsLess}
 
@@ -107,3 +107,10 @@ then_ok (Err e) first second old mid new appended more = tt
 pub then_part : {T E : Type 0} (r : Result T E) (first second : List ℕ) (old mid new : Option (List ℕ)) → Appends old mid first → OnErr r (SendsPart second mid new) → OnErr r (SendsPart (first ++ second) old new)
 then_part (Ok x) first second old mid new appended part = tt
 then_part (Err e) first second old mid new appended part = part_of_second first second old mid new appended part
+
+-- what was written is written where nothing more is
+pub appends_kept : (a b c : Option (List ℕ)) (bs : List ℕ) → Appends a b bs → Keeps b c → Appends a c bs
+appends_kept None b c bs p q = tt
+appends_kept (Some x) None c bs p q = absurd p
+appends_kept (Some x) (Some y) None bs p q = absurd q
+appends_kept (Some x) (Some y) (Some z) bs p q = q ∙ p

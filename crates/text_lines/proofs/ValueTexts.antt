@@ -5,13 +5,13 @@ use Rattle.std.specs.Int.{w16}
 use Rattle.std.specs.Fmt.{decimal, signed_decimal}
 use Rattle.std.proofs.lemmas.List.{length-append}
 use Rattle.std.proofs.lemmas.Option.{none-some, same_Some}
+use Rattle.std.proofs.Math.Seq.{take-append_seam}
 use Rattle.std_blocks.specs.declared.value.Value.{Value}
 use Rattle.std_blocks.specs.declared.value.Value.TheVariants.{Bool as BoolValue, Int as IntValue, Time as TimeValue}
 use Rattle.declared_names.specs.declared.declarations.Kind.TheVariants as kind
 use Rattle.declared_names.specs.Kinds.{kind_of}
 use Rattle.text_lines.specs.LineParts.{value_text}
 use Rattle.text_lines.specs.ReadParts.{IsInRange}
-use Rattle.text_lines.proofs.BegunTexts.{first_bytes}
 
 -- what stands between two bytes and two
 pub inner_text : (word text : List ℕ) → word ≡ 84 ∷ 35 ∷ (text ++ 109 ∷ 115 ∷ []) → slice_range word 2 (length word - 2) ≡ text
@@ -21,7 +21,7 @@ inner_text word text is = ap (λ (w : List ℕ). slice_range w 2 (length w - 2))
     many = omega (arith, length-append text (109 ∷ 115 ∷ []))
 
     of : slice_range (84 ∷ 35 ∷ (text ++ 109 ∷ 115 ∷ [])) 2 (length (84 ∷ 35 ∷ (text ++ 109 ∷ 115 ∷ [])) - 2) ≡ text
-    of = ap (λ n. take n (text ++ 109 ∷ 115 ∷ [])) many ∙ first_bytes text (109 ∷ 115 ∷ [])
+    of = ap (λ n. take n (text ++ 109 ∷ 115 ∷ [])) many ∙ take-append_seam text (109 ∷ 115 ∷ [])
 
 pub inner_long : (word text : List ℕ) → word ≡ 84 ∷ 35 ∷ (text ++ 109 ∷ 115 ∷ []) → length word < 4 → ⊥
 inner_long word text is short = omega (arith, short, ap (λ l. length l) is, length-append text (109 ∷ 115 ∷ []))

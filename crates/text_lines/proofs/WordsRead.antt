@@ -8,6 +8,7 @@ use Rattle.std.proofs.lemmas.Bool.{eqb-true, lt-ltb, le-ltb}
 use Rattle.std.proofs.lemmas.Fmt.{decimal_by_steps}
 use Rattle.std.proofs.lemmas.List.{length-append, append-nil}
 use Rattle.std.proofs.lemmas.Option.{none-some, same_Some}
+use Rattle.std.proofs.Math.Seq.{take-append_seam}
 use Rattle.std_blocks.specs.declared.value.Value.{Value}
 use Rattle.std_blocks.specs.declared.value.Value.TheVariants.{Bool as BoolValue, Int as IntValue, Time as TimeValue}
 use Rattle.text_lines.specs.LineParts.{value_text}
@@ -64,10 +65,6 @@ stop_nowhere stop w clean =
     let beyond : nat_lt (length w) (length (w ++ [])) ≡ false = le-ltb (length w) (length (w ++ [])) (omega (arith, length-append w [])) in
     rw at (rw beyond refl)
 
-seam_take : (xs ys : List ℕ) → take (length xs) (xs ++ ys) ≡ xs
-seam_take [] ys = refl
-seam_take (x ∷ xs) ys = ap (λ l. x ∷ l) (seam_take xs ys)
-
 seam_drop : (xs ys : List ℕ) → drop (length xs) (xs ++ ys) ≡ ys
 seam_drop [] ys = refl
 seam_drop (x ∷ xs) ys = seam_drop xs ys
@@ -77,7 +74,7 @@ pub stopped : (stop end : ℕ) (text w more : List ℕ) → stop_in text stop �
 stopped stop end text w [] at clean ends is = absurd (none-some end (sym (ap (λ t. stop_in t stop) is ∙ stop_nowhere stop w clean) ∙ at))
 stopped stop end text w (c ∷ more) at clean ends is =
     let same : end ≡ length w = same_Some end (length w) (sym at ∙ ap (λ t. stop_in t stop) is ∙ stop_here stop w c more clean ends) in (
-      ap (λ n. take n text) same ∙ ap (take (length w)) is ∙ seam_take w (c ∷ more),
+      ap (λ n. take n text) same ∙ ap (take (length w)) is ∙ take-append_seam w (c ∷ more),
       ap (λ n. drop n text) same ∙ ap (drop (length w)) is ∙ seam_drop w (c ∷ more),
     )
 

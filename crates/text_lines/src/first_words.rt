@@ -9,7 +9,7 @@ ghost use Rattle.text_lines.specs.Steps.Reading.{stop_in, HasNone, StopsAt, IsRe
 
 use crate::numbers::number_of;
 use crate::read_values::value_of;
-use power_flow::Kind;
+use declared_names::Kind;
 use std_blocks::Value;
 
 fn stop_in(text: &[u8], stop: u8) -> Option<usize>

@@ -7,9 +7,9 @@ ghost use Rattle.text_lines.specs.Lists.{give_text, gives_text};
 
 use crate::gaps::push_gap;
 use crate::values::push_value;
-use plant::TaskCode;
 use std::alloc::AllocError;
 use std_blocks::Value;
+use task_codes::TaskCode;
 
 /// Writes an output and its value, as `A.N=1`, behind a line.
 fn push_give(

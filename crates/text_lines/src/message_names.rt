@@ -11,7 +11,8 @@ use crate::beginnings::behind;
 use crate::behind_parts::behind_three;
 use crate::first_words::number_at;
 use crate::names::{resource_name, task_name};
-use plant::{Plant, TaskRef};
+use plant::Plant;
+use task_codes::TaskRef;
 
 /// What stands behind a task's name, as `R1.FAST`.
 fn behind_name<'a>(text: &'a [u8], plant: &Plant, task: TaskRef) -> Option<&'a [u8]>

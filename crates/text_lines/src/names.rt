@@ -2,8 +2,9 @@ ghost use Rattle.std.specs.Prelude.{◌≡◌, OnOk};
 ghost use Rattle.text_lines.specs.Growing.{GrowsBy};
 ghost use Rattle.text_lines.specs.LineParts.{resource_text, task_name, task_text};
 
-use plant::{Plant, TaskRef};
+use plant::Plant;
 use std::alloc::AllocError;
+use task_codes::TaskRef;
 
 /// A resource's name as it was declared; empty where there is no such resource.
 pub fn resource_name(plant: &Plant, resource: usize) -> &str

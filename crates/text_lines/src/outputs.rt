@@ -14,10 +14,10 @@ ghost use Rattle.text_lines.specs.Steps.Reading.{output_name, blank_give, blank_
 use crate::beginnings::behind;
 use crate::behind_parts::behind_three;
 use crate::first_words::value_at;
-use plant::TaskCode;
-use power_flow::Kind;
+use declared_names::Kind;
 use std::alloc::{AllocError, Global};
 use std_blocks::Value;
+use task_codes::TaskCode;
 
 /// What stands behind an output's name, as `A.N`; None too where there is no such output.
 fn behind_output<'a>(text: &'a [u8], code: &TaskCode, output: usize) -> Option<&'a [u8]>

@@ -10,7 +10,7 @@ ghost use Rattle.text_lines.specs.ReadParts.{IsInRange};
 
 use crate::beginnings::are_same;
 use crate::numbers::number_of;
-use power_flow::Kind;
+use declared_names::Kind;
 use std_blocks::Value;
 
 /// The number that a word writes, also with a plus or zeros before it.

@@ -14,8 +14,9 @@ use crate::message_line::push_message;
 use crate::message_names::{behind_task, pair_at};
 use crate::outputs::gives_behind;
 use evaluation::{Image, Message, Name};
-use plant::{Plant, TaskCode, TaskRef};
+use plant::Plant;
 use std::alloc::{AllocError, Global};
+use task_codes::{TaskCode, TaskRef};
 
 /// A message of a task: the one that a line is, if it is one. Other lines may be read too.
 fn read_freely(

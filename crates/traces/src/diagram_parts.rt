@@ -3,9 +3,9 @@ ghost use Rattle.text_lines.specs.Growing.{GrowsBy};
 ghost use Rattle.traces.specs.Diagram.{band_text, corner, drawn_value, high_text, head_text, low_text, lower_side, extent_text, mark_at, mark_label, mark_line, mark_place, mark_text, mark_time, row_head, row_name, row_title, segment_text, shown_text, sides, size_text, style_text, svg_text, title_text, upper_side, value_band, y_of};
 
 use crate::escaped::push_escaped;
-use crate::moments::time_of;
 use crate::scale::Scale;
 use crate::segments::Segment;
+use crate::track::time_of;
 use std::alloc::{AllocError, Global};
 use std::fmt::Write;
 use std_blocks::Value;

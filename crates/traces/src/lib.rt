@@ -7,7 +7,6 @@ mod diagram_parts;
 mod escaped;
 mod evaluated_moments;
 mod label;
-mod moments;
 mod output_texts;
 mod outputs;
 mod scale;

@@ -10,9 +10,10 @@ ghost use Rattle.traces.specs.Outputs.{code_tracks, output_track, resource_track
 use crate::track::{Scope, Track};
 use declared_names::first_value;
 use evaluation::Evaluation;
-use plant::{Plant, TaskCode, TaskRef};
+use plant::Plant;
 use std::alloc::{AllocError, Global};
 use std_blocks::Value;
+use task_codes::{TaskCode, TaskRef};
 use text_lines::push_resource;
 
 /// Whether both are one task.

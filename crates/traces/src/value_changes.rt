@@ -4,8 +4,7 @@ ghost use Rattle.text_lines.specs.Growing.{GrowsBy};
 ghost use Rattle.traces.specs.Tracks.{is_same, is_same_scope, value_at, value_before};
 ghost use Rattle.traces.specs.ValueChanges.{width_of, variable_line, scope_line, enter_lines, leave_lines, scope_lines, scope_before, declared_lines, declared_lines_of, timescale_line, end_of_definitions, head_lines, begin_of_values, end_of_values, value_line, change_line, change_of, change_lines, time_line, timed, first_lines, moment_lines, dump_of};
 
-use crate::moments::time_of;
-use crate::track::{Scope, Track};
+use crate::track::{Scope, Track, time_of};
 use std::alloc::{AllocError, Global};
 use std::fmt::Write;
 use std_blocks::Value;

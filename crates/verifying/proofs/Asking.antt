@@ -1,20 +1,17 @@
 -- From marks to what is stored, and from parts of a question to the whole.
-use Rattle.std.proofs.Common.{◌≡◌, ℕ, Option, Result, Ok, Err, IfOk, IfErr, zero, suc, ◌<◌, ◌≤◌, List, [], ◌∷◌, Bool, true, inl, inr, All, length, take, get_or, refl, sym, ◌∙◌, subst, arith}
+use Rattle.std.proofs.Common.{◌≡◌, ℕ, Option, Result, Ok, Err, IfOk, IfErr, zero, suc, ◌<◌, ◌≤◌, List, [], ◌∷◌, Bool, inl, inr, All, length, take, get_or, refl, sym, ◌∙◌, subst, arith}
 use Rattle.std.specs.Borrow.{Bor}
 use Rattle.std.specs.Global.{Vec}
 use Rattle.std.specs.List.{AllZip}
-use Rattle.std.proofs.lemmas.List.{length-map}
+use Rattle.std.proofs.lemmas.List.{length-map, get_or_default}
 use Rattle.std.proofs.lemmas.Option.{slice_get-get_or, slice_get_within}
 use Rattle.std.proofs.KnownBytes.{Keeps-refl}
 use Rattle.lists.proofs.Zips.{zip_back, zip_length}
+use Rattle.verifying.proofs.SetInputs.{declared_bool}
 use Rattle.network.specs.Links.{Diagram}
 use Rattle.declared_names.specs.declared.declarations.Declaration.{Declaration}
-use Rattle.declared_names.specs.declared.declarations.Declared.{Declared}
-use Rattle.declared_names.specs.declared.declarations.Declared.TheVariants.{Input, Output, Local, Instance}
-use Rattle.declared_names.specs.declared.declarations.Kind.{Kind}
-use Rattle.declared_names.specs.declared.declarations.Kind.TheVariants as kind
 use Rattle.text_commands.specs.EvalText.{IsLadderOfDrawing}
-use Rattle.text_commands.specs.Rows.{RowValue, IsRow, SpellRows, texts, is_bool, is_bool_kind}
+use Rattle.text_commands.specs.Rows.{RowValue, IsRow, SpellRows, texts}
 use Rattle.text_commands.specs.Steps.Refusing.{RefusesLadder, RefusesRows}
 use Rattle.text_commands.specs.declared.text_command_fault.TextCommandFault.{TextCommandFault}
 use Rattle.text_commands.specs.declared.text_command_fault.TextCommandFault.TheVariants.{Text, Word, Write, Memory}
@@ -23,7 +20,7 @@ use Rattle.verifying.specs.declared.verdict.Verdict.{Verdict}
 use Rattle.verifying.specs.declared.verdict.Verdict.TheVariants.{Holds, Fails, Undecided}
 use Rattle.power_flow.specs.LadderValue.{LadderValue}
 use Rattle.power_flow.specs.Meaning.{Moment}
-use Rattle.verifying.specs.Runs.{HasInputs, IsBool, IsBoolAt, Leads, SetupValue}
+use Rattle.verifying.specs.Runs.{HasInputs, IsBoolAt, Leads, SetupValue}
 use Rattle.verifying.specs.Verdicts.{AreVerdicts, IsVerdict}
 use Rattle.verifying.specs.Inputs.{AreFree, AreInputs, IsInput}
 use Rattle.verifying.specs.Stores.{stored_places}
@@ -42,17 +39,6 @@ use Rattle.verifying.specs.declared.verify_fault.VerifyFault.TheVariants.{Comman
 -- the marks are those of a ladder
 abbrev pub AreLadderMarks : List Declaration → List Diagram → List Bool → Type 0
 AreLadderMarks ds networks marks = AreMarksOf (stored_places ds networks) (length ds) marks
-
-kind_bool : (k : Kind) → is_bool_kind k ≡ true → k ≡ kind.Bool
-kind_bool kind.Bool e = refl
-kind_bool kind.Int e = cc
-kind_bool kind.Time e = cc
-
-declared_bool : (d : Declared) → is_bool d ≡ true → IsBool d
-declared_bool (Input k) e = kind_bool k e
-declared_bool (Output k) e = kind_bool k e
-declared_bool (Local k) e = kind_bool k e
-declared_bool (Instance b) e = cc
 
 row_bool : (ds : List Declaration) (word : List ℕ) (row : RowValue) → IsRow ds word row → IsBoolAt ds row.place
 row_bool ds word row is = let (e, at, bool) = is.bool in (e, at, declared_bool e.declared bool)
@@ -227,11 +213,6 @@ asking_refused drawing q ds networks marks fault ladder are (inl refused) = hold
 asking_refused drawing q ds networks marks fault ladder are (inr (inl refused)) = claims_refused drawing q ds networks marks fault ladder are refused
 asking_refused drawing q ds networks marks fault ladder are (inr (inr refused)) = free_refused drawing q ds networks marks refused.held fault ladder are refused.by refused.refused
 
-get_itself : {X : Type 0} (xs : List X) (k : ℕ) (e : X) → k < length xs → get_or xs k (get_or xs k e) ≡ get_or xs k e
-get_itself [] k e lt = absurd (omega arith)
-get_itself (x ∷ xs) zero e lt = refl
-get_itself (x ∷ xs) (suc k) e lt = get_itself xs k e (omega arith)
-
 inputs_of : (ds : List Declaration) (networks : List Diagram) (words : List (List ℕ)) (rows : List RowValue) (held : List Setting) (free : List ℕ) → AllZip (IsRow ds) words rows
     → AllZip (HoldsInput ds networks) rows held → AreFree ds networks held free → length free ≤ 20 → AreInputs ds networks free held
 inputs_of ds networks words rows held free read holds are few = record {
@@ -249,7 +230,7 @@ inputs_of ds networks words rows held free read holds are few = record {
 -- what a ladder with its inputs needs
 has_inputs : (ds : List Declaration) (networks : List Diagram) (free : List ℕ) (held : List Setting) → AreInputs ds networks free held → HasInputs ds free held
 has_inputs ds networks free held are = record {
-  free = λ k d lt. ((are.are_free.each (get_or free k d)).0 (k, lt, get_itself free k d lt)).0.bool;
+  free = λ k d lt. ((are.are_free.each (get_or free k d)).0 (k, lt, get_or_default free k (get_or free k d) d lt)).0.bool;
   few = are.few;
   held = λ k d lt. (are.are_held k d lt).bool;
 }

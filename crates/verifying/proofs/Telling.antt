@@ -1,7 +1,7 @@
 -- Lines of a run and texts of verdicts follow one another.
 use Rattle.std.proofs.Common.{◌≡◌, ℕ, ◌+◌, ◌<◌, ◌++◌, List, [], ◌∷◌, Bool, length, take, get_or, sym, subst, ap, ◌∙◌, arith}
 use Rattle.std.specs.Borrow.{Bor}
-use Rattle.std.proofs.lemmas.List.{length-map, take_more}
+use Rattle.std.proofs.lemmas.List.{length-map, take_more, get_or-map}
 use Rattle.power_flow.specs.Meaning.{Moment}
 use Rattle.text_commands.specs.Lines.{line_of}
 use Rattle.text_commands.specs.Rows.{texts}
@@ -11,7 +11,6 @@ use Rattle.verifying.specs.VerdictLines.{AreTexts, RunLines}
 use Rattle.verifying.specs.VerdictLines.RunLines.{begun, after}
 use Rattle.verifying.specs.VerdictLines.AreTexts.{none, more}
 use Rattle.verifying.specs.Steps.Adding.{AddsVerdictText}
-use Rattle.verifying.proofs.Reading.{text_at}
 
 -- before the first scan there is no line
 pub lines_begun : (u : SetupValue) (s : Moment) (text : List ℕ) → s ≡ first u → text ≡ [] → RunLines u [] s text
@@ -38,7 +37,7 @@ texts_more u file states scans names verdicts k d e old new inside also before a
     let long = length-map names (λ (w : Bor (List ℕ)). w.now) in
     let name = (get_or names k d).now in
     let within : k < length (texts names) = omega arith in
-    let ns : take (k + 1) (texts names) ≡ take k (texts names) ++ name ∷ [] = take_more (texts names) k [] within ∙ ap (λ w. take k (texts names) ++ w ∷ []) (text_at names k d inside) in
+    let ns : take (k + 1) (texts names) ≡ take k (texts names) ++ name ∷ [] = take_more (texts names) k [] within ∙ ap (λ w. take k (texts names) ++ w ∷ []) (get_or-map (λ (w : Bor (List ℕ)). w.now) names k d [] inside) in
     let vs = take_more verdicts k e also in
     subst (λ t. AreTexts u file states scans (take (k + 1) (texts names)) (take (k + 1) verdicts) t) (sym adds.added)
     (subst (λ n. AreTexts u file states scans n (take (k + 1) verdicts) (old ++ adds.text)) (sym ns)

@@ -9,7 +9,7 @@ ghost use Rattle.verifying.specs.Steps.Marks.{IsMarked, ClaimsRead, ClaimsRefuse
 
 use crate::inputs::{is_bool_at, is_marked};
 use crate::verify_fault::{ClaimFault, ClaimFaultKind, VerifyFault};
-use power_flow::Declarations;
+use declared_names::Declarations;
 use std::alloc::Global;
 
 /// The place of the BOOL variable of this name.

@@ -6,7 +6,7 @@ ghost use Rattle.verifying.specs.VerdictLines.{can_be_words, digit_of, digits_of
 
 use crate::row::Row;
 use crate::setup::{Setting, Setup};
-use power_flow::Declarations;
+use declared_names::Declarations;
 use std::alloc::AllocError;
 use std::fmt::Write;
 

@@ -11,6 +11,7 @@ use Rattle.std.proofs.lemmas.Bool.{eqb-true}
 use Rattle.std.proofs.Common.{length-take-le}
 use Rattle.std.proofs.lemmas.List.Splits.{length-slice_split}
 use Rattle.std.proofs.lemmas.Option.{slice_get-map, slice_get_read}
+use Rattle.text_lines.proofs.Sending.{appends_kept}
 use Rattle.plant.specs.PlantValue.{PlantValue}
 use Rattle.words.specs.Lines.{without_last, lines_of}
 use Rattle.evaluation.specs.InputTexts.{words_of}
@@ -23,7 +24,7 @@ use Rattle.world.specs.ScheduleText.{schedule_lines, is_idle, SpellsEvent, IsBad
 use Rattle.world.specs.declared.simulation.Simulated.{Simulated}
 use Rattle.world.specs.Simulated.{from_one, WritesRun, HasRun, RunsFirst, StopsAt, WritesBeginning, WritesFirst}
 use Rattle.world.specs.Steps.Simulating.{HasBroken, HasStopped}
-use Rattle.world.proofs.Simulating.{Stands, next_line, appends_kept}
+use Rattle.world.proofs.Simulating.{Stands, next_line}
 
 -- the words of a line
 abbrev pub line_words : List ℕ → List (List ℕ)

@@ -8,6 +8,7 @@ use Rattle.std.proofs.Math.Seq.{take-append_seam}
 use Rattle.std.proofs.lemmas.List.{append-nil, take_all, take-map, map-append, length-map}
 use Rattle.std.proofs.lemmas.Option.{slice_get-map}
 use Rattle.lists.proofs.Places.{push_here}
+use Rattle.text_lines.proofs.Sending.{appends_kept}
 use Rattle.plant.specs.PlantValue.{PlantValue}
 use Rattle.words.specs.Lines.{lines_of}
 use Rattle.world.specs.History.{Setting, history_of}
@@ -20,7 +21,7 @@ use Rattle.world.specs.declared.simulation.Simulated.{Simulated}
 use Rattle.world.specs.Simulated.{from_one, WritesRun, HasRun}
 use Rattle.world.specs.LiveRun.{HasAnswered, HasLiveRun, EndsLiveRun, StopsAtLast}
 use Rattle.world.specs.Steps.Live.{line_words, IsLineOf, HasGoneOn, HasDoneNext, HasStoppedNext}
-use Rattle.world.proofs.Simulating.{Stands, stands_first, stands_next, appends_kept}
+use Rattle.world.proofs.Simulating.{Stands, stands_first, stands_next}
 use Rattle.world.proofs.Ending.{ends_well, has_run, runs_first, stops_at, breaks_off, runs_out, runs_nothing}
 use Rattle.world.proofs.LinesRead.{fed, fed_more, whole_more, lines_with, lines_with_last, lines_fed}
 

@@ -2,6 +2,7 @@
 use Rattle.std.proofs.Common.{◌≡◌, ◌≢◌, inl, inr, ℕ, List, [], ◌∷◌, ◌++◌, length, Option, refl, arith}
 use Rattle.std.specs.Io.KnownBytes.{Keeps}
 use Rattle.std.proofs.KnownBytes.{Keeps-refl, Keeps-trans}
+use Rattle.text_lines.proofs.Sending.{appends_kept}
 use Rattle.world.specs.World.{WorldValue}
 use Rattle.text_lines.specs.Lines.{Gives}
 use Rattle.text_lines.specs.declared.lines.Given.TheVariants as gave
@@ -9,7 +10,6 @@ use Rattle.world.specs.declared.live_fault.LiveFault.{LiveFault}
 use Rattle.world.specs.declared.live_fault.LiveFault.TheVariants.{Syntax, TooLong, Read, Write, Memory}
 use Rattle.world.specs.Steps.Simulating.{HasDone}
 use Rattle.world.specs.Steps.Live.{line_words, HasRead, HasFailed, HasStoppedNext}
-use Rattle.world.proofs.Simulating.{appends_kept}
 
 -- what was written stays when it is handed on
 pub done_kept : (old new : WorldValue) (n m : ℕ) (words : List (List ℕ)) (from now next : Option (List ℕ)) → HasDone old new n m words from now → Keeps now next → HasDone old new n m words from next

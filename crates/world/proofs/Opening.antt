@@ -8,27 +8,13 @@ use Rattle.std.proofs.lemmas.List.{take_more, map-append}
 use Rattle.std.proofs.lemmas.Option.{none-some, same_Some, slice_get_past, get_or_from_slice_get}
 use Rattle.lists.proofs.Places.{element_at}
 use Rattle.std_blocks.specs.declared.value.Value.{Value}
-use Rattle.declared_names.specs.declared.declarations.Kind.{Kind}
-use Rattle.declared_names.specs.declared.declarations.Kind.TheVariants as kind
-use Rattle.declared_names.specs.Kinds.{kind_of, value_first}
 use Rattle.lists.specs.Items.{items_or_none}
+use Rattle.evaluation.specs.Steps.Facts.{initial_suits}
 use Rattle.plant.specs.PlantValue.{PlantValue, ResourceValue, codes_at}
-use Rattle.task_codes.specs.CodeValue.{CodeValue, lists_of, retained_kinds}
+use Rattle.task_codes.specs.CodeValue.{CodeValue, lists_of}
 use Rattle.evaluation.specs.Retained.{Suits, initial_retained}
 use Rattle.exchange_core.specs.CoreValue.{AreOpeningOf, initial_opening}
 use Rattle.world.specs.History.{Openings, AreOpenings, initial_openings, openings_at}
-
-first-kind : (k : Kind) → kind_of (value_first k) ≡ k
-first-kind kind.Bool = refl
-first-kind kind.Int = refl
-first-kind kind.Time = refl
-
-first-kinds : (ks : List Kind) → map kind_of (map value_first ks) ≡ ks
-first-kinds [] = refl
-first-kinds (k ∷ ks) = rw (first-kind k, first-kinds ks) refl
-
-initial-suits : (c : CodeValue) → Suits c (initial_retained c)
-initial-suits c = first-kinds (retained_kinds c)
 
 abbrev pub opening-of : ResourceValue → List (List Value)
 opening-of r = map initial_retained r.codes
@@ -44,7 +30,7 @@ length-map f (x ∷ xs) = ap suc (length-map f xs)
 
 suits-each : (cs : List CodeValue) (k : ℕ) (code : CodeValue) (values : List Value) → slice_get cs k ≡ Some code → slice_get (map initial_retained cs) k ≡ Some values → Suits code values
 suits-each [] k code values e f = absurd (none-some code e)
-suits-each (c ∷ cs) zero code values e f = subst (Suits code) (ap initial_retained (sym (same_Some c code e)) ∙ same_Some (initial_retained c) values f) (initial-suits code)
+suits-each (c ∷ cs) zero code values e f = subst (Suits code) (ap initial_retained (sym (same_Some c code e)) ∙ same_Some (initial_retained c) values f) (initial_suits code)
 suits-each (c ∷ cs) (suc k) code values e f = suits-each cs k code values e f
 
 -- where nothing was kept there are openings

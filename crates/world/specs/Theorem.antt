@@ -12,7 +12,7 @@ use Rattle.world.specs.World.{WorldValue, world_of, latest_at, held_at}
 use Rattle.world.specs.Consistent.{TakesOnly, NeverGoesBack, NeverFalls}
 
 -- the world after the first events of a list whose run this is
-abbrev pub world_after : Setting → List Event → List Evaluated → WorldValue
+abbrev pub world_after : (s : Setting) (before : List Event) (log : List Evaluated) → WorldValue
 world_after s before log = world_of s before (take (made_count (history_of s before)) log)
 
 -- How an evaluation of a run came about: x is the entry at place k.

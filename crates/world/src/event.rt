@@ -1,5 +1,5 @@
 use evaluation::Inputs;
-use plant::TaskRef;
+use task_codes::TaskRef;
 
 /// What may happen in a plant.
 #[derive(Drop)]

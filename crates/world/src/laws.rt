@@ -1,5 +1,6 @@
-// What holds for every list of events.
+// What holds for every list of events, and for every schedule.
 ghost use Rattle.world.specs.Laws.{KeptIsLatest, PairsRise, OneRun};
+ghost use Rattle.world.specs.ScheduleLaws.{OneReading};
 
 use evaluation::one_evaluation;
 
@@ -18,4 +19,9 @@ pub fn pairs_rise()
 /// Whatever happens, keeping the greatest pair of what is delivered keeps the latest.
 pub fn keeping_the_greatest_keeps_the_latest()
     ensures { KeptIsLatest }
+{}
+
+/// A text spells one list of events.
+pub fn one_reading()
+    ensures { OneReading }
 {}

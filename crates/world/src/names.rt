@@ -6,7 +6,8 @@ ghost use Rattle.plant.specs.Find.{Finds};
 ghost use Rattle.plant.specs.PlantValue.{ResourceValue, TaskValue};
 ghost use Rattle.world.specs.ScheduleText.{resource_named, task_in, IsTaskWord, IsResourceWord};
 
-use plant::{Plant, Task, TaskRef};
+use plant::{Plant, Task};
+use task_codes::TaskRef;
 use words::is_plain_name;
 
 /// Whether the resource at a place has this name, whatever the case of the letters.

@@ -5,10 +5,11 @@ use crate::world_fault::WorldFault;
 use book::takes_never_fall;
 use evaluation::{Frame, Inputs, Retained};
 use exchange_core::{Accepted, Core, CoreFault, EvalFault};
-use plant::{Plant, TaskRef};
+use plant::Plant;
 use std::alloc::{AllocError, Global};
 use std::marker::Model;
 use std::sync::Arc;
+use task_codes::TaskRef;
 
 /// The resources of a plant, the events that were done to them, and the evaluations that they made.
 #[derive(Drop)]

@@ -10,8 +10,9 @@ use crate::event::Event;
 use crate::line_fault::LineFault;
 use crate::names::{resource_of, task_of};
 use evaluation::Inputs;
-use plant::{Plant, TaskRef};
+use plant::Plant;
 use std::alloc::Global;
+use task_codes::TaskRef;
 use words::number_up_to;
 
 /// The word that a line of an event begins with.

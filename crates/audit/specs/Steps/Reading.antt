@@ -21,7 +21,7 @@ abbrev pub AreKeptOf : CodeValue → List Value → Type 0
 AreKeptOf code values = AllZip IsKeptOf code.retained values
 
 -- the text of a START
-abbrev pub start_line : PlantValue → ℕ → ℕ → List (List Value) → List ℕ
+abbrev pub start_line : (plant : PlantValue) (n incarnation : ℕ) (opening : List (List Value)) → List ℕ
 start_line plant n incarnation opening =
     (codes "START " ++ resource_text plant n ++ codes " ")
     ++ (decimal incarnation ++ keeps_text (all_kept_text plant n opening))

@@ -54,7 +54,7 @@ if_of i None = None
 if_of i (Some y) = if y.name.incarnation == i then Some y else None
 
 -- the newest entry of a task, if it is of this incarnation
-abbrev pub newest_in : List Evaluated → TaskRef → ℕ → Option Evaluated
+abbrev pub newest_in : (older : List Evaluated) (t : TaskRef) (incarnation : ℕ) → Option Evaluated
 newest_in older t i = if_of i (find (is_of_task t) older)
 
 -- a name's number is one more than that of its task's newest entry in its incarnation

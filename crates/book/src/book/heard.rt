@@ -5,7 +5,7 @@ ghost use Rattle.book.specs.Fits.{AllFit};
 ghost use Rattle.book.specs.Steps.Deciding.{none_below, is_of_resource, keeps_heard, is_well_heard};
 
 use crate::book::Book;
-use crate::book::entry_at::entry_at;
+use crate::book::last_entry::entry_at;
 use evaluation::{Frame, Name};
 
 /// Whether one number is heard of each resource, none below its first incarnation, and none below what an earlier entry of this resource and incarnation has heard.

@@ -1,14 +1,23 @@
-ghost use Rattle.std.specs.Prelude.{◌≡◌, reverse};
+ghost use Rattle.std.specs.Prelude.{◌≡◌, reverse, slice_get};
 ghost use Rattle.std.specs.List.{find};
-ghost use Rattle.std.specs.Option.{option_copied};
+ghost use Rattle.std.specs.Option.{option_copied, option_and_then};
 ghost use Rattle.evaluation.specs.Last.{last_number, from_of};
 ghost use Rattle.book.specs.Steps.Deciding.{is_of_task, newest_in};
 
 use crate::book::Book;
-use crate::book::entry_at::entry_at;
 use crate::book::ledger::{last_place, places_of};
 use evaluation::Frame;
 use task_codes::TaskRef;
+
+/// The entry at an index, if there is one.
+pub fn entry_at(entries: &[Frame], index: Option<usize>) -> Option<&Frame>
+    ensures { option_copied result ≡ option_and_then (λ k. slice_get entries.now k) index }
+{
+    match index {
+        None => None,
+        Some(index) => entries.get(index),
+    }
+}
 
 /// The newest entry of a task.
 fn newest_of(book: &Book, task: TaskRef) -> Option<&Frame>

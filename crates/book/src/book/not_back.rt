@@ -5,7 +5,7 @@ ghost use Rattle.book.specs.Fits.{is_below};
 ghost use Rattle.book.specs.Steps.Deciding.{takes_from, keeps_take, keeps_takes, is_kept, is_not_back};
 
 use crate::book::Book;
-use crate::book::entry_at::entry_at;
+use crate::book::last_entry::entry_at;
 use crate::book::ledger::find_taker;
 use evaluation::{Frame, Name, Take};
 use task_codes::TaskRef;

@@ -6,7 +6,7 @@ ghost use Rattle.book.specs.Steps.Deciding.{is_named, has_named, is_known, keeps
 ghost use Rattle.book.specs.Steps.Ledger.{newest_place};
 
 use crate::book::Book;
-use crate::book::entry_at::entry_at;
+use crate::book::last_entry::entry_at;
 use crate::book::ledger::{find_place, places_of};
 use crate::book::same::is_same_image;
 use evaluation::{Frame, Image, Name, Take};

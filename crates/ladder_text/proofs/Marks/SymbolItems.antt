@@ -2,6 +2,7 @@
 use Rattle.std.proofs.Common.{ℕ, ◌+◌, ◌<◌, ◌≤◌, ◌≡◌, ◌≢◌, Option, Some, None, sym, ap, ◌∙◌, arith}
 use Rattle.std.specs.List.{slice_get}
 use Rattle.std.proofs.lemmas.Option.{none-some, same_Some}
+use Rattle.lists.specs.Rising.{IsAlikeOnce}
 use Rattle.drawings.specs.declared.mark.Mark.TheVariants.{ContactPart, CoilPart}
 use Rattle.drawings.specs.declared.contact.Contact.{Contact}
 use Rattle.drawings.specs.declared.coil.Coil.{Coil}
@@ -12,7 +13,7 @@ use Rattle.ladder_text.specs.Places.{Layout, contact_at, coil_at}
 use Rattle.ladder_text.specs.Names.{contact_with, coil_with, row_contacts, row_coils, contacts, coils}
 use Rattle.drawings.specs.Picture.{mark_at, IsSymbolPlace}
 use Rattle.ladder_text.specs.Picture.{picture_of}
-use Rattle.ladder_text.proofs.Rows.ListedItems.{IsPlaced, IsAlikeOnce, found_item, found_once}
+use Rattle.ladder_text.proofs.Rows.ListedItems.{IsPlaced, found_item, found_once}
 use Rattle.ladder_text.proofs.Marks.SymbolPlaces.{contact_parts, coil_parts, contacts_same, coils_same, mark-contact, mark-coil, drawn_inside}
 use Rattle.ladder_text.proofs.Marks.PictureMarks.{mark_at-inside}
 

@@ -6,6 +6,7 @@ use Rattle.std.proofs.lemmas.List.Folds.{list_any_at, list_all_at, Any-from_list
 use Rattle.std.proofs.lemmas.List.Sums.{list_all-from_AllPass}
 use Rattle.std.proofs.lemmas.List.{get_or-take}
 use Rattle.std.proofs.lemmas.Option.{slice_get_within, get_or_from_slice_get, slice_get-get_or, same_Some}
+use Rattle.lists.specs.Rising.{IsRising}
 use Rattle.ladder_rows.specs.declared.boxes.outline.Outline.{Outline}
 use Rattle.ladder_text.specs.Faults.{is_apart, same_corner}
 use Rattle.ladder_rows.specs.BoxTests.{share_place}
@@ -13,7 +14,7 @@ use Rattle.ladder_text.specs.FirstFault.{shares_before, IsSharedAt}
 use Rattle.ladder_rows.specs.Faults.{IsFirstAt}
 use Rattle.drawings.specs.declared.place.Place.{Place}
 use Rattle.ladder_text.specs.Steps.Search.{IsFirstShared}
-use Rattle.ladder_text.proofs.Rows.ListedItems.{IsRising, IsBefore}
+use Rattle.ladder_text.proofs.Rows.ListedItems.{IsBefore}
 
 -- boxes stand by row and then column of their corners
 abbrev pub AreRising : List Outline → Type 0

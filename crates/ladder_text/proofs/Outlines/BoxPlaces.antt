@@ -5,6 +5,7 @@ use Rattle.std.proofs.lemmas.Bool.{and_parts, and_from, or_cases, not-true, both
 use Rattle.std.proofs.lemmas.Option.{same_Some, slice_get_within, get_or_from_slice_get}
 use Rattle.std.proofs.lemmas.List.Elements.{All-weaker}
 use Rattle.std.proofs.lemmas.List.Folds.{list_any_at, list_all_at}
+use Rattle.lists.specs.Rising.{IsAlikeOnce}
 use Rattle.drawings.specs.declared.mark.Mark.TheVariants.{BoxPart}
 use Rattle.drawings.specs.declared.drawn_box.DrawnBox.{DrawnBox}
 use Rattle.drawings.specs.Picture.{mark_at, IsBoxPlace, IsWhole}
@@ -17,7 +18,7 @@ use Rattle.ladder_text.specs.Places.{Layout, in_box, mark, layout_of}
 use Rattle.ladder_text.specs.Names.{drawn_boxes}
 use Rattle.ladder_text.specs.Faults.{boxes_apart, is_apart, same_corner}
 use Rattle.ladder_text.specs.Picture.{picture_of}
-use Rattle.ladder_text.proofs.Rows.ListedItems.{IsPlaced, IsAlikeOnce, found_item, found_once, map_item}
+use Rattle.ladder_text.proofs.Rows.ListedItems.{IsPlaced, found_item, found_once, map_item}
 use Rattle.ladder_text.proofs.Marks.PictureMarks.{mark_at-inside}
 
 pub outlines_placed : AreBoxesWhole → (d : Rows) → IsPlaced (λ (o : Outline). o.top) (λ (o : Outline). o.left) (box_at d)

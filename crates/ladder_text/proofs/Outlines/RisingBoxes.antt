@@ -1,5 +1,6 @@
 -- Boxes stand by row and then column of their corners.
 use Rattle.std.proofs.Common.{ℕ, ◌<◌, ◌≡◌, arith, ◌⊎◌, inl, inr}
+use Rattle.lists.specs.Rising.{IsRising}
 use Rattle.drawings.specs.declared.drawn_box.DrawnBox.{DrawnBox}
 use Rattle.ladder_rows.specs.declared.boxes.outline.Outline.{Outline}
 use Rattle.ladder_rows.specs.Rows.{Rows, height, width}
@@ -7,7 +8,7 @@ use Rattle.ladder_rows.specs.Boxes.{box_at, row_outlines, outlines}
 use Rattle.ladder_rows.specs.Laws.{AreBoxesWhole}
 use Rattle.ladder_text.specs.Places.{layout_of}
 use Rattle.ladder_text.specs.Names.{drawn_boxes}
-use Rattle.ladder_text.proofs.Rows.ListedItems.{IsRising, IsBefore, found_rising}
+use Rattle.ladder_text.proofs.Rows.ListedItems.{IsBefore, found_rising}
 use Rattle.ladder_text.proofs.Outlines.BoxPlaces.{outlines_placed, drawn_box_item}
 
 pub outlines_rising : AreBoxesWhole → (d : Rows) → IsRising (IsBefore (λ (o : Outline). o.top) (λ (o : Outline). o.left)) (outlines d)

@@ -4,6 +4,7 @@ use Rattle.std.specs.List.{slice_get}
 use Rattle.std.proofs.lemmas.Bool.{cases_lt}
 use Rattle.std.proofs.lemmas.Option.{none-some}
 use Rattle.lists.proofs.Places.{slice_get-append}
+use Rattle.lists.specs.Rising.{IsRising, IsAlikeOnce}
 use Rattle.ladder_rows.specs.Rows.{upto}
 use Rattle.ladder_rows.specs.Boxes.{option_list}
 
@@ -73,10 +74,6 @@ found_item f h w k x e =
 abbrev pub IsPlaced : {A : Type 0} → (A → ℕ) → (A → ℕ) → (ℕ → ℕ → Option A) → Type 0
 IsPlaced {A} row column f = (r c : ℕ) (x : A) → f r c ≡ Some x → (row x ≡ r) × (column x ≡ c)
 
--- of two items the one before is below the other
-abbrev pub IsRising : {A : Type 0} → (A → A → Type 0) → List A → Type 0
-IsRising {A} IsBelow xs = (j k : ℕ) (x y : A) → j < k → slice_get xs j ≡ Some x → slice_get xs k ≡ Some y → IsBelow x y
-
 pub upto_rising : {A : Type 0} (key : A → ℕ) (IsBelow : A → A → Type 0) (f : ℕ → List A) → IsKeyed key f → ((i : ℕ) → IsRising IsBelow (f i))
     → (n : ℕ) → IsRising (λ x y. (key x < key y) ⊎ ((key x ≡ key y) × IsBelow x y)) (upto n f)
 upto_rising key IsBelow f keyed rising zero j k x y h a b = absurd (none-some x a)
@@ -116,10 +113,6 @@ found_rising {A} row column f placed h w =
     (λ r k x e. let j = upto_item w (λ c. option_list (f r c)) k x e in (placed r j.list x (option_item (f r j.list) j.place x j.is).1).0)
     (λ r. options_rising column (f r) (λ c x e. (placed r c x e).1) w)
     h
-
--- two items that are alike are at one place
-abbrev pub IsAlikeOnce : {A : Type 0} → (A → A → Type 0) → List A → Type 0
-IsAlikeOnce {A} alike xs = (j k : ℕ) (x y : A) → slice_get xs j ≡ Some x → slice_get xs k ≡ Some y → alike x y → j ≡ k
 
 not_before : (a b c e : ℕ) → a ≡ c → b ≡ e → (a < c) ⊎ ((a ≡ c) × (b < e)) → ⊥
 not_before a b c e i j (inl l) = absurd (omega (arith, i, l))

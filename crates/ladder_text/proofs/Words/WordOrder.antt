@@ -11,10 +11,11 @@ use Rattle.ladder_text.specs.Places.{Layout}
 use Rattle.ladder_text.specs.Names.{in_word, word_at, words}
 use Rattle.ladder_text.specs.FirstFault.{IsSpanAt}
 use Rattle.ladder_text.specs.Steps.Search.{IsFirstColumn}
-use Rattle.ladder_text.proofs.Rows.ListedItems.{IsRising, options_rising}
+use Rattle.ladder_text.proofs.Rows.ListedItems.{options_rising}
 use Rattle.ladder_text.proofs.Marks.SymbolPlaces.{cond_some_of}
 use Rattle.std.proofs.lemmas.Option.{same_Some}
 use Rattle.std.proofs.Common.{◌&&◌, not, ◌-◌}
+use Rattle.lists.specs.Rising.{IsRising}
 
 word_first : (p : Layout) (r c : ℕ) (s : Span) → word_at p r c ≡ Some s → s.first ≡ c
 unfolding word_at

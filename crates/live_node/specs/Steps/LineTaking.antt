@@ -6,10 +6,6 @@ use Rattle.live_node.specs.declared.live_lines.TakenLine.{TakenLine}
 use Rattle.live_node.specs.declared.live_lines.TakenLine.TheVariants.{Line, TooLong, End}
 use Rattle.live_node.specs.Stops.{IsLine}
 
--- the beginning of a line was taken, or nothing yet
-abbrev pub BeginsLine : Option (List ℕ) → Option (List ℕ) → Type 0
-BeginsLine old new = (part : List ℕ) × HasNoFeed part × Consumes old new part
-
 -- this was taken up to the end of a line: its line feed, or the end of all
 abbrev pub TakesToEnd : Option (List ℕ) → Option (List ℕ) → List ℕ → Bool → Type 0
 TakesToEnd old new rest true = Consumes old new (rest ++ 10 ∷ [])

@@ -41,7 +41,7 @@ abbrev pub AreInRange : DrawnBox → Type 0
 AreInRange b = (pin : DrawnPin) (o : Operand) → Contains b.pins pin → pin.operand ≡ Some o → IsInRange o.text
 
 -- a variable of this kind is declared by the name
-abbrev pub IsDeclaredVariable : List Declaration → List ℕ → Kind → Type 0
+abbrev pub IsDeclaredVariable : (ds : List Declaration) (name : List ℕ) → Kind → Type 0
 IsDeclaredVariable ds name k = (w : Declared) × (declared_at ds name ≡ Some w) × IsVariable w k
 
 -- what is stored at an operand goes to a variable of the pin's kind

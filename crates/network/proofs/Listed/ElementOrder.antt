@@ -2,7 +2,7 @@
 use Rattle.std.proofs.Common.{◌≡◌, ℕ, ◌+◌, ◌<◌, ◌⊎◌, inl, inr, List, [], ◌∷◌, ◌++◌, Option, Some, None, MatchOption, length, refl, sym, ap, ◌∙◌, arith}
 use Rattle.std.proofs.lemmas.Bool.{cases_eq}
 use Rattle.std.proofs.lemmas.Option.{slice_get_within}
-use Rattle.lists.proofs.Places.{push_cases, push_here}
+use Rattle.lists.proofs.Places.{push_cases, push_here, push_old}
 use Rattle.drawings.specs.Picture.{Picture, IsSound}
 use Rattle.drawings.specs.declared.place.Place.{Place}
 use Rattle.network.specs.declared.element.Element.{Element}
@@ -11,7 +11,6 @@ use Rattle.network.specs.Apart.{first_place}
 use Rattle.network.specs.Networks.{Precedes}
 use Rattle.network.specs.Steps.Listing.{AreElementsBefore, AreElementsOf, IsTheElementAt, IsNoElementAt}
 use Rattle.network.proofs.Elements.{place_same}
-use Rattle.network.proofs.Spots.{push_old}
 use Rattle.network.proofs.Listed.Sharing.{begins, has_on_page, has_row}
 
 -- a place before the next row is before this one, or is it

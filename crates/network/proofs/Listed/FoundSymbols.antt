@@ -3,6 +3,7 @@ use Rattle.std.proofs.Common.{◌≡◌, ℕ, zero, suc, ◌+◌, Bool, true, fa
 use Rattle.std.specs.List.{position, position_from}
 use Rattle.std.proofs.lemmas.Iterator.Adapters.{position_from-zero}
 use Rattle.lists.proofs.Members.{contains_at, at_contains}
+use Rattle.lists.proofs.Mapped.{mapped_at}
 use Rattle.network.specs.Steps.Numbers.{IsIndex, IsNoSpot}
 use Rattle.drawings.specs.Picture.{Picture, IsSound, mark_at}
 use Rattle.drawings.specs.declared.mark.Mark.{Mark}
@@ -20,7 +21,7 @@ use Rattle.network.specs.Apart.{first_place, Has}
 use Rattle.network.specs.Networks.{IsElementOf}
 use Rattle.network.specs.Steps.Listing.{IsTheElementAt, IsNoElementAt}
 use Rattle.network.specs.Steps.Symbols.{contact_places, coil_places, box_places, IsInside, IsBehind, BeginNowhereInside, AllElsewhere, IsNumberOf, is_contact_at, is_coil_at, TellsNumber}
-use Rattle.network.proofs.Basics.{some_is, get_map, map_get}
+use Rattle.network.proofs.Basics.{some_is, get_map}
 use Rattle.network.proofs.Spots.{same_place, other_place}
 use Rattle.network.proofs.Listed.Sharing.{mark_of, has_mark, begins, shared, the_element}
 
@@ -47,7 +48,7 @@ sought {X = X} p (y ∷ ys) n = by (p y) refl (sought p ys (n + 1)) where
 sought_contact : (contacts : List ContactRecord) (at : Place) (r : Option ℕ) → Sought (is_contact_at at) contacts 0 r
     → TellsNumber (contact_places contacts) at r
 sought_contact contacts at None none = λ k h.
-    let w = map_get (λ (c : ContactRecord). place c.row c.column) contacts k at h in
+    let w = mapped_at (λ (c : ContactRecord). place c.row c.column) contacts k at h in
     other_place (place w.0.row w.0.column) at (sym (none k w.0 w.1)) w.2
 sought_contact contacts at (Some m) w =
     let same : m ≡ w.0 = (let e = w.2 in omega arith) in
@@ -56,7 +57,7 @@ sought_contact contacts at (Some m) w =
 sought_coil : (coils : List CoilRecord) (at : Place) (r : Option ℕ) → Sought (is_coil_at at) coils 0 r
     → TellsNumber (coil_places coils) at r
 sought_coil coils at None none = λ k h.
-    let w = map_get (λ (c : CoilRecord). place c.row c.column) coils k at h in
+    let w = mapped_at (λ (c : CoilRecord). place c.row c.column) coils k at h in
     other_place (place w.0.row w.0.column) at (sym (none k w.0 w.1)) w.2
 sought_coil coils at (Some m) w =
     let same : m ≡ w.0 = (let e = w.2 in omega arith) in
@@ -75,16 +76,16 @@ coil_position coils at r e =
 
 -- what has the number of a place
 pub contact_there : (contacts : List ContactRecord) (at : Place) (k : ℕ) → IsNumberOf (contact_places contacts) at k → (c : ContactRecord) × (slice_get contacts k ≡ Some c) × (place c.row c.column ≡ at)
-contact_there contacts at k h = map_get (λ (c : ContactRecord). place c.row c.column) contacts k at h
+contact_there contacts at k h = mapped_at (λ (c : ContactRecord). place c.row c.column) contacts k at h
 
 pub coil_there : (coils : List CoilRecord) (at : Place) (k : ℕ) → IsNumberOf (coil_places coils) at k → (c : CoilRecord) × (slice_get coils k ≡ Some c) × (place c.row c.column ≡ at)
-coil_there coils at k h = map_get (λ (c : CoilRecord). place c.row c.column) coils k at h
+coil_there coils at k h = mapped_at (λ (c : CoilRecord). place c.row c.column) coils k at h
 
 module _ (g : Picture) (sound : IsSound g) (at : Place) where
   -- what begins at a place of the index
   pub box_there : (boxes : List Spot) → IsIndex (box_places g.boxes) boxes → (m k : ℕ) → slice_get boxes m ≡ Some (record { place = at; element = k })
       → (b : DrawnBox) × (slice_get g.boxes k ≡ Some b) × (place b.top b.left ≡ at)
-  box_there boxes are m k h = map_get (λ (b : DrawnBox). place b.top b.left) g.boxes k at (are.owned m _ h)
+  box_there boxes are m k h = mapped_at (λ (b : DrawnBox). place b.top b.left) g.boxes k at (are.owned m _ h)
 
   other_mark : (f : Element) (mark : Mark) → IsElementOf g f → first_place f ≡ at → mark_at g at.row at.column ≡ mark → mark_of f ≡ mark
   other_mark f mark is begins' e = sym (has_mark g sound f at is (begins g sound f at begins')) ∙ e

@@ -2,7 +2,7 @@
 use Rattle.std.proofs.Common.{◌≡◌, ℕ, ◌+◌, ◌<◌, ◌≤◌, inl, inr, List, [], ◌∷◌, ◌++◌, Option, Some, None, Any, get_or, length-append, slice_get, slice_index, length, refl, sym, ap, ◌∙◌, arith}
 use Rattle.std.proofs.lemmas.Bool.{cases_eq, cases_lt}
 use Rattle.std.proofs.lemmas.Option.{slice_get_within, slice_get-get_or, get_or_from_slice_get}
-use Rattle.lists.proofs.Places.{push_cases, push_here}
+use Rattle.lists.proofs.Places.{push_cases, push_here, push_old}
 use Rattle.lists.proofs.Members.{at_contains}
 use Rattle.drawings.specs.Picture.{Picture, IsSound, mark_at}
 use Rattle.drawings.specs.declared.place.Place.{Place}
@@ -16,7 +16,6 @@ use Rattle.network.specs.Steps.Pairs.{AreLabels}
 use Rattle.network.specs.Steps.Ranks.{AreTops, AreRanksOf, AreEntries, AreRanks}
 use Rattle.network.proofs.Basics.{some_is, one_at}
 use Rattle.network.proofs.Elements.{place_same}
-use Rattle.network.proofs.Spots.{push_old}
 
 pub chained_is : (g : Picture) {e f : Element} → IsElementOf g e → Chained g e f → IsElementOf g f
 chained_is g is here = is

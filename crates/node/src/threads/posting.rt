@@ -5,8 +5,9 @@ use crate::threads::inbox::Inbox;
 use crate::threads::of_plant::OfPlant;
 use crossbeam_channel::Sender;
 use evaluation::Frame;
-use plant::{Plant, TaskRef};
+use plant::Plant;
 use std::sync::Wait;
+use task_codes::TaskRef;
 
 /// Whether some task of a resource takes from a task.
 fn takes(plant: &Plant, resource: usize, producer: TaskRef) -> bool {

@@ -9,9 +9,10 @@ use crate::threads::worker::Worker;
 use crossbeam_channel::{Receiver, Sender};
 use keepers::Keeper;
 use node_reports::{Opening, RunFault};
-use plant::{Plant, TaskRef};
+use plant::Plant;
 use std::alloc::{AllocError, Global};
 use std::sync::Arc;
+use task_codes::TaskRef;
 
 /// Makes an inbox for each resource, with its door.
 pub(crate) fn make_inboxes(

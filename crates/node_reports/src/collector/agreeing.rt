@@ -11,9 +11,9 @@ use crate::journal::Journal;
 use crate::journals::Journals;
 use crate::plant_book::PlantBook;
 use crate::run_fault::RunFault;
+use book::Book;
 use evaluation::Frame;
 use plant::Plant;
-use world::Book;
 
 /// Whether the journals are those of the plant's resources in order, begin in the book's first incarnations, and made the book's entries, if this tells whether they made these.
 pub(crate) fn agree_if(book: &Book, plant: &Plant, journals: &[Journal], are_made: bool) -> bool

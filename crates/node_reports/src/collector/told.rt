@@ -18,8 +18,9 @@ use crate::node_fault::NodeFault;
 use crate::node_faults::NodeFaults;
 use crate::run_fault::RunFault;
 use crate::step::Step;
-use plant::{Plant, TaskRef};
+use plant::Plant;
 use std::alloc::{AllocError, Global};
+use task_codes::TaskRef;
 
 /// Marks the place of the ticket of a restart.
 fn mark_restart(marks: &mut [bool], step: &Step)

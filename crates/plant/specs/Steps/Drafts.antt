@@ -142,7 +142,7 @@ pub record IsFeedOf (plant : PlantValue) (ds : List Declaration) (b : Bind) (f :
   pub origin_is : IsOriginOf plant b.source f.origin f.kind
 
 -- a bind has an input, and a source of its kind
-abbrev pub HasFeed : PlantValue → List Declaration → Bind → Type 0
+abbrev pub HasFeed : (plant : PlantValue) (ds : List Declaration) → Bind → Type 0
 HasFeed plant ds b = (f : Feed) × IsFeedOf plant ds b f
 
 -- the outputs of a code are those of its programs, and no program has two variables of one name

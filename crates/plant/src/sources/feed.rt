@@ -1,4 +1,4 @@
-use power_flow::Kind;
+use declared_names::Kind;
 use task_codes::TaskRef;
 use words::Address;
 

@@ -16,11 +16,10 @@ use crate::program_type::{ProgramType, type_named};
 use crate::sources::feed::{Feed, Origin};
 use crate::sources::lookup::{find_instance, find_output};
 use crate::sources::resource_draft::ResourceDraft;
-use declared_names::kind_of_space;
+use declared_names::{Declarations, Declared, Kind, kind_of_space};
 use plant_grammar::{
     Bind, GrammarFault, GrammarFaultKind, Item, Name, Resource, SourceLines, SourceName, Use,
 };
-use power_flow::{Declarations, Declared, Kind};
 use std::alloc::Global;
 use task_codes::{ProgramInstance, TaskRef};
 

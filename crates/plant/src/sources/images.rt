@@ -4,7 +4,7 @@ ghost use Rattle.std.specs.Prelude.{◌≡◌, ◌++◌, IfOk, OnOk};
 ghost use Rattle.task_codes.specs.CodeValue.{outputs_of, outputs_in};
 ghost use Rattle.plant.specs.Steps.Outputs.{output_placed, AddsOutput};
 
-use power_flow::{Declarations, Declared};
+use declared_names::{Declarations, Declared};
 use std::alloc::{AllocError, Global};
 use task_codes::{ProgramInstance, TaskOutput};
 

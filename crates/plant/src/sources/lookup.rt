@@ -7,7 +7,7 @@ ghost use Rattle.plant.specs.Steps.Outputs.{StandsBefore, IsEarlierOutput};
 
 use crate::named::find_named;
 use crate::sources::task_draft::TaskDraft;
-use power_flow::Kind;
+use declared_names::Kind;
 use task_codes::TaskOutput;
 
 /// The positions of the task that runs the instance of a name, and of its program there.

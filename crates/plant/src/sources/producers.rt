@@ -10,7 +10,7 @@ ghost use Rattle.plant.specs.Steps.Drafts.{drafted, AddsFirsts, tasks_taken, all
 use crate::sources::feed::{Feed, Origin};
 use crate::sources::resource_draft::ResourceDraft;
 use crate::sources::task_draft::TaskDraft;
-use power_flow::Kind;
+use declared_names::Kind;
 use std::alloc::{AllocError, Global};
 use task_codes::{Binding, Source, TaskRef};
 

@@ -3,7 +3,7 @@
 ghost use Rattle.std.specs.Prelude.{◌≡◌, ◌++◌, IfOk, OnOk};
 ghost use Rattle.task_codes.specs.CodeValue.{retained_at, retained_in, retained_of};
 
-use power_flow::{Declarations, Declared};
+use declared_names::{Declarations, Declared};
 use std::alloc::{AllocError, Global};
 use task_codes::{ProgramInstance, RetainedVariable};
 

@@ -77,7 +77,7 @@ pub record AreVariables (variables : List Declaration) : Type 0 where
   pub few : length variables ≤ 1000
 
 -- nothing in the list has this name
-abbrev pub IsNew : {A : Type 0} → (A → List ℕ) → List A → List ℕ → Type 0
+abbrev pub IsNew : {A : Type 0} (name_of : A → List ℕ) (xs : List A) → List ℕ → Type 0
 IsNew name_of xs name = IsNameTaken name_of xs name → ⊥
 
 abbrev pub is_task_line : Item → Bool

@@ -1,11 +1,11 @@
 -- What a scan stores is of the kind that stands there: so each store is made.
-use Rattle.std.proofs.Common.{◌≡◌, ◌≢◌, ℕ, zero, suc, ◌+◌, ◌<◌, ◌⊎◌, inl, inr, List, [], ◌∷◌, ◌++◌, Bool, Option, Some, None, All, Contains, length, length-set, slice_get, set, get_or, drop, drop-cons, add-one, refl, sym, ap, ◌∙◌, subst, arith}
+use Rattle.std.proofs.Common.{◌≡◌, ◌≢◌, ℕ, suc, ◌+◌, ◌<◌, ◌⊎◌, inl, inr, List, [], ◌∷◌, ◌++◌, Bool, Option, Some, None, All, Contains, length, length-set, slice_get, set, get_or, drop, drop-cons, add-one, refl, sym, ap, ◌∙◌, subst, arith}
 use Rattle.std.specs.Option.{option_and_then}
 use Rattle.std.specs.List.{AllByRecursion, AllZip}
 use Rattle.std.proofs.lemmas.Bool.{cases_eq}
 use Rattle.std.proofs.lemmas.List.Elements.{All-head, All-tail}
 use Rattle.std.proofs.lemmas.Option.{get_or_from_slice_get, slice_get_within}
-use Rattle.lists.proofs.Places.{some_same, element_at, slice_get-set_same, slice_get-set_other}
+use Rattle.lists.proofs.Places.{some_same, element_at, slice_get-set_same, slice_get-set_other, set_none}
 use Rattle.lists.proofs.Members.{all_from_places, cons_first, cons_later}
 use Rattle.lists.proofs.Zips.{zip_back}
 use Rattle.std_blocks.specs.declared.block_type.BlockType.{BlockType}
@@ -105,11 +105,6 @@ sorts_set ds slots place x right h = record {
         let is : x ≡ s = some_same (sym (slice_get-set_same slots place x inside) ∙ ap (slice_get (set slots place x)) (sym same) ∙ at') in
         subst (IsSort e.declared) is (right e (ap (slice_get ds) (sym same) ∙ at))
     by k e s at at' (inr apart) = h.each k e s at (sym (slice_get-set_other slots place k x apart) ∙ at')
-
-set_none : {X : Type 0} (xs : List X) (k : ℕ) (x : X) → slice_get xs k ≡ None → set xs k x ≡ xs
-set_none [] k x none = refl
-set_none (a ∷ xs) zero x none = absurd cc
-set_none (a ∷ xs) (suc k) x none = ap (λ l. a ∷ l) (set_none xs k x none)
 
 of_kind : (u v : Value) → kind_of u ≡ kind_of v → of_same_kind u v ≡ v
 of_kind (value.Bool a) (value.Bool b) same = refl

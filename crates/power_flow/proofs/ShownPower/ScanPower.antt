@@ -1,22 +1,13 @@
 -- What is shown of several networks, one after the other.
-use Rattle.std.proofs.Common.{◌≡◌, ℕ, List, [], ◌∷◌, ◌++◌, Bool, length, map, take, drop, sym, ap, ◌∙◌}
+use Rattle.std.proofs.Common.{◌≡◌, ℕ, List, ◌∷◌, ◌++◌, Bool, length, map, take, drop, sym, ap, ◌∙◌}
 use Rattle.std.proofs.Math.Seq.{take-append_seam, drop-append_seam}
 use Rattle.drawings.specs.declared.place.Place.{Place}
-use Rattle.network.specs.Links.{Diagram}
 use Rattle.declared_names.specs.declared.declarations.Declaration.{Declaration}
 use Rattle.scan_steps.specs.declared.slot.Slot.{Slot}
 use Rattle.power_flow.specs.declared.steps.circuit.Circuit.{Circuit}
 use Rattle.power_flow.specs.Meaning.{moment}
-use Rattle.power_flow.specs.Scan.{ScanMeaning}
 use Rattle.power_flow.specs.Shown.{ShowsNetwork, ShowsPower}
 use Rattle.power_flow.specs.Steps.Circuit.{circuit_diagram}
-
--- what is shown is of a scan
-pub shows_scan : (ds : List Declaration) (dt : ℕ) (networks : List Diagram) (slots : List Slot) (ms : List Bool) (slots' : List Slot) (ms' shown : List Bool)
-    → ShowsPower ds dt networks slots ms slots' ms' shown → ScanMeaning ds dt networks slots ms slots' ms'
-shows_scan ds dt [] slots ms slots' ms' shown h = (h.0, h.1)
-shows_scan ds dt (d ∷ networks) slots ms slots' ms' shown h =
-    (h.0, h.1.meaning, shows_scan ds dt networks h.0 (drop (length d.elements) ms) slots' (drop (length d.elements) ms') (drop (length d.elements) shown) h.2)
 
 -- the first network, and then the others
 pub shown_more : (ds : List Declaration) (rails : List Place) (dt : ℕ) (first : Circuit) (rest circuits : List Circuit) (slots mid after : List Slot) (ms here later power told : List Bool) (n : ℕ)

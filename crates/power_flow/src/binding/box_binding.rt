@@ -13,8 +13,9 @@ ghost use Rattle.name_faults.specs.Steps.Named.{IsDrawnOnce, AreOutputs, IsInRan
 ghost use Rattle.power_flow.specs.Steps.BoxTable.{boxes_of, own_box, output_if, IsSourceOfBit, IsSourceOfValue, IsOperandInRange, IsBitSource, IsBoundIfNamed, IsBoundBox, AreBoundOutputs, AreBoundIfNamed, AreBoundWith, ArePinRowsKept, AreRowsKept, AreRowsKeptWith};
 
 use crate::binding::source::name_source;
+use declared_names::Declarations;
 use drawings::{DrawnBox, DrawnPin, Side};
-use name_faults::{Declarations, literal_value};
+use name_faults::literal_value;
 use network::Element;
 use scan_steps::{BoundBox, BoundOutput, Source};
 use std::alloc::{AllocError, Global};

@@ -1,7 +1,8 @@
 ghost use Rattle.std.specs.Prelude.{◌≡◌};
 ghost use Rattle.power_flow.specs.Steps.NameSources.{declared_source, name_source};
 
-use name_faults::{Declarations, Declared, parts};
+use declared_names::{Declarations, Declared};
+use name_faults::parts;
 use scan_steps::Source;
 use words::Text;
 

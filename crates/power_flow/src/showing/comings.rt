@@ -10,8 +10,8 @@ ghost use Rattle.power_flow.specs.Waiting.{boxes_of, coils_of};
 
 use crate::steps::row_ends::note_element;
 use crate::steps::steps::{Numbers, is_at_rail, push_element};
+use declared_names::Declarations;
 use drawings::Place;
-use name_faults::Declarations;
 use network::{Element, Rails};
 use scan_steps::{BoundBox, Instance, Slots, Step, pass};
 use std::alloc::AllocError;

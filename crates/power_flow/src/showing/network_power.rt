@@ -10,7 +10,7 @@ use crate::showing::comings::read_elements;
 use crate::showing::uprights::join_uprights;
 use crate::steps::circuit::Circuit;
 use crate::steps::rows::Rows;
-use name_faults::{Declarations, names_of_one_place_are_one};
+use declared_names::{Declarations, names_of_one_place_are_one};
 use network::Rails;
 use scan_steps::{Instance, Slots};
 use std::alloc::{AllocError, Global};

@@ -10,7 +10,7 @@ use crate::showing::network_power::power_of;
 use crate::state::State;
 use crate::steps::circuit::Circuit;
 use arrayvec::ArrayVec;
-use name_faults::Declarations;
+use declared_names::Declarations;
 use network::Rails;
 use scan_steps::{Instance, Slots};
 use std::alloc::{AllocError, Global};

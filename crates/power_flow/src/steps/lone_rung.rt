@@ -4,8 +4,8 @@ ghost use Rattle.scan_steps.specs.declared.step.Step.{Step};
 ghost use Rattle.scan_steps.specs.declared.step.BoundCoil.{BoundCoil};
 ghost use Rattle.power_flow.specs.Steps.Circuit.{IsBoolAt, IsRung};
 
+use declared_names::{Declarations, Declared, Kind};
 use drawings::CoilKind;
-use name_faults::{Declarations, Declared, Kind};
 use scan_steps::{BoundBox, BoundCoil, Rung, Step, VariableContact};
 use std::alloc::{AllocError, Global};
 

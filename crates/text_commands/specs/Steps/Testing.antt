@@ -43,7 +43,7 @@ RefusesWordBehind ds rows expected number word Write = ⊥
 RefusesWordBehind ds rows expected number word Memory = Unit {0}
 
 -- the words weren't read: one is refused, or memory
-abbrev pub RefusesTest : List Declaration → List (List ℕ) → TextCommandFault → Type 0
+abbrev pub RefusesTest : (ds : List Declaration) (words : List (List ℕ)) → TextCommandFault → Type 0
 RefusesTest ds words (Text fault) = ⊥
 RefusesTest ds words (Word fault) = IsFirstRefusedOf ds words fault
 RefusesTest ds words Write = ⊥

@@ -57,7 +57,7 @@ pub record IsClaimFaultOf (ds : List Declaration) (marks : List Bool) (names : L
   pub before : ClaimsRead ds marks (take fault.number names) places
   pub refused : IsNoClaimOf ds marks name fault.kind
 
-abbrev pub ClaimsRefused : List Declaration → List Bool → List (List ℕ) → VerifyFault → Type 0
+abbrev pub ClaimsRefused : (ds : List Declaration) (marks : List Bool) (names : List (List ℕ)) → VerifyFault → Type 0
 ClaimsRefused ds marks names (Command (Text fault)) = ⊥
 ClaimsRefused ds marks names (Command (Word fault)) = ⊥
 ClaimsRefused ds marks names (Command Write) = ⊥

@@ -22,9 +22,10 @@ use Rattle.book.specs.Fits.{last_in, told_of, present_in, name_from, IsKnown, Is
 use Rattle.world.proofs.Histories.Tasks.{same_task-true}
 use Rattle.world.proofs.Histories.Latest.{Rises, precedes-irreflexive}
 use Rattle.world.proofs.Histories.Names.{AllLawful, AllBefore-entry, incarnation-low, log-rises, named}
-use Rattle.world.proofs.Histories.Heard.{heard_of, heard-get, length-heard, heard_of-first, heard-is, heard-low, HasHeardWithin, heard-within, get-index, index-none, none-far, heard-many}
+use Rattle.world.proofs.Histories.Heard.{heard_of, heard-get, length-heard, heard_of-first, heard-is, heard-low, HasHeardWithin, heard-within, index-none, none-far, heard-many}
 use Rattle.world.proofs.Histories.Steps.{is_for, number-latest}
 use Rattle.lists.proofs.Each.{Each-at, Each-from}
+use Rattle.lists.proofs.Places.{index_at}
 use Rattle.world.proofs.Consistency.Fitting.{last_among-entry, own-latest}
 use Rattle.world.proofs.Consistency.NotBack.{takes-reach, takes-each}
 
@@ -93,7 +94,7 @@ told-low : (s : Setting) (n : ℕ) (h : List Event) (log : List Evaluated) → A
 told-low s n h log all is y among = by (eqb y.name.task.resource n) refl where
   heard : (o : Option ℕ) → slice_get y.heard n ≡ o → slice_index y.heard n ≤ incarnation_of s n h
   heard None e = let none = index-none y.heard n e in omega (arith, none)
-  heard (Some i) e = let low = heard-low s h log all is y among n i e in let at = get-index y.heard n i e in omega (arith, low, at)
+  heard (Some i) e = let low = heard-low s h log all is y among n i e in let at = index_at y.heard n i e in omega (arith, low, at)
 
   by : (b : Bool) → eqb y.name.task.resource n ≡ b → cond b y.name.incarnation (slice_index y.heard n) ≤ incarnation_of s n h
   by true e = subst (λ r. y.name.incarnation ≤ incarnation_of s r h) (eqb-true y.name.task.resource n e) (incarnation-low s h log is y among)
@@ -115,7 +116,7 @@ heard-first s n h m = by (slice_get s.first m) refl where
   by : (o : Option ℕ) → slice_get s.first m ≡ o → slice_index s.first m ≤ slice_index (heard_by s n h) m
   by None e = let none = index-none s.first m e in omega (arith, none)
   by (Some x) e =
-      let at = get-index (heard_by s n h) m (heard_of s n m h) (heard-get s n m h ∙ ap (option_map (λ _. heard_of s n m h)) e) in
+      let at = index_at (heard_by s n h) m (heard_of s n m h) (heard-get s n m h ∙ ap (option_map (λ _. heard_of s n m h)) e) in
       let low = heard_of-first s n m h in
       omega (arith, at, low)
 
@@ -126,9 +127,9 @@ heard-earlier s n h y within many here now m = by (slice_get y.heard m) refl (sl
   by None e r f = let none = index-none y.heard m e in omega (arith, none)
   by (Some i) e None f = let lt = slice_get_within y.heard m i e in let far = none-far s.first m f in absurd (omega (arith, lt, far, many))
   by (Some i) e (Some x) f =
-      let at = get-index (heard_by s n h) m (heard_of s n m h) (heard-get s n m h ∙ ap (option_map (λ _. heard_of s n m h)) f) in
+      let at = index_at (heard_by s n h) m (heard_of s n m h) (heard-get s n m h ∙ ap (option_map (λ _. heard_of s n m h)) f) in
       let low = within here now m i e in
-      let own = get-index y.heard m i e in
+      let own = index_at y.heard m i e in
       omega (arith, at, low, own)
 
 -- the next evaluation's resource exists, since it has heard of itself

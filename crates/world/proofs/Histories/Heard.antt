@@ -7,7 +7,9 @@ use Rattle.std.proofs.lemmas.Bool.{eqb-true, eqb-false, eq-eqb, ne_eqb, leb-true
 use Rattle.std.proofs.lemmas.Option.{none-some, same_Some, slice_get_within}
 use Rattle.lists.specs.Among.{Among}
 use Rattle.lists.proofs.Each.{Each-at, Each-from}
-use Rattle.lists.proofs.Places.{same_by_slice_get, slice_get-set_same, slice_get-set_other}
+use Rattle.lists.proofs.Places.{same_by_slice_get, slice_get-set_same, slice_get-set_other, index_at}
+use Rattle.lists.proofs.Mapped.{enumerated_at}
+use Rattle.evaluation.specs.Steps.Facts.{greatest-first}
 use Rattle.task_codes.specs.declared.task_ref.TaskRef.{TaskRef}
 use Rattle.evaluation.specs.declared.field_input.FieldInput.{FieldInput}
 use Rattle.evaluation.specs.declared.name.Name.{Name}
@@ -22,16 +24,6 @@ use Rattle.world.proofs.Histories.Names.{AllLawful, incarnation-low, named}
 -- what is heard of one resource, where that exists
 abbrev pub heard_of : Setting → ℕ → ℕ → List Event → ℕ
 heard_of s n m h = cond (eqb m n) (incarnation_of s n h) (greatest (slice_index s.first m) (hearings_of n m h))
-
-mapped : (f : ℕ × ℕ → ℕ) (xs : List ℕ) (k m : ℕ) → slice_get (map f (enumerate_from k xs)) m ≡ option_map (λ x. f (k + m, x)) (slice_get xs m)
-mapped f [] k m = refl
-mapped f (x ∷ xs) k zero = ap (λ j. Some (f (j, x))) (omega arith)
-mapped f (x ∷ xs) k (suc m) = mapped f xs (k + 1) m ∙ ap (λ j. option_map (λ x. f (j, x)) (slice_get xs m)) (omega arith)
-
-pub get-index : (xs : List ℕ) (m x : ℕ) → slice_get xs m ≡ Some x → slice_index xs m ≡ x
-get-index [] m x e = absurd (none-some x e)
-get-index (y ∷ ys) zero x e = same_Some y x e
-get-index (y ∷ ys) (suc m) x e = get-index ys m x e
 
 pub index-none : (xs : List ℕ) (m : ℕ) → slice_get xs m ≡ None → slice_index xs m ≡ 0
 index-none [] m e = refl
@@ -53,12 +45,12 @@ set-none (y ∷ ys) (suc n) (suc m) x e = set-none ys n m x e
 -- one number is heard of each resource that exists
 pub heard-get : (s : Setting) (n m : ℕ) (h : List Event) → slice_get (heard_by s n h) m ≡ option_map (λ _. heard_of s n m h) (slice_get s.first m)
 heard-get s n m h =
-    mapped (λ e. cond (eqb e.0 n) (incarnation_of s n h) (greatest e.1 (hearings_of n e.0 h))) s.first 0 m
+    enumerated_at (λ e. cond (eqb e.0 n) (incarnation_of s n h) (greatest e.1 (hearings_of n e.0 h))) s.first 0 m
     ∙ ap (λ j. option_map (λ x. cond (eqb j n) (incarnation_of s n h) (greatest x (hearings_of n j h))) (slice_get s.first m)) (omega arith)
     ∙ by (slice_get s.first m) refl where
       by : (o : Option ℕ) → slice_get s.first m ≡ o → option_map (λ x. cond (eqb m n) (incarnation_of s n h) (greatest x (hearings_of n m h))) o ≡ option_map (λ _. heard_of s n m h) o
       by None e = refl
-      by (Some x) e = ap (λ y. Some (cond (eqb m n) (incarnation_of s n h) (greatest y (hearings_of n m h)))) (sym (get-index s.first m x e))
+      by (Some x) e = ap (λ y. Some (cond (eqb m n) (incarnation_of s n h) (greatest y (hearings_of n m h)))) (sym (index_at s.first m x e))
 
 length-mapped : (f : ℕ × ℕ → ℕ) (xs : List ℕ) (k : ℕ) → length (map f (enumerate_from k xs)) ≡ length xs
 length-mapped f [] k = refl
@@ -97,11 +89,6 @@ heard_of-low s n m h all = by (eqb m n) refl where
   by : (b : Bool) → eqb m n ≡ b → cond b (incarnation_of s n h) (greatest (slice_index s.first m) (hearings_of n m h)) ≤ incarnation_of s m h
   by true e = subst (λ r. incarnation_of s r h ≤ incarnation_of s m h) (eqb-true m n e) (omega arith)
   by false e = hearings-low s n m h all
-
--- and isn't below its first one
-greatest-first : (first : ℕ) (xs : List ℕ) → first ≤ greatest first xs
-greatest-first first [] = omega arith
-greatest-first first (x ∷ xs) = let low = greatest-first first xs in omega (arith, low)
 
 pub heard_of-first : (s : Setting) (n m : ℕ) (h : List Event) → slice_index s.first m ≤ heard_of s n m h
 heard_of-first s n m h = by (eqb m n) refl where
@@ -271,7 +258,7 @@ heard-restart s n h = same_by_slice_get (heard_by s n (Restart n ∷ h)) (slice_
   by m false e (inr some) =
       ap (option_map (λ _. greatest (slice_index s.first m) (filter_map (heard_in n m) (cond (eqb n n) [] (Restart n ∷ since_restart n h))))) some.1
       ∙ ap (λ b. Some (greatest (slice_index s.first m) (filter_map (heard_in n m) (cond b [] (Restart n ∷ since_restart n h))))) (eq-eqb n n refl)
-      ∙ ap (λ (i : ℕ). Some i) (get-index s.first m some.0 some.1) ∙ sym some.1 ∙ sym (slice_get-set_other s.first n m (incarnation_of s n h + 1) (eqb-false m n e))
+      ∙ ap (λ (i : ℕ). Some i) (index_at s.first m some.0 some.1) ∙ sym some.1 ∙ sym (slice_get-set_other s.first n m (incarnation_of s n h + 1) (eqb-false m n e))
 
 pub heard-hear : (s : Setting) (n o i : ℕ) (h : List Event) → eqb o n ≡ false → heard_by s n (Hear n o i ∷ h) ≡ with_heard (heard_by s n h) o i
 heard-hear s n o i h away = same_by_slice_get (heard_by s n (Hear n o i ∷ h)) (with_heard (heard_by s n h) o i) (λ m. heard-get s n m (Hear n o i ∷ h) ∙ by m (eqb o m) refl (within-or-not s.first m)) where
@@ -301,7 +288,7 @@ heard-hear s n o i h away = same_by_slice_get (heard_by s n (Hear n o i ∷ h)) 
       let same : o ≡ m = eqb-true o m e in
       let first : slice_get s.first o ≡ Some some.0 = ap (slice_get s.first) same ∙ some.1 in
       subst (λ k. option_map (λ _. heard_of s n k (Hear n o i ∷ h)) (slice_get s.first k) ≡ slice_get (with_heard (heard_by s n h) o i) k) same
-      (ap (option_map (λ _. heard_of s n o (Hear n o i ∷ h))) first ∙ ap (λ (j : ℕ). Some j) (grown ∙ ap (max i) (sym (get-index (heard_by s n h) o (heard_of s n o h) (there some.0 first))))
+      (ap (option_map (λ _. heard_of s n o (Hear n o i ∷ h))) first ∙ ap (λ (j : ℕ). Some j) (grown ∙ ap (max i) (sym (index_at (heard_by s n h) o (heard_of s n o h) (there some.0 first))))
       ∙ sym (slice_get-set_same (heard_by s n h) o (max i (slice_index (heard_by s n h) o)) (slice_get_within (heard_by s n h) o (heard_of s n o h) (there some.0 first))))
   by m false e (inr some) =
       ap (λ j. option_map (λ _. j) (slice_get s.first m)) (unchanged m e) ∙ sym (heard-get s n m h)
@@ -312,6 +299,6 @@ heard-fresh s n = same_by_slice_get (heard_by s n []) s.first (λ m. heard-get s
   by : (m : ℕ) (b : Bool) → eqb m n ≡ b → (slice_get s.first m ≡ None) ⊎ ((x : ℕ) × (slice_get s.first m ≡ Some x)) → option_map (λ _. cond b (incarnation_of s n []) (slice_index s.first m)) (slice_get s.first m) ≡ slice_get s.first m
   by m b e (inl none) = ap (option_map (λ _. cond b (incarnation_of s n []) (slice_index s.first m))) none ∙ sym none
   by m true e (inr some) =
-      let same : incarnation_of s n [] ≡ some.0 = (let at = get-index s.first n some.0 (ap (slice_get s.first) (sym (eqb-true m n e)) ∙ some.1) in omega (arith, at)) in
+      let same : incarnation_of s n [] ≡ some.0 = (let at = index_at s.first n some.0 (ap (slice_get s.first) (sym (eqb-true m n e)) ∙ some.1) in omega (arith, at)) in
       ap (option_map (λ _. incarnation_of s n [])) some.1 ∙ ap (λ (i : ℕ). Some i) same ∙ sym some.1
-  by m false e (inr some) = ap (option_map (λ _. slice_index s.first m)) some.1 ∙ ap (λ (i : ℕ). Some i) (get-index s.first m some.0 some.1) ∙ sym some.1
+  by m false e (inr some) = ap (option_map (λ _. slice_index s.first m)) some.1 ∙ ap (λ (i : ℕ). Some i) (index_at s.first m some.0 some.1) ∙ sym some.1

@@ -5,6 +5,7 @@ use Rattle.std.specs.List.{AllByRecursion, find, filter_map, cons_option, flat_m
 use Rattle.std.proofs.lemmas.Bool.{eq-eqb, ne_eqb, eqb-true, eqb-false, lt-ltb, le-leb, ltb-false, cases_eq}
 use Rattle.std.proofs.lemmas.Option.{same_Some, slice_get_within}
 use Rattle.lists.specs.Among.{Among}
+use Rattle.lists.proofs.Places.{index_at}
 use Rattle.evaluation.specs.declared.name.Name.{Name}
 use Rattle.evaluation.specs.Meaning.{Evaluated}
 use Rattle.evaluation.specs.Heard.{greatest}
@@ -14,7 +15,7 @@ use Rattle.world.specs.History.{Setting, is_lawful, after_events, incarnation_of
 use Rattle.book.specs.Fits.{present_in, NoneBelow, HasHeardNoMore, IsWellHeard}
 use Rattle.world.specs.Schedule.{known_from, is_of_node, known_of, restarts, hearing}
 use Rattle.world.proofs.Histories.Names.{after_append, incarnation-low}
-use Rattle.world.proofs.Histories.Heard.{heard_of, get-index}
+use Rattle.world.proofs.Histories.Heard.{heard_of}
 use Rattle.world.proofs.Histories.Steps.{incarnation-restart}
 use Rattle.world.proofs.Schedules.Scheduling.{after-lawful, Held, held-restart, held-hear, other_incarnation}
 
@@ -143,10 +144,10 @@ module _ (s : Setting) (log seen : List Evaluated) (name : Name) (heard : List �
     count = i - present_in s.first log j
 
     at_first : slice_index s.first j ≤ i
-    at_first = let low = well.not_below_first j in let is = get-index heard j i at in omega (arith, low, is)
+    at_first = let low = well.not_below_first j in let is = index_at heard j i at in omega (arith, low, is)
 
     old : known_of s.first log name j ≤ i
-    old = let low = known-low s.first name heard j well.not_below_first log well.not_below_earlier in let is = get-index heard j i at in omega (arith, low, is)
+    old = let low = known-low s.first name heard j well.not_below_first log well.not_below_earlier in let is = index_at heard j i at in omega (arith, low, is)
 
     apart : j ≢ hearer → eqb j hearer ≡ false
     apart away = ne_eqb j hearer away
@@ -154,7 +155,7 @@ module _ (s : Setting) (log seen : List Evaluated) (name : Name) (heard : List �
     begun : j ≢ hearer → Begun s h log seen (λ r. r ≡ hearer) j count (after_events s h (restarts s.first log j i))
     begun away =
         let is = (a.rest j (omega arith) away).0 in
-        let number = get-index heard j i at in
+        let number = index_at heard j i at in
         let limit = bound j in
         begin s log seen (λ r. r ≡ hearer) j count h a.held a.others place (omega (arith, is, number, limit))
 

@@ -3,6 +3,7 @@ use Rattle.std.proofs.Common.{◌≡◌, ℕ, ◌+◌, ◌<◌, ◌≤◌, Bool,
 use Rattle.std.specs.Prelude.{is_some, slice_get, slice_index, reverse}
 use Rattle.std.specs.Option.{option_map}
 use Rattle.std.proofs.lemmas.Bool.{and_parts, ltb-true, eqb-true}
+use Rattle.lists.proofs.Places.{index_at}
 use Rattle.task_codes.specs.declared.task_ref.TaskRef.{TaskRef}
 use Rattle.plant.specs.PlantValue.{code_at}
 use Rattle.evaluation.specs.declared.field_input.FieldInput.{FieldInput}
@@ -15,7 +16,7 @@ use Rattle.book.specs.Fits.{last_in}
 use Rattle.world.specs.Replays.{CouldBeMade, AllCouldBeMade}
 use Rattle.world.specs.BookLaws.{AreIncarnations, RunsCouldBeMade, RunsReplay}
 use Rattle.world.proofs.Histories.Names.{AllLawful, AllLawful-after, named}
-use Rattle.world.proofs.Histories.Heard.{heard_of, heard-get, heard-is, heard_of-low, get-index, index-none}
+use Rattle.world.proofs.Histories.Heard.{heard_of, heard-get, heard-is, heard_of-low, index-none}
 use Rattle.world.proofs.Histories.Steps.{incarnation-restart}
 use Rattle.world.proofs.Consistency.Fitting.{own-latest}
 
@@ -40,7 +41,7 @@ heard-fits s low n h all m = by (slice_get s.first m) refl where
   by : (o : Option ℕ) → slice_get s.first m ≡ o → slice_index (heard_by s n h) m ≤ 4294967295
   by None e = let none = index-none (heard_by s n h) m (heard-get s n m h ∙ ap (option_map (λ _. heard_of s n m h)) e) in omega (arith, none)
   by (Some x) e =
-      let at = get-index (heard_by s n h) m (heard_of s n m h) (heard-get s n m h ∙ ap (option_map (λ _. heard_of s n m h)) e) in
+      let at = index_at (heard_by s n h) m (heard_of s n m h) (heard-get s n m h ∙ ap (option_map (λ _. heard_of s n m h)) e) in
       let under = heard_of-low s n m h all in
       let fits = incarnation-fits s low m h all in
       omega (arith, at, under, fits)

@@ -27,8 +27,8 @@ use Rattle.book.specs.Fits.{last_in, told_of, present_in, name_from, is_below, I
 use Rattle.world.specs.Replays.{CouldBeMade, AllCouldBeMade, Replays}
 use Rattle.world.specs.Schedule.{known_from, restarts, hearings, delivery, events_of, schedule_of}
 use Rattle.world.proofs.Histories.Names.{after_append, length-log}
-use Rattle.world.proofs.Histories.Heard.{heard_of, heard-get, get-index, index-none, none-far}
-use Rattle.lists.proofs.Places.{same_by_slice_get}
+use Rattle.world.proofs.Histories.Heard.{heard_of, heard-get, index-none, none-far}
+use Rattle.lists.proofs.Places.{same_by_slice_get, index_at}
 use Rattle.evaluation.specs.Heard.{greatest}
 use Rattle.world.proofs.Histories.Steps.{latest-other_evaluate, number-latest}
 use Rattle.lists.proofs.Each.{Each-at}
@@ -281,7 +281,7 @@ module _ (s : Setting) (h : List Event) (log : List Evaluated) (x : Evaluated) (
         present m (inr away) = by (slice_get x.heard m) refl where
           by : (o : Option ℕ) → slice_get x.heard m ≡ o → incarnation_of s m told ≡ present_in s.first (x ∷ log) m
           by None e = let none = index-none x.heard m e in let is = told-away m away in let rest = (heard.rest m (none-far x.heard m e) away).0 in omega (arith, none, is, rest)
-          by (Some i) e = let at = get-index x.heard m i e in let is = told-away m away in let done = (heard.done m i (slice_get_within x.heard m i e) away e).0 in omega (arith, at, is, done)
+          by (Some i) e = let at = index_at x.heard m i e in let is = told-away m away in let done = (heard.done m i (slice_get_within x.heard m i e) away e).0 in omega (arith, at, is, done)
 
         known : (q m : ℕ) → m ≢ q → (q ≡ resource) ⊎ (q ≢ resource) → heard_of s q m told ≡ known_at s.first (x ∷ log) q (incarnation_of s q brought) m
         known q m other (inr away) =
@@ -297,7 +297,7 @@ module _ (s : Setting) (h : List Event) (log : List Evaluated) (x : Evaluated) (
               away e = other (e ∙ sym own)
 
               by : (o : Option ℕ) → slice_get x.heard m ≡ o → heard_of s resource m told ≡ slice_index x.heard m
-              by (Some i) e = (heard.done m i (slice_get_within x.heard m i e) away e).1 ∙ sym (get-index x.heard m i e)
+              by (Some i) e = (heard.done m i (slice_get_within x.heard m i e) away e).1 ∙ sym (index_at x.heard m i e)
               by None e =
                   let rest = (heard.rest m (none-far x.heard m e) away).1 in
                   let none = index-none x.heard m e in

@@ -4,7 +4,7 @@ use Rattle.std.proofs.Math.ListN.{set}
 use Rattle.std.specs.Prelude.{reverse, slice_get, is_some}
 use Rattle.std.specs.Option.{option_map, option_and_then}
 use Rattle.std.specs.List.{AllByRecursion, list_any, find}
-use Rattle.std.proofs.lemmas.Bool.{false≢true, eqb-true, eq-eqb, ne_eqb, cases_lt, cases_eq, lt-ltb, le-ltb}
+use Rattle.std.proofs.lemmas.Bool.{false≢true, eqb-true, eq-eqb, ne_eqb, cases_lt, cases_eq, lt-ltb, le-ltb, and_parts}
 use Rattle.std.proofs.lemmas.List.{take_all, drop_more, length-reverse, length-take-le, length-set}
 use Rattle.std.proofs.lemmas.Option.{none-some, same_Some, slice_get_within, slice_get-get_or}
 use Rattle.lists.proofs.Places.{slice_get-append, slice_get-set_same, slice_get-set_other}
@@ -29,12 +29,9 @@ use Rattle.world.proofs.Schedules.Scheduling.{named-true, named-itself}
 abbrev IsLow : ℕ → ℕ → Evaluated → Type 0
 IsLow n i y = y.name.task.resource ≡ n → y.name.incarnation ≤ i
 
-told-own : (n : ℕ) (y : Evaluated) → y.name.task.resource ≡ n → told_of n y ≡ y.name.incarnation
-told-own n y own = rw (eq-eqb y.name.task.resource n own) refl
-
 all-low : (first : List ℕ) (n i : ℕ) (older : List Evaluated) → present_in first older n ≤ i → AllByRecursion (IsLow n i) older
 all-low first n i [] up = tt
-all-low first n i (y ∷ ys) up = (λ own. let told = told-own n y own in omega (arith, up, told), all-low first n i ys (omega (arith, up)))
+all-low first n i (y ∷ ys) up = (λ own. let told : told_of n y ≡ y.name.incarnation = ap (λ b. cond b y.name.incarnation (slice_index y.heard n)) (eq-eqb y.name.task.resource n own) in omega (arith, up, told), all-low first n i ys (omega (arith, up)))
 
 -- A test of entries of resource n, with the incarnation i and without it: the newest entry that passes with it is the
 -- newest that passes without it, if that is of this incarnation.
@@ -84,10 +81,6 @@ and-turned true false true = refl
 and-turned true false false = refl
 and-turned false b c = refl
 
-and-first : (a b : Bool) → (a && b) ≡ true → a ≡ true
-and-first true b e = refl
-and-first false b e = absurd (false≢true e)
-
 -- what was taken last in an incarnation is what the newest taker took, if it is of this incarnation
 last-told : (first : List ℕ) (older : List Evaluated) (name : Name) → AllFit first older → AllByRecursion (IsLow name.task.resource name.incarnation) older → (q : TaskRef) → taken_in_incarnation name.incarnation (told_last older name.task.resource q) ≡ last_taken older name q
 last-told first older name fit low q = by (find (takes_from name.task.resource q) older) ∙ sym (ap (option_and_then (λ (y : Evaluated). taken_in q y.takes)) found) where
@@ -95,7 +88,7 @@ last-told first older name fit low q = by (find (takes_from name.task.resource q
   found =
       newest-in name.task.resource name.incarnation (has_taken_from name q) (takes_from name.task.resource q)
       (λ y. and-turned (eqb y.name.task.resource name.task.resource) (eqb y.name.incarnation name.incarnation) (list_any (λ (u : Take). same_task u.producer q) y.takes))
-      (λ y e. eqb-true y.name.task.resource name.task.resource (and-first (eqb y.name.task.resource name.task.resource) (list_any (λ (u : Take). same_task u.producer q) y.takes) e)) first older fit low
+      (λ y e. eqb-true y.name.task.resource name.task.resource (and_parts (eqb y.name.task.resource name.task.resource) (list_any (λ (u : Take). same_task u.producer q) y.takes) e).0) first older fit low
 
   some : (y : Evaluated) (b : Bool) → cond b (taken_in q y.takes) None ≡ option_and_then (λ (z : Evaluated). taken_in q z.takes) (cond b (Some y) None)
   some y true = refl

@@ -3,10 +3,11 @@ use Rattle.std.proofs.Common.{slice_index, slice_set, ltb, ◌&&◌, false, ◌�
 use Rattle.std.specs.Option.{option_map}
 use Rattle.std.specs.Prelude.{is_some, not, slice_get, slice_set, reverse}
 use Rattle.std.proofs.lemmas.Bool.{eq-eqb, ne_eqb, eqb-true, lt-ltb, le-ltb, le-leb}
-use Rattle.lists.proofs.Places.{element_at}
+use Rattle.lists.proofs.Places.{element_at, index_at}
 use Rattle.evaluation.specs.Heard.{greatest}
 use Rattle.std.proofs.lemmas.List.{length-set, reverse-append}
 use Rattle.std.proofs.lemmas.Option.{slice_get_within, slice_get_read}
+use Rattle.evaluation.specs.Steps.Facts.{state-left}
 use Rattle.power_flow.specs.StateValue.{StateValue}
 use Rattle.task_codes.specs.declared.task_ref.TaskRef.{TaskRef}
 use Rattle.plant.specs.PlantValue.{PlantValue, code_at, codes_at}
@@ -25,10 +26,9 @@ use Rattle.world.specs.World.{WorldValue, world_of, node_takes}
 use Rattle.world.specs.Step.{IsDone, IsEvaluatedNow}
 use Rattle.world.specs.Steps.Nodes.{IsNode, IsWorld}
 use Rattle.world.proofs.Histories.Names.{AllLawful, AllLawful-after}
-use Rattle.world.proofs.Histories.Heard.{heard_of, heard-get, get-index}
+use Rattle.world.proofs.Histories.Heard.{heard_of, heard-get}
 use Rattle.world.proofs.Histories.Steps.{incarnation-restart, number-latest}
 use Rattle.world.proofs.Worlds.Takes.{node-takes}
-use Rattle.world.proofs.Worlds.Leaving.{state-left}
 use Rattle.world.proofs.Worlds.Moves.{history-one_more, set-found, node-restart, node-other_restart, node-evaluate, node-other_evaluate}
 
 same_name : (a b : TaskRef) (i j m n : ℕ) → a ≡ b → i ≡ j → m ≡ n → ◌≡◌ {A = Name} (record { task = a; incarnation = i; number = m }) (record { task = b; incarnation = j; number = n })
@@ -218,7 +218,7 @@ module _ (s : Setting) (events : List Event) (log : List Evaluated) (cores : Lis
         let sized = world.sized in
         let firsts = world.firsts in
         let up = node_of.incarnation in
-        let begins = get-index s.first o low (slice_get_read s.first (length s.first) o low refl (omega (arith, there, sized, firsts)) first) in
+        let begins = index_at s.first o low (slice_get_read s.first (length s.first) o low refl (omega (arith, there, sized, firsts)) first) in
         rw (lt-ltb n (length s.plant.resources) (omega (arith, inside, sized)), lt-ltb o (length s.plant.resources) (omega (arith, there, sized)), le-leb (slice_index s.first o) i (omega (arith, begins, least)), le-leb i (incarnation_of s o (history_of s events)) (omega (arith, most, was, up))) refl
 
     -- what is news to the core is newer than what its resource has heard
@@ -239,7 +239,7 @@ module _ (s : Setting) (events : List Event) (log : List Evaluated) (cores : Lis
           let own : o ≡ n = eqb-true o hearer.resource e ∙ node.resource in
           let first = element_at s.first o (let sized = world.sized in let firsts = world.firsts in omega (arith, there, sized, firsts)) in
           let heard : slice_index (heard_by s n (history_of s events)) o ≡ heard_of s n o (history_of s events) =
-          get-index (heard_by s n (history_of s events)) o (heard_of s n o (history_of s events)) (heard-get s n o (history_of s events) ∙ ap (option_map (λ _. heard_of s n o (history_of s events))) first.1) in
+          index_at (heard_by s n (history_of s events)) o (heard_of s n o (history_of s events)) (heard-get s n o (history_of s events) ∙ ap (option_map (λ _. heard_of s n o (history_of s events))) first.1) in
           let is : heard_of s n o (history_of s events) ≡ incarnation_of s n (history_of s events) = ap (λ b. cond b (incarnation_of s n (history_of s events)) (greatest (slice_index s.first o) (hearings_of n o (history_of s events)))) (eq-eqb o n own) in
           let up : core.incarnation ≡ incarnation_of s n (history_of s events) = node_of.incarnation ∙ ap (λ r. incarnation_of s r (history_of s events)) own in
           ap (λ c. not c && (ltb o (length hearer.plant.resources) && ltb (slice_index hearer.heard o) i)) e

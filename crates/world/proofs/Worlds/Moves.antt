@@ -5,10 +5,11 @@ use Rattle.std.proofs.lemmas.Bool.{eq-eqb, ne_eqb, eqb-true, eqb-false, false≢
 use Rattle.std.proofs.lemmas.Bool.Decides.{nat_tests}
 use Rattle.std.proofs.lemmas.List.{length-set, set-get_or, reverse-append, reverse-reverse, length-reverse}
 use Rattle.std.proofs.lemmas.Option.{none-some, same_Some, slice_get_within, slice_get_read}
-use Rattle.lists.proofs.Tables.{cell_same, cell_other, cell_filled, cell_place, row_lengths_kept, row_lengths_filled}
+use Rattle.lists.proofs.Tables.{cell_same, cell_other, cell_place, row_lengths_kept}
+use Rattle.exchange_core.specs.Steps.Fresh.{fresh_known, fresh_shape}
 use Rattle.declared_names.specs.Kinds.{kind_of}
 use Rattle.task_codes.specs.declared.task_ref.TaskRef.{TaskRef}
-use Rattle.plant.specs.PlantValue.{ResourceValue, PlantValue, code_at, IsSoundPlant}
+use Rattle.plant.specs.PlantValue.{PlantValue, code_at, IsSoundPlant}
 use Rattle.task_codes.specs.CodeValue.{CodeValue, image_kinds}
 use Rattle.evaluation.specs.declared.field_input.FieldInput.{FieldInput}
 use Rattle.evaluation.specs.Meaning.{Evaluated}
@@ -16,7 +17,7 @@ use Rattle.exchange_core.specs.declared.accepted.Accepted.{Accepted}
 use Rattle.exchange_core.specs.declared.accepted.Accepted.TheVariants.{Taken, Old, Unused, Stray}
 use Rattle.evaluation.specs.Heard.{is_addressed}
 use Rattle.evaluation.specs.Last.{same_task, left_by}
-use Rattle.exchange_core.specs.Held.{known, with_known, empty_for, IsShaped}
+use Rattle.exchange_core.specs.Held.{known, with_known}
 use Rattle.exchange_core.specs.Steps.Knowing.{has_place}
 use Rattle.exchange_core.specs.CoreValue.{CoreValue, IsUsable, IsAccepted, is_greater, is_news, HasHeard, own_task, kept_at, IsRestartOf}
 use Rattle.world.specs.declared.event.Event.{Event}
@@ -303,19 +304,6 @@ world-deliver_at s events log cores m n core new x a world inside at low high ca
     (slice_get_read log (length log) (m - 1) x refl (omega arith) came)
     done
     (subst (λ k. is_lawful s (history_of s events) (Deliver k n) ≡ true) (sym e) (deliver-lawful s events log cores m n world inside low high)))
-
-abbrev codes_long : ResourceValue → ℕ
-codes_long r = length r.codes
-
-abbrev none_known : Option Evaluated
-none_known = None
-
--- a core that holds nothing has its places, and knows of no task
-pub fresh_shape : (plant : PlantValue) → IsShaped plant (empty_for plant)
-fresh_shape plant = row_lengths_filled codes_long none_known plant.resources
-
-pub fresh_known : (plant : PlantValue) (p : TaskRef) → known (empty_for plant) p ≡ None
-fresh_known plant p = cell_filled codes_long none_known plant.resources p.resource p.task
 
 -- a core that restarts
 pub node-restart : (s : Setting) (h : List Event) (log : List Evaluated) (n : ℕ) (core new : CoreValue) → AllLawful s h → IsLog s h log → IsNode s h log n core → IsRestartOf core new (core.incarnation + 1)

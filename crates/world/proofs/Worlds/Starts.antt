@@ -22,7 +22,8 @@ use Rattle.world.specs.Steps.Fresh.{AreFresh}
 use Rattle.world.proofs.Histories.Tasks.{resource_exists}
 use Rattle.world.proofs.Histories.Heard.{heard-fresh}
 use Rattle.std.proofs.lemmas.List.{set-get_or}
-use Rattle.world.proofs.Worlds.Moves.{slice_get-push, history-one_more, fresh_shape, fresh_known}
+use Rattle.exchange_core.specs.Steps.Fresh.{fresh_known, fresh_shape}
+use Rattle.world.proofs.Worlds.Moves.{slice_get-push, history-one_more}
 
 pub fresh-none : (plant : PlantValue) (first : List ℕ) (opening : Openings) (max_number : ℕ) → AreFresh plant first opening max_number 0 []
 fresh-none plant first opening max_number = record { sized = refl; fresh = λ n core e. absurd (none-some core e) }

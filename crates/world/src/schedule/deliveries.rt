@@ -8,8 +8,8 @@ use crate::event::Event;
 use crate::schedule::last_takes::{LastTake, taken_in};
 use book::Book;
 use evaluation::{Name, Take};
-use plant::TaskRef;
 use std::alloc::AllocError;
+use task_codes::TaskRef;
 
 /// Whether this incarnation and number were taken.
 fn is_from(taken: Option<(u32, u32)>, from: (u32, u32)) -> bool

@@ -2,11 +2,12 @@
 use Rattle.std.proofs.Common.{arith, ◌≡◌, ◌∙◌, ◌+◌, List, length, Some, ap, sym, subst}
 use Rattle.std.proofs.lemmas.Option.{none-some}
 use Rattle.lists.proofs.Places.{element_at}
+use Rattle.exchange_core.specs.Steps.Opened.{as_many_codes}
 use Rattle.plant.specs.PlantValue.{TaskValue, codes_at}
 use Rattle.live_node.specs.NodeJournal.{task_kept_text}
 use Rattle.audit.specs.Steps.Reading.{AreKeptOf}
 use Rattle.audit.proofs.KeptLists.{AreFirst, first_more, first_stuck, first_all}
-use Rattle.audit.proofs.Starts.{as_many_codes, kept_starts}
+use Rattle.audit.proofs.Starts.{kept_starts}
 use Rattle.audit.proofs.kept_values.all_kept_in.Goals as goal
 
 pub loop-task-preserved : goal.loop-task-preserved

@@ -1,10 +1,11 @@
 use Rattle.std.proofs.Common.{◌≡◌, ◌<◌, ◌+◌, ◌++◌, List, [], ◌∷◌, Some, length, slice_get, arith, ap, sym, ◌∙◌, subst}
 use Rattle.std.proofs.lemmas.Option.{none-some}
 use Rattle.lists.proofs.Places.{element_at}
+use Rattle.exchange_core.specs.Steps.Opened.{as_many_codes}
 use Rattle.plant.specs.PlantValue.{codes_at}
 use Rattle.task_codes.specs.CodeValue.{CodeValue}
 use Rattle.evaluation.specs.Retained.{Suits, initial_retained}
-use Rattle.exchange_core.proofs.Openings.{IsOpened, codes-many, opened-more, opened-all, opened-suits}
+use Rattle.exchange_core.proofs.Openings.{IsOpened, opened-more, opened-all, opened-suits}
 use Rattle.exchange_core.proofs.opening.initial_opening.Goals as goal
 use Rattle.exchange_core.proofs.opening.initial_opening.Goals.{in-Some+in_ok-initial+in_ok-push, in_default}
 
@@ -14,7 +15,7 @@ loop-task-preserved c =
     let resource = c.args.resource in
     let n = c.loop-task.task in
     let codes : List CodeValue = codes_at plant resource in
-    let lt : n < length codes = omega (arith, ap length c.tasks-tasks.ensures, codes-many plant resource c.resources-resources.ensures.sound, c.loop-task-test.true) in
+    let lt : n < length codes = omega (arith, ap length c.tasks-tasks.ensures, as_many_codes plant resource c.resources-resources.ensures.sound, c.loop-task-test.true) in
     elim c.match-code.branch [
       | in-Some+in_ok-initial+in_ok-push w ↦
           (let code : CodeValue = w.in-Some.code.now.value in
@@ -31,11 +32,11 @@ loop-task-preserved c =
 pub returns-clause-value : goal.returns-clause-value
 returns-clause-value c =
     opened-all c.args.plant.now c.args.resource c.loop-task.task c.loop-task.opening.items
-    (omega (arith, ap length c.tasks-tasks.ensures, codes-many c.args.plant.now c.args.resource c.resources-resources.ensures.sound, c.loop-task-test.false))
+    (omega (arith, ap length c.tasks-tasks.ensures, as_many_codes c.args.plant.now c.args.resource c.resources-resources.ensures.sound, c.loop-task-test.false))
     c.loop-task.invariant
 
 pub returns-clause-suits : goal.returns-clause-suits
 returns-clause-suits c =
     opened-suits c.args.plant.now c.args.resource c.loop-task.task c.loop-task.opening.items
-    (omega (arith, ap length c.tasks-tasks.ensures, codes-many c.args.plant.now c.args.resource c.resources-resources.ensures.sound, c.loop-task-test.false, c.loop-task.auto.task-end))
+    (omega (arith, ap length c.tasks-tasks.ensures, as_many_codes c.args.plant.now c.args.resource c.resources-resources.ensures.sound, c.loop-task-test.false, c.loop-task.auto.task-end))
     c.loop-task.invariant

@@ -1,6 +1,6 @@
 -- All was written, and not handed on.
 use Rattle.std.proofs.Common.{refl}
-use Rattle.live_node.proofs.Standing.{appends_kept}
+use Rattle.text_lines.proofs.Sending.{appends_kept}
 use Rattle.live_node.proofs.Stopping.{all_sent}
 use Rattle.live_node.proofs.answering.hand_on.Goals as goal
 

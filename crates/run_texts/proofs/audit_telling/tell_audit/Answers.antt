@@ -8,24 +8,24 @@ use Rattle.run_texts.specs.AuditText.{audit_lines, TellsAuditPart}
 use Rattle.run_texts.proofs.ReportTelling.{lines_partly, lines_alone, last_partly, all_shown}
 use Rattle.node_reports.specs.Reports.{setting_of}
 use Rattle.run_texts.proofs.Replaying.{entries_of_plant}
-use Rattle.run_texts.proofs.audit_telling.tell_audit.Goals as goal
+use Rattle.run_texts.proofs.audit_telling.tell_audit.Goals as tell_audit_goals
 
-pub replay-requires-clause-of_plant : goal.replay-requires-clause-of_plant
+pub replay-requires-clause-of_plant : tell_audit_goals.replay-requires-clause-of_plant
 replay-requires-clause-of_plant g c = entries_of_plant (setting_of c.args.plant.value 4294967295 c.args.audited.now.journals) c.args.audited.now.book.entries c.requires.made_again
 
-pub returns-in_err-write_audit-clause-fault : goal.returns-in_err-write_audit-clause-fault
+pub returns-in_err-write_audit-clause-fault : tell_audit_goals.returns-in_err-write_audit-clause-fault
 returns-in_err-write_audit-clause-fault g c =
     let plant = c.args.plant.value in
     let audited = c.args.audited.now in
     kept_fault _ (TellsAuditPart plant c.args.files.now audited _ _) _ c.from_residual.ensures.1 (lines_partly (audit_lines plant c.args.files.now audited) _ _ _ (rw c.deref.ensures at c.in_err-write_audit.ensures.part))
 
-pub returns-in_err-equal-clause-fault : goal.returns-in_err-equal-clause-fault
+pub returns-in_err-equal-clause-fault : tell_audit_goals.returns-in_err-equal-clause-fault
 returns-in_err-equal-clause-fault g c =
     let plant = c.args.plant.value in
     let audited = c.args.audited.now in
     kept_fault Memory (TellsAuditPart plant c.args.files.now audited _ _) _ c.from_residual-in_err-equal.ensures.1 (lines_alone (audit_lines plant c.args.files.now audited) _ _ (rw c.deref.ensures at c.in_ok-write_audit.ensures.ok))
 
-pub returns-in_err-write_text-clause-fault : goal.returns-in_err-write_text-clause-fault
+pub returns-in_err-write_text-clause-fault : tell_audit_goals.returns-in_err-write_text-clause-fault
 returns-in_err-write_text-clause-fault g c =
     let plant = c.args.plant.value in
     let audited = c.args.audited.now in
@@ -34,7 +34,7 @@ returns-in_err-write_text-clause-fault g c =
     kept_fault Write (TellsAuditPart plant c.args.files.now audited _ _) _ c.from_residual-in_err-write_text.ensures.1
     (last_partly (audit_lines plant c.args.files.now audited) _ _ _ (rw c.deref.ensures at c.in_ok-write_audit.ensures.ok) part)
 
-pub returns-then-is_empty-clause-ok : goal.returns-then-is_empty-clause-ok
+pub returns-then-is_empty-clause-ok : tell_audit_goals.returns-then-is_empty-clause-ok
 returns-then-is_empty-clause-ok g c =
     let plant = c.args.plant.value in
     let audited = c.args.audited.now in
@@ -44,7 +44,7 @@ returns-then-is_empty-clause-ok g c =
       shown_is = all_shown audited.unshown.items audited.without.items true c.is_empty-then-is_empty.result (sym c.if-is_empty.true ∙ c.is_empty.ensures ∙ ap (λ (n : ℕ). n == 0) audited.unshown.ok.0) (c.is_empty-then-is_empty.ensures ∙ ap (λ (n : ℕ). n == 0) audited.without.ok.0);
     }
 
-pub returns-else-is_empty-clause-ok : goal.returns-else-is_empty-clause-ok
+pub returns-else-is_empty-clause-ok : tell_audit_goals.returns-else-is_empty-clause-ok
 returns-else-is_empty-clause-ok g c =
     let plant = c.args.plant.value in
     let audited = c.args.audited.now in

@@ -1,4 +1,4 @@
-use Rattle.text_commands.proofs.Explaining.{drawing_refused, names_refused, networks_refused}
+use Rattle.text_commands.specs.Steps.Refusing.{names_refused, networks_refused, drawing_refused}
 use Rattle.text_commands.proofs.eval_command.read_ladder.Goals as goal
 
 pub returns-in_err-bind-clause-err : goal.returns-in_err-bind-clause-err

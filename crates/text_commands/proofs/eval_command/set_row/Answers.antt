@@ -1,7 +1,7 @@
 use Rattle.std.proofs.Common.{◌≡◌, ◌==◌, true, ◌∙◌, sym, subst}
 use Rattle.std.proofs.lemmas.Bool.{OnTrue_at}
+use Rattle.text_commands.specs.Steps.Setting.{bool_at}
 use Rattle.text_commands.specs.Rows.{IsBoolAt}
-use Rattle.text_commands.proofs.Setting.{bool_at}
 use Rattle.text_commands.proofs.eval_command.set_row.Goals as goal
 
 pub returns-in-Some-clause-slots : goal.returns-in-Some-clause-slots

@@ -1,8 +1,8 @@
 use Rattle.std.proofs.Common.{◌≡◌, ◌≤◌, length, refl, subst, sym, ap, ◌∙◌, arith}
 use Rattle.std.proofs.lemmas.List.{length-map}
+use Rattle.text_commands.specs.Steps.Setting.{fits_after}
 use Rattle.text_commands.specs.Steps.Showing.{IsShownScan}
 use Rattle.text_commands.specs.Steps.Testing.{slots_of}
-use Rattle.text_commands.proofs.Setting.{fits_after}
 use Rattle.text_commands.proofs.Showing.{shown_begun, shown_more, slots_more}
 use Rattle.text_commands.proofs.Tracing.{one_longer}
 use Rattle.text_commands.proofs.shown_scans.trace_drawings.Goals as goal

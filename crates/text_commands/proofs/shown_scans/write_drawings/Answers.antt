@@ -1,19 +1,19 @@
 use Rattle.std.proofs.Common.{◌≡◌, ◌+◌, ◌≤◌, ◌++◌, ◌∷◌, [], ◌∙◌, length, subst, sym, arith}
 use Rattle.std.proofs.KnownBytes.{Appends-nil, Appends-trans}
 use Rattle.lists.proofs.Results.{kept_fault}
+use Rattle.text_commands.specs.Steps.Setting.{fits_after}
 use Rattle.text_lines.specs.declared.send_fault.SendFault.TheVariants.{Write, Memory}
 use Rattle.text_commands.specs.Rows.{scans_of}
 use Rattle.text_commands.specs.Steps.Showing.{IsShownScan, StopsShown}
-use Rattle.text_commands.proofs.Setting.{fits_after}
 use Rattle.text_commands.proofs.Showing.{one_state_more, shown_at_first, shown_begun, shown_behind, shown_more, shown_within}
-use Rattle.text_commands.proofs.shown_scans.write_drawings.Goals as goal
+use Rattle.text_commands.proofs.shown_scans.write_drawings.Goals as write_drawings_goals
 
-pub returns-in_err-state-clause-stopped : goal.returns-in_err-state-clause-stopped
+pub returns-in_err-state-clause-stopped : write_drawings_goals.returns-in_err-state-clause-stopped
 returns-in_err-state-clause-stopped g c =
     kept_fault Memory (λ fault. StopsShown c.args.drawing.now c.args.color c.args.ladder.now.declarations c.args.ladder.now.networks c.args.dt c.args.rows.now fault _ _) _ c.from_residual.ensures.1
     (shown_at_first _ _ _ _ _ _ _)
 
-pub loop-k-init : goal.loop-k-init
+pub loop-k-init : write_drawings_goals.loop-k-init
 loop-k-init g c = record {
   fits = c.in_ok-state.ensures.fits;
   states = [];
@@ -23,19 +23,19 @@ loop-k-init g c = record {
   appended = Appends-nil _;
 }
 
-pub set_rows-requires : goal.set_rows-requires
+pub set_rows-requires : write_drawings_goals.set_rows-requires
 set_rows-requires g c = (c.args.ladder.now.declarations, c.loop-k.invariant.fits.slots, c.requires)
 
-pub shown_scan-requires : goal.shown_scan-requires
+pub shown_scan-requires : write_drawings_goals.shown_scan-requires
 shown_scan-requires g c = fits_after c.args.ladder.now c.loop-k.state c.set_rows.new.state _ c.loop-k.invariant.fits c.set_rows.ensures.slots c.set_rows.ensures.declared
 
-pub returns-in_err-text-clause-stopped : goal.returns-in_err-text-clause-stopped
+pub returns-in_err-text-clause-stopped : write_drawings_goals.returns-in_err-text-clause-stopped
 returns-in_err-text-clause-stopped g c =
     let few : length c.loop-k.invariant.states ≤ scans_of c.args.rows.now = let e = c.scan_count-k-end.ensures in let long = c.loop-k.invariant.long in omega arith in
     kept_fault Memory (λ fault. StopsShown c.args.drawing.now c.args.color c.args.ladder.now.declarations c.args.ladder.now.networks c.args.dt c.args.rows.now fault _ _) _ c.from_residual-in_err-text.ensures.1
     (shown_behind _ _ _ _ _ _ _ _ _ _ _ _ few c.loop-k.invariant.shown c.loop-k.invariant.appended)
 
-pub returns-in_err-write_text-clause-stopped : goal.returns-in_err-write_text-clause-stopped
+pub returns-in_err-write_text-clause-stopped : write_drawings_goals.returns-in_err-write_text-clause-stopped
 returns-in_err-write_text-clause-stopped g c =
     let states = c.loop-k.invariant.states in
     let long = one_state_more states c.shown_scan.new.state.slots c.loop-k.k c.loop-k.invariant.long in
@@ -46,7 +46,7 @@ returns-in_err-write_text-clause-stopped g c =
     kept_fault Write (λ fault. StopsShown c.args.drawing.now c.args.color c.args.ladder.now.declarations c.args.ladder.now.networks c.args.dt c.args.rows.now fault _ _) _ c.from_residual-in_err-write_text.ensures.1
     (shown_within _ _ _ _ _ _ _ _ _ _ _ _ _ _ few shown c.loop-k.invariant.appended c.in_err-write_text.ensures.prefix)
 
-pub loop-k-preserved : goal.loop-k-preserved
+pub loop-k-preserved : write_drawings_goals.loop-k-preserved
 loop-k-preserved g c =
     let states = c.loop-k.invariant.states in
     let text = subst (IsShownScan c.args.drawing.now c.args.color c.args.ladder.now c.args.dt c.set_rows.new.state c.shown_scan.new.state) (sym c.as_str.ensures.value) c.in_ok-text.ensures.shown in
@@ -60,7 +60,7 @@ loop-k-preserved g c =
       appended = Appends-trans _ _ _ _ _ c.loop-k.invariant.appended c.in_ok-write_text.ensures.whole;
     }
 
-pub returns-clause-ok : goal.returns-clause-ok
+pub returns-clause-ok : write_drawings_goals.returns-clause-ok
 returns-clause-ok g c =
     let all : c.loop-k.k ≡ scans_of c.args.rows.now = let e = c.scan_count-k-end.ensures in omega arith in
     let long = c.loop-k.invariant.long in

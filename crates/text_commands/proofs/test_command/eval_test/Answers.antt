@@ -7,20 +7,20 @@ use Rattle.text_commands.specs.Rows.{texts}
 use Rattle.text_commands.specs.TestText.{ExplainsTest}
 use Rattle.text_commands.proofs.TestReading.{expected_bool, rows_bool}
 use Rattle.text_commands.proofs.TestAnswers.{drawings_stopped, drawings_written, no_rows, rows_stopped, rows_written, test_cut, test_words_refused, test_written}
-use Rattle.text_commands.proofs.test_command.eval_test.Goals as goal
+use Rattle.text_commands.proofs.test_command.eval_test.Goals as eval_test_goals
 
-pub returns-in_err-test-clause-fault : goal.returns-in_err-test-clause-fault
+pub returns-in_err-test-clause-fault : eval_test_goals.returns-in_err-test-clause-fault
 returns-in_err-test-clause-fault g c =
     let refused = rw c.declarations.ensures.list at c.in_err-test.ensures.err in
     kept_fault c.in_err-test.field-0.0 (ExplainsTest c.args.drawing.now (texts c.args.words.now) c.args.dt c.args.form _ _) _ c.from_residual-in_err-test.ensures.1
     (test_words_refused c.args.drawing.now (texts c.args.words.now) c.args.dt c.args.form _ c.in_ok-ladder.ladder.declarations c.in_ok-ladder.ladder.networks c.in_err-test.field-0.0 c.in_ok-ladder.ensures.ok refused)
 
-pub write_scans-requires : goal.write_scans-requires
+pub write_scans-requires : eval_test_goals.write_scans-requires
 write_scans-requires g c =
     let read = rw c.declarations.ensures.list at c.in_ok-test.ensures.ok in
     rw c.deref.ensures.value (rows_bool c.in_ok-ladder.ladder.declarations (texts c.args.words.now) c.in_ok-test.test.rows.items c.in_ok-test.test.expected.items read)
 
-pub returns-in_err-write_scans-in-Rows-clause-fault : goal.returns-in_err-write_scans-in-Rows-clause-fault
+pub returns-in_err-write_scans-in-Rows-clause-fault : eval_test_goals.returns-in_err-write_scans-in-Rows-clause-fault
 returns-in_err-write_scans-in-Rows-clause-fault g c =
     let read = rw c.declarations.ensures.list at c.in_ok-test.ensures.ok in
     let stopped = rw c.deref.ensures.value at c.in_err-write_scans-in-Rows.ensures.stopped in
@@ -28,7 +28,7 @@ returns-in_err-write_scans-in-Rows-clause-fault g c =
     (rows_stopped c.args.drawing.now (texts c.args.words.now) c.args.dt c.args.form _ _ c.in_ok-ladder.ladder.declarations c.in_ok-ladder.ladder.networks c.in_ok-test.test.rows.items c.in_ok-test.test.expected.items
     c.in_err-write_scans-in-Rows.field-0.0 c.in-Rows.is c.in_ok-ladder.ensures.ok read stopped)
 
-pub returns-in-Rows-clause-ok : goal.returns-in-Rows-clause-ok
+pub returns-in-Rows-clause-ok : eval_test_goals.returns-in-Rows-clause-ok
 returns-in-Rows-clause-ok g c =
     let read = rw c.declarations.ensures.list at c.in_ok-test.ensures.ok in
     let written = rw c.deref.ensures.value at c.in_ok-write_scans-in-Rows.ensures.ok in
@@ -37,12 +37,12 @@ returns-in-Rows-clause-ok g c =
     rows_written c.args.drawing.now (texts c.args.words.now) c.args.dt c.args.form _ _ c.in_ok-ladder.ladder.declarations c.in_ok-ladder.ladder.networks c.in_ok-test.test.rows.items c.in_ok-test.test.expected.items
     c.in-Rows.is none c.in_ok-ladder.ensures.ok read written
 
-pub write_drawings-requires : goal.write_drawings-requires
+pub write_drawings-requires : eval_test_goals.write_drawings-requires
 write_drawings-requires g c =
     let read = rw c.declarations.ensures.list at c.in_ok-test.ensures.ok in
     rw c.deref-in-Drawings.ensures.value (rows_bool c.in_ok-ladder.ladder.declarations (texts c.args.words.now) c.in_ok-test.test.rows.items c.in_ok-test.test.expected.items read)
 
-pub returns-in_err-write_drawings-in-Drawings-clause-fault : goal.returns-in_err-write_drawings-in-Drawings-clause-fault
+pub returns-in_err-write_drawings-in-Drawings-clause-fault : eval_test_goals.returns-in_err-write_drawings-in-Drawings-clause-fault
 returns-in_err-write_drawings-in-Drawings-clause-fault g c =
     let read = rw c.declarations.ensures.list at c.in_ok-test.ensures.ok in
     let stopped = rw c.deref-in-Drawings.ensures.value at c.in_err-write_drawings-in-Drawings.ensures.stopped in
@@ -50,7 +50,7 @@ returns-in_err-write_drawings-in-Drawings-clause-fault g c =
     (drawings_stopped c.args.drawing.now (texts c.args.words.now) c.args.dt c.args.form c.in-Drawings.color _ _ c.in_ok-ladder.ladder.declarations c.in_ok-ladder.ladder.networks c.in_ok-test.test.rows.items
     c.in_ok-test.test.expected.items c.in_err-write_drawings-in-Drawings.field-0.0 c.in-Drawings.is c.in_ok-ladder.ensures.ok read stopped)
 
-pub returns-in-Drawings-clause-ok : goal.returns-in-Drawings-clause-ok
+pub returns-in-Drawings-clause-ok : eval_test_goals.returns-in-Drawings-clause-ok
 returns-in-Drawings-clause-ok g c =
     let read = rw c.declarations.ensures.list at c.in_ok-test.ensures.ok in
     let written = rw c.deref-in-Drawings.ensures.value at c.in_ok-write_drawings-in-Drawings.ensures.ok in
@@ -59,21 +59,21 @@ returns-in-Drawings-clause-ok g c =
     drawings_written c.args.drawing.now (texts c.args.words.now) c.args.dt c.args.form c.in-Drawings.color _ _ c.in_ok-ladder.ladder.declarations c.in_ok-ladder.ladder.networks c.in_ok-test.test.rows.items
     c.in_ok-test.test.expected.items c.in-Drawings.is none c.in_ok-ladder.ensures.ok read written
 
-pub trace_test-requires-clause-rows : goal.trace_test-requires-clause-rows
+pub trace_test-requires-clause-rows : eval_test_goals.trace_test-requires-clause-rows
 trace_test-requires-clause-rows g c =
     let read = rw c.declarations.ensures.list at c.in_ok-test.ensures.ok in
     rows_bool c.in_ok-ladder.ladder.declarations (texts c.args.words.now) c.in_ok-test.test.rows.items c.in_ok-test.test.expected.items read
 
-pub trace_test-requires-clause-expected : goal.trace_test-requires-clause-expected
+pub trace_test-requires-clause-expected : eval_test_goals.trace_test-requires-clause-expected
 trace_test-requires-clause-expected g c =
     let read = rw c.declarations.ensures.list at c.in_ok-test.ensures.ok in
     expected_bool c.in_ok-ladder.ladder.declarations (texts c.args.words.now) c.in_ok-test.test.rows.items c.in_ok-test.test.expected.items read
 
-pub returns-in_err-text-clause-fault : goal.returns-in_err-text-clause-fault
+pub returns-in_err-text-clause-fault : eval_test_goals.returns-in_err-text-clause-fault
 returns-in_err-text-clause-fault g c =
     kept_fault Memory (ExplainsTest c.args.drawing.now (texts c.args.words.now) c.args.dt c.args.form _ _) _ c.from_residual-in_err-text.ensures.1 (inl (Keeps-refl _))
 
-pub returns-in_err-write_text-clause-fault : goal.returns-in_err-write_text-clause-fault
+pub returns-in_err-write_text-clause-fault : eval_test_goals.returns-in_err-write_text-clause-fault
 returns-in_err-write_text-clause-fault g c =
     let read = rw c.declarations.ensures.list at c.in_ok-test.ensures.ok in
     let less = rw c.as_str.ensures.value at c.in_err-write_text.ensures.prefix in
@@ -81,7 +81,7 @@ returns-in_err-write_text-clause-fault g c =
     (test_cut c.args.drawing.now (texts c.args.words.now) c.args.dt c.args.form _ _ c.in_ok-ladder.ladder.declarations c.in_ok-ladder.ladder.networks c.in_ok-test.test.rows.items c.in_ok-test.test.expected.items
     (string_bytes c.in_ok-text.text) c.in_ok-text.found c.in_ok-ladder.ensures.ok read c.in_ok-text.ensures less)
 
-pub returns-clause-ok : goal.returns-clause-ok
+pub returns-clause-ok : eval_test_goals.returns-clause-ok
 returns-clause-ok g c =
     let read = rw c.declarations.ensures.list at c.in_ok-test.ensures.ok in
     let whole = rw c.as_str.ensures.value at c.in_ok-write_text.ensures.whole in

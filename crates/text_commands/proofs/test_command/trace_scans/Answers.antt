@@ -1,7 +1,7 @@
 use Rattle.std.proofs.Common.{◌≡◌, ◌≤◌, length, refl, ◌∙◌, ap, arith}
 use Rattle.std.proofs.lemmas.List.{length-map}
+use Rattle.text_commands.specs.Steps.Setting.{fits_after}
 use Rattle.text_commands.specs.Steps.Testing.{slots_of}
-use Rattle.text_commands.proofs.Setting.{fits_after}
 use Rattle.text_commands.proofs.Tracing.{one_longer, trace_begun, trace_more}
 use Rattle.text_commands.proofs.test_command.trace_scans.Goals as goal
 

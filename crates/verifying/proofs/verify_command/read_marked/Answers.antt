@@ -1,4 +1,4 @@
-use Rattle.verifying.proofs.Refusing.{drawing_refused, names_refused, networks_refused}
+use Rattle.text_commands.specs.Steps.Refusing.{names_refused, networks_refused, drawing_refused}
 use Rattle.verifying.proofs.verify_command.read_marked.Goals as goal
 
 pub returns-in_err-ladder-clause-err : goal.returns-in_err-ladder-clause-err

@@ -1,6 +1,7 @@
 use Rattle.std.proofs.Common.{◌≡◌, subst, sym}
+use Rattle.evaluation.specs.Steps.Facts.{initial_suits}
 use Rattle.evaluation.specs.Retained.{Suits, initial_retained}
-use Rattle.evaluation.proofs.RetainedStates.{initial_suits, first_values_are}
+use Rattle.evaluation.proofs.RetainedStates.{first_values_are}
 use Rattle.evaluation.proofs.retained.Retained.initial.Goals as goal
 use Rattle.evaluation.proofs.retained.Retained.initial.Goals.{In_ok-first_values}
 

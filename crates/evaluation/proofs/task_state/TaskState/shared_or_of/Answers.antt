@@ -1,7 +1,7 @@
 use Rattle.std.proofs.Common.{◌≡◌, List, IfOk, sym, subst, ◌∙◌}
+use Rattle.evaluation.specs.Steps.Facts.{states_of_one}
 use Rattle.power_flow.specs.StateValue.{StateValue}
 use Rattle.evaluation.specs.States.{AreStatesOf}
-use Rattle.evaluation.proofs.InitialStates.{states_of_one}
 use Rattle.evaluation.proofs.task_state.TaskState.shared_or_of.Goals as goal
 
 pub returns-then-are_same : goal.returns-then-are_same

@@ -1,6 +1,6 @@
 -- What was kept of the tasks so far suits them, and the keeper is in the same incarnation.
 use Rattle.std.proofs.Common.{◌≡◌}
-use Rattle.node.proofs.Opened.{IsKeptOf}
+use Rattle.exchange_core.specs.Steps.Opened.{IsKeptOf}
 use Rattle.node.proofs.threads.preparing.kept_opening.Given as goal
 
 abbrev pub invariant-loop-task : goal.invariant-loop-task

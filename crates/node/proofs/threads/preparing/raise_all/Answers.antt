@@ -2,8 +2,8 @@
 use Rattle.std.proofs.Common.{rules, ◌≡◌, ℕ, ◌<◌, ◌++◌, List, [], ◌∷◌, map, ap, sym, ◌∙◌, append_assoc, subst}
 use Rattle.std.specs.List.{AllZip}
 use Rattle.std.specs.Vec.Iter.{into_iter_items}
+use Rattle.lists.proofs.Zips.{zip_push}
 use Rattle.node.specs.Steps.Working.{lasts_of}
-use Rattle.node.proofs.Alls.{zip_push}
 use Rattle.node.proofs.Opened.{opened_push, lasts_push}
 use Rattle.node.proofs.threads.preparing.raise_all.Goals as goal
 

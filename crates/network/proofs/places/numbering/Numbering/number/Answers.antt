@@ -1,8 +1,8 @@
 use Rattle.std.proofs.Common.{◌≡◌, ℕ, length, refl, inl, inr, arith}
-use Rattle.lists.proofs.Places.{push_cases, push_here}
+use Rattle.lists.proofs.Places.{push_cases, push_here, push_old}
 use Rattle.network.specs.declared.places.numbering.Spot.{Spot}
 use Rattle.network.specs.Steps.Numbers.{IsSpot}
-use Rattle.network.proofs.Spots.{AreNumbers-beside, AreNumbers-push, push_old}
+use Rattle.network.proofs.Spots.{AreNumbers-beside, AreNumbers-push}
 use Rattle.network.proofs.places.numbering.Numbering.number.Goals as goal
 
 pub returns-in-Some-clause-found : goal.returns-in-Some-clause-found

@@ -9,16 +9,16 @@ use Rattle.plant_grammar.specs.declared.grammar.tree.Program.{Program}
 use Rattle.plant_grammar.specs.Steps.Reading.{programs_of}
 use Rattle.plant_grammar.specs.Steps.Declaring.{TellsOfType}
 use Rattle.plant_grammar.proofs.RefusedNames.{tells_next}
-use Rattle.plant_grammar.proofs.grammar.reader.Reader.new_type.Goals as goal
+use Rattle.plant_grammar.proofs.grammar.reader.Reader.new_type.Goals as new_type_goals
 
-pub returns-in_err-check_new-clause-tells : goal.returns-in_err-check_new-clause-tells
+pub returns-in_err-check_new-clause-tells : new_type_goals.returns-in_err-check_new-clause-tells
 returns-in_err-check_new-clause-tells c =
     let fault = c.in_err-check_new.field-0.0 in
     kept_fault fault (TellsOfType c.args.before.now c.args.self.now.words) c.from_residual-in_err-check_new.result c.from_residual-in_err-check_new.ensures.1
     (tells_next fault.kind (λ (x : Program). x.name) (programs_of c.args.before.now) c.in_ok-name.name c.args.self.now.words c.name.new.self.words _ _ (64 ≤ length c.args.before.now) c.in_ok-name.ensures.ok
     c.is_program.ensures.0 (λ full. search rules) c.in_err-check_new.ensures.tells)
 
-pub returns-in_err-check_new-clause-other : goal.returns-in_err-check_new-clause-other
+pub returns-in_err-check_new-clause-other : new_type_goals.returns-in_err-check_new-clause-other
 returns-in_err-check_new-clause-other c =
     let fault = c.in_err-check_new.field-0.0 in
     kept_fault fault (λ f. f.kind ≢ Memory → (name : List ℕ) (rest : List Token) → c.args.self.now.words ≡ token.Name name ∷ rest → IsNew (λ (x : Program). x.name) (programs_of c.args.before.now) name → length c.args.before.now < 64 → ⊥) c.from_residual-in_err-check_new.result c.from_residual-in_err-check_new.ensures.1

@@ -1,19 +1,31 @@
--- What was kept of the tasks of a resource.
-use Rattle.std.proofs.Common.{arith, ◌≡◌, ℕ, ◌+◌, ◌<◌, ◌⊎◌, inl, inr, List, [], ◌∷◌, ◌++◌, Some, None, length, slice_get, refl, ap, sym, ◌∙◌, subst}
+-- What is kept of the tasks of a resource, one after the other. The crates above cite it.
+use Rattle.std.specs.Prelude.{◌≡◌, ℕ, ◌+◌, ◌<◌, ◌⊎◌, ◌++◌, List, [], ◌∷◌, Option, Some, None, length, slice_get, refl}
+use Rattle.std.proofs.Common.{inl, inr, ap, sym, ◌∙◌, subst}
+use Rattle.std.specs.Option.{option_map}
 use Rattle.std.proofs.lemmas.List.{length-append}
 use Rattle.std.proofs.lemmas.Option.{none-some, same_Some}
+use Rattle.lists.specs.Items.{items_or_none}
 use Rattle.lists.proofs.Places.{element_at, push_cases}
 use Rattle.std_blocks.specs.declared.value.Value.{Value}
-use Rattle.plant.specs.PlantValue.{PlantValue, codes_at, tasks_at, IsSoundPlant}
+use Rattle.plant.specs.PlantValue.{ResourceValue, PlantValue, codes_at, tasks_at, IsSoundPlant}
 use Rattle.task_codes.specs.CodeValue.{CodeValue}
 use Rattle.evaluation.specs.Retained.{Suits}
 use Rattle.exchange_core.specs.Openings.{AreOpeningOf}
-use Rattle.exchange_core.proofs.Openings.{codes-many}
+
+-- each task has its code, also where there is no such resource
+pub as_many_codes : (plant : PlantValue) (resource : ℕ) → IsSoundPlant plant → length (codes_at plant resource) ≡ length (tasks_at plant resource)
+as_many_codes plant resource sound = by (slice_get plant.resources resource) refl
+  where
+    by : (o : Option ResourceValue) → slice_get plant.resources resource ≡ o
+        → length (items_or_none (option_map (λ (r : ResourceValue). r.codes) o)) ≡ length (items_or_none (option_map (λ (r : ResourceValue). r.tasks) o))
+    by None e = refl
+    by (Some r) e = sound.coded r resource e
 
 -- what was kept of the first tasks of a resource suits them
 pub record IsKeptOf (plant : PlantValue) (resource n : ℕ) (listed : List (List Value)) : Type 0 where
   pub many : length listed ≡ n
-  pub suit : (k : ℕ) (code : CodeValue) (values : List Value) → slice_get (codes_at plant resource) k ≡ Some code → slice_get listed k ≡ Some values → Suits code values
+  pub suit : (k : ℕ) (code : CodeValue) (values : List Value) → slice_get (codes_at plant resource) k ≡ Some code
+      → slice_get listed k ≡ Some values → Suits code values
 
 pub kept_none : (plant : PlantValue) (resource : ℕ) → IsKeptOf plant resource 0 []
 kept_none plant resource = record { many = refl; suit = λ k code values found at. absurd (none-some values at) }
@@ -36,11 +48,11 @@ kept_more plant resource n old code kept is at suits = record {
 -- there is no code only behind the last task
 pub no_code : (plant : PlantValue) (resource n : ℕ) → IsSoundPlant plant → n < length (tasks_at plant resource) → slice_get (codes_at plant resource) n ≡ None → ⊥
 no_code plant resource n sound within none =
-    let found = element_at (codes_at plant resource) n (omega (arith, within, codes-many plant resource sound)) in
+    let found = element_at (codes_at plant resource) n (subst (λ m. n < m) (sym (as_many_codes plant resource sound)) within) in
     none-some found.0 (sym none ∙ found.1)
 
 pub kept_all : (plant : PlantValue) (resource n : ℕ) (listed : List (List Value)) → IsSoundPlant plant → n ≡ length (tasks_at plant resource) → IsKeptOf plant resource n listed → AreOpeningOf plant resource listed
 kept_all plant resource n listed sound all is = record {
-  many = is.many ∙ all ∙ sym (codes-many plant resource sound);
+  many = is.many ∙ all ∙ sym (as_many_codes plant resource sound);
   each = λ task code values found at. is.suit task code values found at;
 }
