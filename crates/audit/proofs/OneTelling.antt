@@ -8,7 +8,7 @@ use Rattle.std.proofs.lemmas.List.{reverse-append}
 use Rattle.std.proofs.lemmas.Bool.{eq-eqb, eqb-true, and_parts}
 use Rattle.std.proofs.lemmas.Option.{same_Some, get_or_from_slice_get, slice_get-get_or, slice_get_within}
 use Rattle.lists.proofs.Places.{same_by_each}
-use Rattle.lists.proofs.Tables.{cell_same, cell_other, cell_filled, cell_place, row_lengths_kept, row_lengths_filled}
+use Rattle.lists.proofs.Tables.{both_same, cell_same, cell_other, cell_map, cell_filled, cell_place, row_lengths_kept, row_lengths_filled}
 use Rattle.lists.specs.Items.{items_or_none}
 use Rattle.std_blocks.specs.declared.value.Value.{Value}
 use Rattle.declared_names.specs.declared.declarations.Kind.{Kind}
@@ -69,12 +69,6 @@ table_empty plant p = cell_filled (λ (r : ResourceValue). length r.codes) None 
 table_filled : (X : Type 0) (plant : PlantValue) → HasPlaces {X = X} plant (nothing_for plant)
 table_filled X plant = row_lengths_filled (λ (r : ResourceValue). length r.codes) None plant.resources
 
-table_map : {X Y : Type 0} (f : Option X → Option Y) (table : List (List (Option X))) (p : TaskRef) → f None ≡ None → at_task (map (map f) table) p ≡ f (at_task table p)
-table_map f table p none =
-    ap (λ row. get_or row p.task None) (get_or-map (map f) table p.resource [])
-    ∙ ap (λ o. get_or (map f (get_or table p.resource [])) p.task o) (sym none)
-    ∙ get_or-map f (get_or table p.resource []) p.task None
-
 abbrev ref_of : ℕ → ℕ → TaskRef
 ref_of resource task = record { resource = resource; task = task }
 
@@ -82,16 +76,11 @@ and_both : (a b : Bool) → a ≡ true → b ≡ true → (a && b) ≡ true
 and_both a b one two = ap (λ c. c && b) one ∙ two
 
 -- two places are one, or they aren't
-same_place : (p q : TaskRef) → same_task p q ≡ true → p ≡ q
-same_place p q e =
-    let parts = and_parts (p.resource == q.resource) (p.task == q.task) e in
-    ap (λ n. ref_of n p.task) (eqb-true p.resource q.resource parts.0) ∙ ap (ref_of q.resource) (eqb-true p.task q.task parts.1)
-
 two_places : (p q : TaskRef) → (p ≡ q → ⊥) → same_task p q ≡ false
 two_places p q apart = by (same_task p q) refl
   where
     by : (b : Bool) → same_task p q ≡ b → b ≡ false
-    by true e = absurd (apart (same_place p q e))
+    by true e = absurd (apart (both_same ref_of p.resource p.task q.resource q.task e))
     by false e = refl
 
 -- what a place has behind a change
@@ -101,7 +90,7 @@ cell_there f table p q x y place here there = by (same_task p q) refl
   where
     by : (b : Bool) → same_task p q ≡ b → f (at_task (with_task table p x) q) ≡ y
     by true e =
-        let same = same_place p q e in
+        let same = both_same ref_of p.resource p.task q.resource q.task e in
         ap f (ap (at_task (with_task table p x)) (sym same) ∙ table_same table p x place) ∙ here same
     by false e =
         ap f (table_other table p q x place e) ∙ there (λ same. let t : same_task p q ≡ true = and_both (p.resource == q.resource) (p.task == q.task) (eq-eqb p.resource q.resource (ap (λ (r : TaskRef). r.resource) same)) (eq-eqb p.task q.task (ap (λ (r : TaskRef). r.task) same)) in absurd (let f = sym e ∙ t in cc))
@@ -231,7 +220,7 @@ greater_alike None name = refl
 greater_alike (Some x) name = refl
 
 known_there : (core : CoreValue) (p : TaskRef) → message_known (messages_in core).table p ≡ option_map message_of (known core.table p)
-known_there core p = ap (option_map message_in) (table_map (option_map (λ x. Whole x)) core.table p refl) ∙ whole_message (known core.table p)
+known_there core p = ap (option_map message_in) (cell_map (option_map (λ x. Whole x)) core.table p.resource p.task None None refl) ∙ whole_message (known core.table p)
 
 module _ (node : messages.MessageCoreValue) (core : CoreValue) (alike : AreAlike node core) (m : MessageValue) where
   usable_there : messages.IsUsable node m → messages.IsUsable (messages_in core) m

@@ -14,13 +14,6 @@ use Rattle.exchange_core.specs.HeldMessages as messages
 use Rattle.exchange_core.specs.Held.{known, with_known}
 use Rattle.exchange_core.specs.Wholes.{wholes, as_wholes, AreWhole}
 
--- a place of a table of which each place was changed alike
-at-map : {X Y : Type 0} (f : Option X → Option Y) (table : List (List (Option X))) (p : TaskRef) → f None ≡ None → at_task (map (map f) table) p ≡ f (at_task table p)
-at-map f table p none =
-    ap (λ row. get_or row p.task None) (get_or-map (map f) table p.resource [])
-    ∙ ap (λ o. get_or (map f (get_or table p.resource [])) p.task o) (sym none)
-    ∙ get_or-map f (get_or table p.resource []) p.task None
-
 -- a table with one thing more, of which each place was changed alike
 with-map : {X Y : Type 0} (f : Option X → Option Y) (table : List (List (Option X))) (p : TaskRef) (last : Option X) → map (map f) (with_task table p last) ≡ with_task (map (map f) table) p (f last)
 with-map f table p last =
@@ -46,7 +39,7 @@ abbrev as_whole : Option Evaluated → Option Last
 as_whole o = option_map Whole o
 
 pub wholes-at : (table : messages.Table) (p : TaskRef) → known (wholes table) p ≡ option_and_then whole_in (messages.known table p)
-wholes-at table p = at-map whole table p refl
+wholes-at table p = cell_map whole table p.resource p.task None None refl
 
 pub wholes-with : (table : messages.Table) (p : TaskRef) (x : Evaluated) → wholes (messages.with_known table p (Some (Whole x))) ≡ with_known (wholes table) p (Some x)
 wholes-with table p x = with-map whole table p (Some (Whole x))
@@ -66,7 +59,7 @@ are-whole-with table p x are =
 -- what is known as a whole is known by its message
 pub messages-at : (table : messages.Table) (p : TaskRef) → AreWhole table → messages.message_known table p ≡ option_map message_of (known (wholes table) p)
 messages-at table p are =
-    ap (option_map message_in) (ap (λ t. at_task t p) are ∙ at-map as_whole (wholes table) p refl) ∙ by (known (wholes table) p)
+    ap (option_map message_in) (ap (λ t. at_task t p) are ∙ cell_map as_whole (wholes table) p.resource p.task None None refl) ∙ by (known (wholes table) p)
   where
     by : (o : Option Evaluated) → option_map message_in (as_whole o) ≡ option_map message_of o
     by None = refl

@@ -11,6 +11,7 @@ use Rattle.declared_names.specs.declared.declarations.Kind.{Kind}
 use Rattle.declared_names.specs.Kinds.{kind_of}
 use Rattle.text_lines.specs.LineParts.{value_text}
 use Rattle.text_lines.specs.ReadParts.{IsInRange}
+use Rattle.text_lines.specs.Steps.Values.{same_value}
 use Rattle.task_codes.specs.declared.retained_variable.RetainedVariable.{RetainedVariable}
 use Rattle.task_codes.specs.CodeValue.{CodeValue}
 use Rattle.evaluation.specs.Retained.{Suits}
@@ -52,24 +53,6 @@ one_line (c ∷ w) (d ∷ u) a b hw hu e =
     let both = one_line w u a b hw.1 hu.1 rest in
     (let same : w ≡ u = both.0 in cc, both.1)
 
--- values of one kind and one text are one
-pub one_value : (x y : Value) → kind_of x ≡ kind_of y → IsInRange x → IsInRange y → value_text x ≡ value_text y → x ≡ y
-one_value (BoolValue true) (BoolValue true) k r s e = refl
-one_value (BoolValue true) (BoolValue false) k r s e = let h : 49 ≡ 48 = ap (λ l. get_or l 0 0) e in absurd (omega (arith, h))
-one_value (BoolValue false) (BoolValue true) k r s e = let h : 48 ≡ 49 = ap (λ l. get_or l 0 0) e in absurd (omega (arith, h))
-one_value (BoolValue false) (BoolValue false) k r s e = refl
-one_value (IntValue m) (IntValue n) k r s e =
-    ap (λ z. IntValue z) (signed_decimal_injective m n (let f = r.sfits in omega (arith, f)) (let f = s.sfits in omega (arith, f)) e)
-one_value (TimeValue t) (TimeValue u) k r s e =
-    let behind : decimal t ++ 109 ∷ 115 ∷ [] ≡ decimal u ++ 109 ∷ 115 ∷ [] = cc in
-    ap (λ n. TimeValue n) (decimal_injective t u (omega (arith, r)) (omega (arith, s)) (append_cancel_right (decimal t) (decimal u) (109 ∷ 115 ∷ []) behind))
-one_value (BoolValue a) (IntValue n) k r s e = absurd cc
-one_value (BoolValue a) (TimeValue u) k r s e = absurd cc
-one_value (IntValue m) (BoolValue b) k r s e = absurd cc
-one_value (IntValue m) (TimeValue u) k r s e = absurd cc
-one_value (TimeValue t) (BoolValue b) k r s e = absurd cc
-one_value (TimeValue t) (IntValue n) k r s e = absurd cc
-
 append_three : (a b c d : List ℕ) → (a ++ b ++ c) ++ d ≡ a ++ (b ++ (c ++ d))
 append_three a b c d = simp append_assoc refl
 
@@ -85,7 +68,7 @@ same_line code v x y a b kinds r s e =
     let texts : value_text x ++ 10 ∷ a ≡ value_text y ++ 10 ∷ b =
     append_cancel_left (before_value code v) (value_text x ++ 10 ∷ a) (value_text y ++ 10 ∷ b) (sym (behind_name code v x a) ∙ e ∙ behind_name code v y b) in
     let both = one_line (value_text x) (value_text y) a b (no_feed_value x r) (no_feed_value y s) texts in
-    (one_value x y kinds r s both.0, both.1)
+    (same_value x y kinds r s both.0, both.1)
 
 abbrev pub lines_of : CodeValue → List RetainedVariable → List Value → List ℕ
 lines_of code vs xs = flat_map (line_text code) (zip vs xs)

@@ -28,6 +28,13 @@ cell_other {X} rows i j k l x other row another = by (cases_eq k i) where
       let apart : l ≡ j → ⊥ = λ e. false≢true (sym another ∙ rw (same, e) (both_itself i j)) in
       rw same (ap (λ cells. get_or cells l other) (get_or-set_same rows i (set (get_or rows i []) j x) [] row) ∙ get_or-set_other (get_or rows i []) j l x other apart)
 
+-- a cell of a table of which each cell was changed alike
+pub cell_map : {X Y : Type 0} (f : X → Y) (rows : List (List X)) (i j : ℕ) (x : X) (y : Y) → f x ≡ y → get_or (get_or (map (map f) rows) i []) j y ≡ f (get_or (get_or rows i []) j x)
+cell_map f rows i j x y to =
+    ap (λ row. get_or row j y) (get_or-map_default (map f) rows i [])
+    ∙ ap (λ z. get_or (map f (get_or rows i [])) j z) (sym to)
+    ∙ get_or-map_default f (get_or rows i []) j x
+
 -- no row gets longer or shorter by it
 pub row_lengths_kept : {X : Type 0} (rows : List (List X)) (i j : ℕ) (x : X) → map length (set rows i (set (get_or rows i []) j x)) ≡ map length rows
 row_lengths_kept rows i j x = map-set_same length rows i (set (get_or rows i []) j x) [] (length-set (get_or rows i []) j x)

@@ -5,7 +5,7 @@ use Rattle.std.specs.Option.{option_map}
 use Rattle.std.specs.List.{AllByRecursion, AllZip, flat_map}
 use Rattle.std.proofs.lemmas.List.Elements.{All-nil, All-cons, All-map}
 use Rattle.lists.proofs.Zips.{zip_back}
-use Rattle.lists.proofs.Members.{all_from_places}
+use Rattle.lists.proofs.Members.{all_from_places, all_at}
 use Rattle.std.proofs.lemmas.Option.{slice_get_within, get_or_from_slice_get}
 use Rattle.std_blocks.specs.declared.block_type.BlockType.{BlockType}
 use Rattle.words.specs.Chars.{is_plain_name, block_type}
@@ -100,9 +100,6 @@ unfolding words_of
 tree_plain text tree spelled =
     let all = last_part (flat_map program_words tree.programs) _ (spelled_plain text (words_of tree) spelled) in
     resources_plain tree.resources all.1.1
-
-all_at : {A : Type 0} (P : A → Type 0) (xs : List A) (k : ℕ) (x : A) → All P xs → slice_get xs k ≡ Some x → P x
-all_at P xs k x all at = subst P (get_or_from_slice_get xs k x x at) (all k x (slice_get_within xs k x at))
 
 -- a plant has the names of its tree
 abbrev name_of : ResourceValue → List ℕ

@@ -8,7 +8,7 @@ use Rattle.std.proofs.lemmas.List.Elements.{All-filter}
 use Rattle.std.proofs.lemmas.List.Sums.{sum_by-le, get_or-le-sum_by}
 use Rattle.std.proofs.lemmas.Option.{slice_get_within, get_or_from_slice_get}
 use Rattle.lists.proofs.Zips.{zip_length}
-use Rattle.lists.proofs.Members.{all_from_places, all_first, all_last}
+use Rattle.lists.proofs.Members.{all_from_places, all_first, all_last, all_at}
 use Rattle.lists.proofs.Places.{element_at}
 use Rattle.task_codes.specs.declared.binding.Binding.{Binding}
 use Rattle.plant_grammar.specs.declared.grammar.tree.Resource.{Resource}
@@ -28,9 +28,6 @@ zip_get R [] (z ∷ ys) k y each is = absurd each
 zip_get R (x ∷ xs) [] k y each is = absurd each
 zip_get R (x ∷ xs) (z ∷ ys) zero y each is = let e : z ≡ y = cc in (x, refl, subst (R x) e each.0)
 zip_get R (x ∷ xs) (z ∷ ys) (suc k) y each is = zip_get R xs ys k y each.1 is
-
-all_get : {X : Type 0} (P : X → Type 0) (xs : List X) (k : ℕ) (x : X) → All P xs → slice_get xs k ≡ Some x → P x
-all_get P xs k x all is = subst P (get_or_from_slice_get xs k x x is) (all k x (slice_get_within xs k x is))
 
 all_part : {X Y : Type 0} (P : Y → Type 0) (f : X → List Y) (xs : List X) (k : ℕ) (x : X) → All P (flat_map f xs) → slice_get xs k ≡ Some x → All P (f x)
 all_part P f [] k x all is = cc
@@ -71,7 +68,7 @@ small_code tree plant r t c few bound of =
     let instance = of.each i u.0 p.0 u.1 p.1 in
     let same = zip_length (IsBindingOf plant c instance.type) (binds_of u.0) (bindings_at c i) instance.bound in
     let here : length (bindings_at c i) ≡ length bs = ap (λ o. length (items_or_none o)) is in
-    let one = all_get (λ u. length (binds_of u) ≤ 4096) runs i u.0 run-bound u.1 in
+    let one = all_at (λ u. length (binds_of u) ≤ 4096) runs i u.0 run-bound u.1 in
     omega (arith, same, here, one)) in
     let total = sum_by-le length 4096 c.bindings each in
     record { programs = omega (arith, short, many, few); connections = omega (arith, total, as-many, short, many, few) }
@@ -84,7 +81,7 @@ record IsSmallResource (v : ResourceValue) : Type 0 where
 
 small_resource : (tree : Tree) (plant : PlantValue) (k : ℕ) (r : Resource) (v : ResourceValue) → IsTreeLawful tree → slice_get tree.resources k ≡ Some r → IsResourceOf tree plant r v → IsSmallResource v
 small_resource tree plant k r v tree_lawful is of =
-    let lawful = all_get (IsResourceLawful tree) tree.resources k r tree_lawful.resources_lawful is in
+    let lawful = all_at (IsResourceLawful tree) tree.resources k r tree_lawful.resources_lawful is in
     let few : length (uses_of r) ≤ 64 = let short = part_short uses_of tree.resources k r is in let all = tree_lawful.few_instances in omega (arith, short, all) in
     let bound = all_part (λ u. length (binds_of u) ≤ 4096) uses_of tree.resources k r (few_bound tree tree_lawful) is in
     let tasks : length v.tasks ≡ length (tasks_of r) = ap length of.tasks_are ∙ length-map (tasks_of r) task_value in

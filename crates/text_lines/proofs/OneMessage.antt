@@ -10,6 +10,7 @@ use Rattle.std.proofs.lemmas.Option.{same_Some, slice_get_within, get_or_from_sl
 use Rattle.lists.proofs.Places.{element_at}
 use Rattle.lists.proofs.Zips.{zip_back, zip_length}
 use Rattle.lists.specs.Items.{items_or_none}
+use Rattle.lists.proofs.Members.{all_at}
 use Rattle.words.specs.Chars.{is_letter_or_digit, is_rest, is_identifier, is_plain_name}
 use Rattle.task_codes.specs.declared.task_ref.TaskRef.{TaskRef}
 use Rattle.task_codes.specs.CodeValue.{CodeValue, image_kinds}
@@ -66,9 +67,6 @@ one_place name_of xs j k x y apart at here same =
     apart j k [] (slice_get_within (map name_of xs) j (name_of x) first) (slice_get_within (map name_of xs) k (name_of y) second)
     (same_named (get_or (map name_of xs) j []) (get_or (map name_of xs) k [])
     (get_or_from_slice_get (map name_of xs) j (name_of x) [] first ∙ same ∙ sym (get_or_from_slice_get (map name_of xs) k (name_of y) [] second)))
-
-all_at : {A : Type 0} (P : A → Type 0) (xs : List A) (k : ℕ) (x : A) → All P xs → slice_get xs k ≡ Some x → P x
-all_at P xs k x all at = subst P (get_or_from_slice_get xs k x x at) (all k x (slice_get_within xs k x at))
 
 -- a task with a code, and its resource
 record IsOwned (plant : PlantValue) (t : TaskRef) : Type 0 where

@@ -17,6 +17,7 @@ use Rattle.text_lines.specs.Lists.{instance_text, variable_text, list_text, give
 use Rattle.text_lines.specs.ReadParts.{IsInRange}
 use Rattle.text_lines.specs.MessageLines.{IsSmall}
 use Rattle.text_lines.specs.Steps.Reading.{HasNone, StopsAt, dotted, pair_text, IsPair, IsHeardOf, heard_item, IsOfKind, blank_give, IsGivenOf}
+use Rattle.text_lines.specs.Steps.Values.{same_value}
 use Rattle.text_lines.proofs.WordsRead.{none_decimal, none_value}
 use Rattle.text_lines.proofs.Messages.{blanks}
 
@@ -62,22 +63,6 @@ one_pair =
     (ap (λ n. (n, a.1)) first.0 ∙ ap (λ n. (b.0, n)) second.0, second.1)
 
 -- values of a kind
-same_value : (a b : Value) → kind_of a ≡ kind_of b → IsInRange a → IsInRange b → value_text a ≡ value_text b → a ≡ b
-same_value (BoolValue true) (BoolValue true) k r s e = refl
-same_value (BoolValue true) (BoolValue false) k r s e = let h : 49 ≡ 48 = ap (λ l. get_or l 0 0) e in absurd (omega (arith, h))
-same_value (BoolValue false) (BoolValue true) k r s e = let h : 48 ≡ 49 = ap (λ l. get_or l 0 0) e in absurd (omega (arith, h))
-same_value (BoolValue false) (BoolValue false) k r s e = refl
-same_value (IntValue n) (IntValue m) k r s e = let f = r.sfits in let g = s.sfits in ap (λ z. IntValue z) (signed_decimal_injective n m (omega (arith, f)) (omega (arith, g)) e)
-same_value (TimeValue t) (TimeValue u) k r s e =
-    let inner : decimal t ++ codes "ms" ≡ decimal u ++ codes "ms" = append_cancel_left (codes "T#") (decimal t ++ codes "ms") (decimal u ++ codes "ms") e in
-    ap (λ n. TimeValue n) (decimal_injective t u (omega (arith, r)) (omega (arith, s)) (append_cancel_right (decimal t) (decimal u) (codes "ms") inner))
-same_value (BoolValue x) (IntValue m) k r s e = absurd cc
-same_value (BoolValue x) (TimeValue u) k r s e = absurd cc
-same_value (IntValue n) (BoolValue y) k r s e = absurd cc
-same_value (IntValue n) (TimeValue u) k r s e = absurd cc
-same_value (TimeValue t) (BoolValue y) k r s e = absurd cc
-same_value (TimeValue t) (IntValue m) k r s e = absurd cc
-
 pub one_value : (kind : Kind) → IsOne value_text (IsOfKind kind) 32
 one_value kind =
     λ a b more left so other ends stops e.
