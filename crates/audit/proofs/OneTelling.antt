@@ -1,11 +1,10 @@
 -- A node and an audit do the same at each line.
-use Rattle.std.proofs.Common.{◌≡◌, ◌≢◌, ◌⊎◌, ℕ, zero, suc, ◌+◌, ◌<◌, ◌==◌, ◌&&◌, nat_lt, not, cond, Bool, true, false, inl, inr, List, [], ◌∷◌, ◌++◌, map, replicate, reverse, filter, length, get_or, Option, Some, None, refl, sym, ap, ◌∙◌, subst, arith, add-one}
-use Rattle.std.specs.Prelude.{slice_get, slice_set, slice_index}
+use Rattle.std.proofs.Common.{◌≡◌, ◌≢◌, ◌⊎◌, ℕ, zero, suc, ◌+◌, ◌<◌, ◌==◌, ◌&&◌, nat_lt, not, cond, Bool, true, false, inl, inr, List, [], ◌∷◌, ◌++◌, map, reverse, filter, length, get_or, Option, Some, None, refl, sym, ap, ◌∙◌, subst, arith, add-one}
+use Rattle.std.specs.Prelude.{slice_set, slice_index}
 use Rattle.std.specs.Option.{option_map, option_and_then}
 use Rattle.std.specs.List.{zip}
-use Rattle.std.proofs.Math.ListN.{get_or-map}
 use Rattle.std.proofs.lemmas.List.{reverse-append}
-use Rattle.std.proofs.lemmas.Bool.{eq-eqb, eqb-true, and_parts}
+use Rattle.std.proofs.lemmas.Bool.{eq-eqb}
 use Rattle.std.proofs.lemmas.Option.{same_Some, get_or_from_slice_get, slice_get-get_or, slice_get_within}
 use Rattle.lists.proofs.Places.{same_by_each}
 use Rattle.lists.proofs.Tables.{both_same, cell_same, cell_other, cell_map, cell_filled, cell_place, row_lengths_kept, row_lengths_filled}
@@ -18,13 +17,11 @@ use Rattle.task_codes.specs.CodeValue.{CodeValue}
 use Rattle.plant.specs.PlantValue.{ResourceValue, PlantValue, IsSoundPlant, code_at}
 use Rattle.evaluation.specs.declared.field_input.FieldInput.{FieldInput}
 use Rattle.evaluation.specs.declared.name.Name.{Name}
-use Rattle.evaluation.specs.declared.take.Take.{Take}
 use Rattle.evaluation.specs.Last.{left_by, takes_of, state_from, last_number, same_task}
 use Rattle.evaluation.specs.Laws.{OneEvaluation}
 use Rattle.evaluation.specs.Heard.{addresses}
 use Rattle.evaluation.specs.Meaning.{Evaluated, IsAsked}
 use Rattle.evaluation.specs.Messages.{MessageValue, message_of, take_from, taken_of, TakenAlike}
-use Rattle.evaluation.specs.Retained.{retained_values}
 use Rattle.exchange_core.specs.declared.accepted.Accepted.{Accepted}
 use Rattle.exchange_core.specs.declared.accepted.Accepted.TheVariants.{Taken, Old, Unused, Stray}
 use Rattle.exchange_core.specs.declared.last.Last.{Last}
@@ -41,11 +38,11 @@ use Rattle.node_reports.specs.declared.step.Step.{Step}
 use Rattle.node_reports.specs.declared.step.Step.TheVariants.{Took, Made, Restarted, Heard}
 use Rattle.node_reports.specs.declared.journal.Journal.{Journal}
 use Rattle.node_reports.specs.Journals.{made, newest, last_of, opening_at, with_step}
-use Rattle.node_reports.specs.Stations.{StationValue, PendingValue, fresh_station, IsReceived, IsTold, IsPending, IsNoted, IsRestarted}
+use Rattle.node_reports.specs.Stations.{StationValue, PendingValue, fresh_station, IsReceived, IsPending, IsNoted, IsRestarted}
 use Rattle.audit.specs.declared.item.Item.{Item}
 use Rattle.audit.specs.declared.item.Item.TheVariants.{Start, Restart, Message, Hello, Evaluate, Faulty}
 use Rattle.audit.specs.declared.line.Line.{Line}
-use Rattle.audit.specs.Lines.{zeros, messages_in, left_in, AreLeft, Rises, Takes, Hears, Evaluates, Does, IsBeginning, StandsAt, item_at, ticket_at, ticket_behind, OpensWith, WasUndone}
+use Rattle.audit.specs.Lines.{zeros, messages_in, left_in, AreLeft, Rises, Takes, Hears, Does, IsBeginning, StandsAt, item_at, ticket_at, ticket_behind, OpensWith, WasUndone}
 use Rattle.audit.specs.OneTelling.{NodeComes, NodeStandsAt, AreAlike, IsUndoneAt, OneTelling}
 use Rattle.audit.proofs.Leavings.{left_made, left_other}
 

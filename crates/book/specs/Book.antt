@@ -4,7 +4,7 @@ use Rattle.std.specs.List.{AllByRecursion}
 use Rattle.evaluation.specs.Meaning.{Evaluated}
 use Rattle.book.specs.declared.book.misfit.Misfit.{Misfit}
 use Rattle.book.specs.declared.book.misfit.Misfit.TheVariants.{WrongNumber, UnknownTake, Torn, Back, NotOwnLatest, Memory, NotAddressed, Misheard}
-use Rattle.book.specs.Fits.{IsNumbered, IsKnown, IsUntorn, IsNotBack, IsOwnLatest, IsAddressed, IsWellHeard, Fits}
+use Rattle.book.specs.Fits.{IsNumbered, IsKnown, IsUntorn, IsNotBack, IsOwnLatest, IsAddressed, IsWellHeard}
 
 -- A book: the first incarnation of each resource, and the entries in their order.
 pub record BookValue : Type 0 where

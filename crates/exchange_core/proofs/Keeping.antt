@@ -21,7 +21,7 @@ use Rattle.exchange_core.specs.declared.last.Last.{Last}
 use Rattle.exchange_core.specs.declared.last.Last.TheVariants.{Whole, Told}
 use Rattle.exchange_core.specs.HeldMessages.{message_in, whole_in, known, whole_known, with_known, empty_for}
 use Rattle.exchange_core.specs.Openings.{AreOpeningOf}
-use Rattle.exchange_core.specs.MessageCoreValue.{MessageCoreValue, core_of, fresh_core, kept_at, own_last, own_task, held_of, whole_held_of, IsUsable, IsNextOf, IsCore, IsKnownOf, IsMadeBy}
+use Rattle.exchange_core.specs.MessageCoreValue.{MessageCoreValue, core_of, fresh_core, kept_at, own_last, own_task, held_of, whole_held_of, IsUsable, IsNextOf, IsCore, IsKnownOf}
 use Rattle.exchange_core.specs.Steps.Outliving.{AreLeft}
 use Rattle.exchange_core.specs.Steps.KnowingMessages.{has_place, FitsLast, Holds}
 use Rattle.exchange_core.proofs.Tables.{place_of_code}

@@ -1,9 +1,9 @@
 -- The texts of retained variables: different values have different ones, and none is longer than that of the longest values.
-use Rattle.std.proofs.Common.{arith, ◌≡◌, ◌≢◌, ℕ, zero, suc, ◌+◌, ◌%◌, ◌<◌, ◌≤◌, ◌^◌, ◌++◌, ◌∷◌, [], List, length, map, take, get_or, slice_get, true, false, pos, negsuc, sym, ap, refl, ◌∙◌, append_assoc}
+use Rattle.std.proofs.Common.{arith, ◌≡◌, ◌≢◌, ℕ, zero, suc, ◌+◌, ◌%◌, ◌<◌, ◌≤◌, ◌^◌, ◌++◌, ◌∷◌, [], List, length, map, take, slice_get, true, false, pos, negsuc, sym, ap, refl, ◌∙◌, append_assoc}
 use Rattle.std.specs.List.{AllByRecursion, flat_map, zip}
 use Rattle.std.specs.Fmt.{digits, decimal, signed_decimal}
-use Rattle.std.proofs.lemmas.Fmt.{decimal_by_steps, decimal_injective, signed_decimal_injective, length-decimal-le, length_signed_le}
-use Rattle.std.proofs.lemmas.List.{length-append, length-map, length-take, append_cancel_left, append_cancel_right}
+use Rattle.std.proofs.lemmas.Fmt.{decimal_by_steps, length-decimal-le, length_signed_le}
+use Rattle.std.proofs.lemmas.List.{length-append, length-map, length-take, append_cancel_left}
 use Rattle.lists.proofs.Each.{each-append}
 use Rattle.std_blocks.specs.declared.value.Value.{Value}
 use Rattle.std_blocks.specs.declared.value.Value.TheVariants.{Bool as BoolValue, Int as IntValue, Time as TimeValue}

@@ -1,5 +1,5 @@
 -- Places that are numbered, the table that finds their numbers, and the numbers of the places in a list.
-use Rattle.std.proofs.Common.{◌≡◌, ◌↔◌, ℕ, ◌-◌, ◌<◌, ◌≤◌, ◌⊎◌, Bool, true, false, ◌&&◌, nat_eq, None, inl, inr, List, [], ◌∷◌, ◌++◌, Option, Some, is_some, IsTrue, Contains, slice_get, suc, zero, length, refl, sym, ap, ◌∙◌, arith}
+use Rattle.std.proofs.Common.{◌≡◌, ◌↔◌, ℕ, ◌-◌, ◌<◌, ◌≤◌, ◌⊎◌, Bool, true, false, ◌&&◌, nat_eq, None, inl, inr, List, [], ◌∷◌, ◌++◌, Option, Some, is_some, IsTrue, Contains, slice_get, length, refl, sym, ap, ◌∙◌, arith}
 use Rattle.std.proofs.lemmas.Bool.{cases_eq, eqb-true, eq-eqb}
 use Rattle.std.proofs.lemmas.Option.{slice_get_within}
 use Rattle.lists.proofs.Places.{push_cases}

@@ -1,12 +1,11 @@
 -- The names of a plant that a text spells are plain, and apart.
 use Rattle.std.proofs.Common.{◌≡◌, ℕ, Bool, true, false, IsTrue, cond, List, [], ◌∷◌, ◌++◌, Option, Some, None, All, map, refl, sym, ap, ◌∙◌, subst}
-use Rattle.std.specs.Prelude.{slice_get, unwrap_or}
+use Rattle.std.specs.Prelude.{unwrap_or}
 use Rattle.std.specs.Option.{option_map}
 use Rattle.std.specs.List.{AllByRecursion, AllZip, flat_map}
 use Rattle.std.proofs.lemmas.List.Elements.{All-nil, All-cons, All-map}
 use Rattle.lists.proofs.Zips.{zip_back}
 use Rattle.lists.proofs.Members.{all_from_places, all_at}
-use Rattle.std.proofs.lemmas.Option.{slice_get_within, get_or_from_slice_get}
 use Rattle.std_blocks.specs.declared.block_type.BlockType.{BlockType}
 use Rattle.words.specs.Chars.{is_plain_name, block_type}
 use Rattle.words.specs.Addresses.{address}
@@ -22,12 +21,11 @@ use Rattle.plant_grammar.specs.declared.grammar.tree.TaskLine.{TaskLine}
 use Rattle.plant_grammar.specs.declared.grammar.tree.Item.{Item}
 use Rattle.plant_grammar.specs.declared.grammar.tree.Item.TheVariants as item
 use Rattle.plant_grammar.specs.declared.grammar.tree.Resource.{Resource}
-use Rattle.plant_grammar.specs.Grammar.{Tree, task_words, use_words, item_words, items_words, resource_words, resources_words, program_words, words_of}
+use Rattle.plant_grammar.specs.Grammar.{Tree, task_words, use_words, items_words, resource_words, resources_words, program_words, words_of}
 use Rattle.plant_grammar.specs.Names.{AreNamesApart}
 use Rattle.plant_grammar.specs.Lawful.{task_of, tasks_of, IsResourceLawful}
 use Rattle.plant.specs.PlantValue.{TaskValue, ResourceValue, PlantValue}
 use Rattle.plant.specs.StandsFor.{task_value, IsResourceOf}
-use Rattle.plant.specs.PlantText.{IsPlantText}
 use Rattle.plant.specs.NamesApart.{AreTasksNamed, NamesAreApart}
 
 -- a word that is a name is a plain one

@@ -1,14 +1,12 @@
 -- Names that are apart, and lists of lists.
-use Rattle.std.proofs.Common.{◌≡◌, ℕ, ◌-◌, ◌≤◌, ◌<◌, ◌++◌, ◌||◌, ◌↔◌, Bool, IsTrue, inl, inr, List, [], ◌∷◌, length, map, get_or, refl, sym, ap, ◌∙◌, subst, arith, zero, suc}
+use Rattle.std.proofs.Common.{◌≡◌, ℕ, ◌-◌, ◌≤◌, ◌<◌, ◌++◌, ◌||◌, ◌↔◌, Bool, IsTrue, inl, inr, List, [], ◌∷◌, length, map, get_or, refl, sym, ap, ◌∙◌, subst, arith}
 use Rattle.std.proofs.Math.Seq.{get_or-append_right}
 use Rattle.std.proofs.lemmas.List.{get_or-map, get_or_append_left, length-append, length-map, map-append, get_or_default}
 use Rattle.std.proofs.lemmas.List.Folds.{Any-from_list_any, list_any-from_Any, list_any-append}
 use Rattle.std.proofs.lemmas.List.Concat.{flat_map-cons}
 use Rattle.std.proofs.lemmas.Bool.{cases_lt}
-use Rattle.std.proofs.lemmas.Slice.Eq.{bytes_eq-Decides}
 use Rattle.std.specs.Prelude.{Any}
 use Rattle.std.specs.List.{flat_map, list_any}
-use Rattle.std.specs.Str.{str_to_ascii_lowercase}
 use Rattle.plant_grammar.specs.Steps.SameNames.{named_back}
 use Rattle.plant_grammar.specs.Names.{is_named, AreNamesApart}
 use Rattle.plant_grammar.specs.Steps.ReadParts.{IsNew}

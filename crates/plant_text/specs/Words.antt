@@ -1,6 +1,6 @@
 -- What single words of a plant's text are.
-use Rattle.std.specs.Prelude.{ℕ, ◌==◌, ◌||◌, Bool, if◌then◌else◌, List, [], ◌∷◌, take, drop, codes, Option, Some, None, unwrap_or}
-use Rattle.std.specs.Option.{option_map, option_and_then}
+use Rattle.std.specs.Prelude.{ℕ, ◌==◌, ◌||◌, Bool, if◌then◌else◌, List, [], ◌∷◌, codes, Option, Some, None, unwrap_or}
+use Rattle.std.specs.Option.{option_map}
 use Rattle.words.specs.Chars.{is_letter_or_digit, same_word, first_that, is_plain_name, block_type}
 use Rattle.words.specs.Addresses.{address}
 use Rattle.plant_text.specs.declared.token.Token.{Token}

@@ -1,6 +1,6 @@
 -- Scans follow one another, and so do their lines and drawings.
 use Rattle.std.proofs.Common.{◌≡◌, ℕ, ◌+◌, ◌≤◌, ◌++◌, List, [], ◌∷◌, Bool, false, Option, All, length, map, take, sum_by, replicate, refl, sym, ap, ◌∙◌, subst, arith}
-use Rattle.std.proofs.lemmas.List.{length-append, length-map, length-replicate, map-append}
+use Rattle.std.proofs.lemmas.List.{length-append, length-replicate, map-append}
 use Rattle.std.proofs.lemmas.List.Elements.{All-replicate}
 use Rattle.std.proofs.Math.Seq.{take-append-add, take-length}
 use Rattle.std.proofs.KnownBytes.{Appends-nil, Appends-trans}
@@ -16,15 +16,13 @@ use Rattle.power_flow.specs.StateValue.{StateValue}
 use Rattle.power_flow.specs.LadderValue.{LadderValue}
 use Rattle.power_flow.specs.Shown.{ShowsPower}
 use Rattle.text_commands.specs.Rows.{RowValue, scans_of}
-use Rattle.text_commands.specs.Lines.{line_of}
-use Rattle.text_commands.specs.LiveDrawing.{live_drawing}
 use Rattle.text_commands.specs.EvalText.{set_before}
 use Rattle.text_commands.specs.Shown.{IsShown}
 use Rattle.text_commands.specs.Shown.IsShown.{begun, after}
 use Rattle.text_commands.specs.Trace.{IsTrace}
 use Rattle.text_commands.specs.Trace.IsTrace.{begun as no_scan, after as next_scan}
 use Rattle.text_commands.specs.Steps.Testing.{slots_of}
-use Rattle.text_commands.specs.Steps.Showing.{IsShownScan, SomeShown, StopsShown}
+use Rattle.text_commands.specs.Steps.Showing.{IsShownScan, StopsShown}
 
 -- scans that are shown are a trace
 pub shown_traced : (drawing : List ℕ) (color : Bool) (ds : List Declaration) (networks : List Diagram) (dt : ℕ) (rows : List RowValue) (states : List (List Slot)) (slots : List Slot) (memories : List Bool)

@@ -7,7 +7,6 @@ use Rattle.std.proofs.KnownBytes.{Keeps-refl}
 use Rattle.std.specs.Io.KnownBytes.{Appends}
 use Rattle.network.specs.Links.{Diagram}
 use Rattle.declared_names.specs.declared.declarations.Declaration.{Declaration}
-use Rattle.scan_steps.specs.declared.slot.Slot.{Slot}
 use Rattle.text_lines.specs.Sending.{SendsLess, Stops}
 use Rattle.text_lines.specs.declared.send_fault.SendFault.{SendFault}
 use Rattle.text_lines.specs.declared.send_fault.SendFault.TheVariants as sending
@@ -20,12 +19,12 @@ use Rattle.text_commands.specs.Giving.{sending_fault}
 use Rattle.text_commands.specs.Rows.{RowValue, scans_of}
 use Rattle.text_commands.specs.Expectations.{SpellTest, test_scans}
 use Rattle.power_flow.specs.StateValue.{StateValue}
-use Rattle.text_commands.specs.Trace.{IsTrace, SomeTrace}
+use Rattle.text_commands.specs.Trace.{SomeTrace}
 use Rattle.text_commands.specs.Lines.{line_of}
 use Rattle.text_commands.specs.Chart.{chart_of}
 use Rattle.text_commands.specs.Shown.{IsShown}
 use Rattle.text_commands.specs.EvalText.{IsLadderOfDrawing, SomeScans, StopsScans, WritesScans}
-use Rattle.text_commands.specs.TestText.{AgreesBefore, AskedTest, ExplainsTest, IsOutcome, IsTextOf, StopsTest, WritesTest, is_chart}
+use Rattle.text_commands.specs.TestText.{AgreesBefore, ExplainsTest, IsOutcome, IsTextOf, StopsTest, WritesTest, is_chart}
 use Rattle.text_commands.specs.Steps.Refusing.{RefusesLadder}
 use Rattle.text_commands.specs.Steps.Testing.{IsFormTrace, IsTestTrace, IsTraceOf, RefusesTest, slots_of}
 use Rattle.text_commands.specs.Steps.Showing.{IsShownTrace, SomeShown, StopsShown, WritesShown}

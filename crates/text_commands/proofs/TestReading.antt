@@ -4,14 +4,14 @@ use Rattle.std.proofs.lemmas.List.{append-nil, take_more, length-map}
 use Rattle.std.proofs.lemmas.List.Elements.{filter-append}
 use Rattle.std.proofs.lemmas.Option.{slice_get-get_or}
 use Rattle.std.specs.Borrow.{Bor}
-use Rattle.std.specs.Prelude.{All, Any, Some, not, slice_get, IsTrue}
+use Rattle.std.specs.Prelude.{All, Some, not, slice_get}
 use Rattle.std.specs.List.{AllZip, filter}
 use Rattle.lists.proofs.Zips.{zip_push}
 use Rattle.declared_names.specs.declared.declarations.Declaration.{Declaration}
 use Rattle.text_commands.specs.declared.word_fault.WordFault.{WordFault}
 use Rattle.text_commands.specs.declared.text_command_fault.TextCommandFault.{TextCommandFault}
 use Rattle.text_commands.specs.declared.text_command_fault.TextCommandFault.TheVariants.{Text, Word, Write, Memory}
-use Rattle.text_commands.specs.Rows.{RowValue, IsRow, IsBoolAt, AreOfDistinctVariables, texts}
+use Rattle.text_commands.specs.Rows.{RowValue, IsRow, IsBoolAt, texts}
 use Rattle.text_commands.specs.Expectations.{IsExpected, IsFirstRefusedOf, IsRefusedBehind, SpellTest, is_expectation}
 use Rattle.text_commands.specs.Steps.Testing.{AddsWord, IsNewPlace, RefusesWordBehind, RefusesTest}
 use Rattle.text_commands.proofs.WordRows.{all_bool, apart_push, word_at, zip_at}

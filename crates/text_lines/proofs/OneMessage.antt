@@ -1,7 +1,6 @@
 -- A line is that of one message alone, where the names of a plant are apart.
-use Rattle.std.proofs.Common.{arith, ◌≡◌, ◌≢◌, ℕ, ◌<◌, ◌≤◌, ◌==◌, ◌&&◌, ◌||◌, not, nat_lt, nat_le, Bool, true, false, IsTrue, ◌++◌, ◌∷◌, [], List, length, map, get_or, All, Option, Some, None, sym, ap, refl, ◌∙◌, subst, append_assoc, rules, tests}
+use Rattle.std.proofs.Common.{arith, ◌≡◌, ◌≢◌, ℕ, ◌<◌, ◌≤◌, ◌==◌, ◌&&◌, ◌||◌, Bool, true, false, IsTrue, ◌++◌, ◌∷◌, [], List, length, map, get_or, Option, Some, None, sym, ap, refl, ◌∙◌, subst, append_assoc, rules, tests}
 use Rattle.std.specs.Prelude.{codes, slice_get}
-use Rattle.std.specs.List.{AllZip}
 use Rattle.std.specs.Option.{option_map}
 use Rattle.std.specs.Str.{str_to_ascii_lowercase}
 use Rattle.std.proofs.lemmas.Slice.Eq.{bytes_eq-Decides}
@@ -20,11 +19,10 @@ use Rattle.plant.specs.PlantValue.{TaskValue, ResourceValue, PlantValue, code_at
 use Rattle.plant.specs.StandsFor.{task_value, IsCodeOf, IsResourceOf}
 use Rattle.plant.specs.PlantText.{IsPlantText}
 use Rattle.plant.specs.NamesApart.{AreTasksNamed, HasNamesApart, NamesAreApart}
-use Rattle.evaluation.specs.declared.name.Name.{Name}
 use Rattle.evaluation.specs.Messages.{MessageValue, message}
 use Rattle.text_lines.specs.LineParts.{resource_text, task_name}
 use Rattle.text_lines.specs.Lists.{gives_text}
-use Rattle.text_lines.specs.MessageLines.{message_line, IsMessageOf}
+use Rattle.text_lines.specs.MessageLines.{IsMessageOf}
 use Rattle.text_lines.specs.OneMessage.{OneMessage}
 use Rattle.text_lines.specs.Steps.Reading.{HasNone, before_pair, pair_text, IsHeardOf, heard_item, all_heard_text}
 use Rattle.text_lines.proofs.Messages.{all_small, all_given, line_parted, name_with}

@@ -1,20 +1,17 @@
 -- Texts of which what is written, and where it ends, is one thing.
-use Rattle.std.proofs.Common.{arith, ◌≡◌, ◌≢◌, ℕ, ◌<◌, ◌++◌, ◌∷◌, [], List, map, get_or, true, false, sym, ap, refl, ◌∙◌, append_assoc}
+use Rattle.std.proofs.Common.{arith, ◌≡◌, ◌≢◌, ℕ, ◌<◌, ◌++◌, ◌∷◌, [], List, map, sym, ap, refl, ◌∙◌, append_assoc}
 use Rattle.std.specs.Prelude.{codes, slice_get}
 use Rattle.std.specs.List.{AllZip, flat_map, zip}
-use Rattle.std.specs.Fmt.{decimal, signed_decimal}
-use Rattle.std.proofs.lemmas.Fmt.{decimal_injective, signed_decimal_injective}
-use Rattle.std.proofs.lemmas.List.{append_cancel_left, append_cancel_right}
+use Rattle.std.specs.Fmt.{decimal}
+use Rattle.std.proofs.lemmas.Fmt.{decimal_injective}
+use Rattle.std.proofs.lemmas.List.{append_cancel_left}
 use Rattle.std_blocks.specs.declared.value.Value.{Value}
-use Rattle.std_blocks.specs.declared.value.Value.TheVariants.{Bool as BoolValue, Int as IntValue, Time as TimeValue}
 use Rattle.declared_names.specs.declared.declarations.Kind.{Kind}
-use Rattle.declared_names.specs.Kinds.{kind_of}
 use Rattle.task_codes.specs.declared.task_output.TaskOutput.{TaskOutput}
 use Rattle.task_codes.specs.CodeValue.{CodeValue}
 use Rattle.plant.specs.PlantValue.{ResourceValue}
 use Rattle.text_lines.specs.LineParts.{value_text}
 use Rattle.text_lines.specs.Lists.{instance_text, variable_text, list_text, give_text}
-use Rattle.text_lines.specs.ReadParts.{IsInRange}
 use Rattle.text_lines.specs.MessageLines.{IsSmall}
 use Rattle.text_lines.specs.Steps.Reading.{HasNone, StopsAt, dotted, pair_text, IsPair, IsHeardOf, heard_item, IsOfKind, blank_give, IsGivenOf}
 use Rattle.text_lines.specs.Steps.Values.{same_value}

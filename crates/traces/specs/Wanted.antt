@@ -1,5 +1,5 @@
 -- The texts of a trace that are wanted.
-use Rattle.std.specs.Prelude.{◌≡◌, ℕ, ◌&&◌, Bool, not, true, false, if◌then◌else◌, List, Option, None, Some, string_bytes}
+use Rattle.std.specs.Prelude.{◌≡◌, ℕ, ◌&&◌, Bool, not, true, false, if◌then◌else◌, List, None, Some, string_bytes}
 use Rattle.std.specs.Option.{option_map, option_map_or}
 use Rattle.traces.specs.declared.texts.Wanted.{Wanted}
 use Rattle.traces.specs.declared.texts.TraceTexts.{TraceTexts}

@@ -1,7 +1,7 @@
 -- How a schedule ends.
 use Rattle.std.proofs.Common.{◌≡◌, ◌≢◌, ℕ, ◌+◌, ◌-◌, ◌<◌, ◌≤◌, ◌==◌, Bool, true, false, cond, List, [], ◌∷◌, ◌++◌, length, map, take, get_or, Option, Some, slice_get, refl, sym, ap, ◌∙◌, subst, arith, length-append, Bor}
 use Rattle.std.specs.Prelude.{slice_index}
-use Rattle.std.specs.List.{slice_split, count_by}
+use Rattle.std.specs.List.{count_by}
 use Rattle.std.specs.Io.KnownBytes.{Appends, Keeps}
 use Rattle.std.proofs.KnownBytes.{Appends-trans, Appends-nil, Keeps-refl}
 use Rattle.std.proofs.Math.Seq.{take-append_seam, get_or-append_seam, take-append-add}

@@ -6,7 +6,6 @@ use Rattle.std.proofs.lemmas.Option.{slice_get_within, slice_get-get_or, get_or_
 use Rattle.lists.proofs.Places.{slice_get-set_same, push_cases, push_here, push_old}
 use Rattle.network.specs.declared.element.Element.{Element}
 use Rattle.network.specs.Steps.Ranks.{IsIn, AreSplit, IsPut}
-use Rattle.lists.proofs.Mapped.{mapped_at}
 use Rattle.network.proofs.Basics.{some_is, one_at, get_set, get_map}
 
 set_get_other : {A : Type 0} (xs : List A) (i k : ℕ) (x y : A) → (k ≡ i → ⊥) → slice_get xs k ≡ Some y → slice_get (set xs i x) k ≡ Some y

@@ -1,5 +1,5 @@
 -- Elements of a drawing in few bytes: what each entry of a list stands for.
-use Rattle.std.specs.Prelude.{◌≡◌, ℕ, List, Option, Some, None, slice_get, map}
+use Rattle.std.specs.Prelude.{◌≡◌, List, Option, Some, None, slice_get, map}
 use Rattle.drawings.specs.Picture.{Picture}
 use Rattle.drawings.specs.declared.contact.Contact.{Contact as DrawnContact}
 use Rattle.drawings.specs.declared.coil.Coil.{Coil as DrawnCoil}

@@ -1,5 +1,5 @@
 -- What the parts of a test give and answer.
-use Rattle.std.specs.Prelude.{◌≡◌, ℕ, ◌++◌, ◌⊎◌, List, [], ◌∷◌, Bool, false, Option, Some, None, IsTrue, Any, map, length}
+use Rattle.std.specs.Prelude.{◌≡◌, ℕ, ◌++◌, ◌⊎◌, List, [], ◌∷◌, false, Option, Some, IsTrue, Any, map, length}
 use Rattle.std_blocks.specs.declared.value.Value.{Value}
 use Rattle.network.specs.Links.{Diagram}
 use Rattle.declared_names.specs.declared.declarations.Declaration.{Declaration}

@@ -1,5 +1,5 @@
 -- Values of one kind and one text are one.
-use Rattle.std.proofs.Common.{arith, ◌≡◌, ◌++◌, true, false, get_or, sym, ap, refl}
+use Rattle.std.proofs.Common.{arith, ◌≡◌, ◌++◌, true, false, get_or, ap, refl}
 use Rattle.std.specs.Prelude.{codes}
 use Rattle.std.specs.Fmt.{decimal}
 use Rattle.std.proofs.lemmas.Fmt.{decimal_injective, signed_decimal_injective}

@@ -1,5 +1,5 @@
 -- How a track shows itself.
-use Rattle.std.specs.Prelude.{ℕ, List, Option, String, string_bytes}
+use Rattle.std.specs.Prelude.{List, Option, String, string_bytes}
 use Rattle.std_blocks.specs.declared.value.Value.{Value}
 use Rattle.traces.specs.Tracks.{ScopeValue, TrackValue}
 

@@ -1,12 +1,12 @@
 -- What the tables beside a schedule tell of the entries so far.
-use Rattle.std.proofs.Common.{◌≡◌, ◌⊎◌, inl, inr, ◌↔◌, ℕ, zero, suc, ◌+◌, ◌<◌, ◌≤◌, Bool, true, false, cond, ◌&&◌, ◌||◌, List, [], ◌∷◌, ◌++◌, length, take, drop, get_or, map, Option, Some, None, refl, ap, sym, ◌∙◌, subst, arith, eqb, ltb, length-append}
+use Rattle.std.proofs.Common.{◌≡◌, ◌⊎◌, inl, inr, ◌↔◌, ℕ, zero, suc, ◌+◌, ◌<◌, ◌≤◌, Bool, true, false, cond, ◌&&◌, ◌||◌, List, [], ◌∷◌, ◌++◌, length, take, drop, get_or, Option, Some, None, refl, ap, sym, ◌∙◌, subst, arith, eqb, ltb, length-append}
 use Rattle.std.proofs.Math.ListN.{set}
 use Rattle.std.specs.Prelude.{reverse, slice_get, is_some}
 use Rattle.std.specs.Option.{option_map, option_and_then}
 use Rattle.std.specs.List.{AllByRecursion, list_any, find}
-use Rattle.std.proofs.lemmas.Bool.{false≢true, eqb-true, eq-eqb, ne_eqb, cases_lt, cases_eq, lt-ltb, le-ltb, and_parts}
+use Rattle.std.proofs.lemmas.Bool.{false≢true, eqb-true, eq-eqb, cases_lt, cases_eq, lt-ltb, le-ltb, and_parts}
 use Rattle.std.proofs.lemmas.List.{take_all, drop_more, length-reverse, length-take-le, length-set}
-use Rattle.std.proofs.lemmas.Option.{none-some, same_Some, slice_get_within, slice_get-get_or}
+use Rattle.std.proofs.lemmas.Option.{none-some, same_Some, slice_get_within}
 use Rattle.lists.proofs.Places.{slice_get-append, slice_get-set_same, slice_get-set_other}
 use Rattle.task_codes.specs.declared.task_ref.TaskRef.{TaskRef}
 use Rattle.evaluation.specs.declared.name.Name.{Name}
@@ -20,7 +20,7 @@ use Rattle.world.specs.declared.schedule.last_takes.LastTake.{LastTake}
 use Rattle.world.specs.declared.schedule.tables.Seen.{Seen}
 use Rattle.world.specs.declared.schedule.tables.Tables.{Tables}
 use Rattle.world.specs.Schedule.{is_from, message_of, taken_in, has_taken_from, last_taken, is_of_node}
-use Rattle.world.specs.Steps.Tables.{before, is_of_resource, takes_from, if_in, is_of_producer, told_by, told_in, told_over, told_with, told_last, taken_in_incarnation, TellTakes, SeesMore, IsSeen, AreUnseen, Tells, TellsOneMore, IsAt}
+use Rattle.world.specs.Steps.Tables.{before, is_of_resource, takes_from, if_in, is_of_producer, told_by, told_in, told_over, told_with, told_last, taken_in_incarnation, TellTakes, SeesMore, IsSeen, AreUnseen, Tells, IsAt}
 use Rattle.world.proofs.Histories.Tasks.{same_task-true, same_task-itself}
 use Rattle.world.proofs.Schedules.Listing.{turned-more}
 use Rattle.world.proofs.Schedules.Scheduling.{named-true, named-itself}

@@ -1,5 +1,5 @@
 -- Each number is the greater of what it was and what the entry tells.
-use Rattle.std.proofs.Common.{◌≡◌, ◌∙◌, arith, ap, max, length}
+use Rattle.std.proofs.Common.{◌≡◌, ◌∙◌, arith, ap, max}
 use Rattle.book.specs.Fits.{told_of}
 use Rattle.book.proofs.present.raise_present.Goals as goal
 

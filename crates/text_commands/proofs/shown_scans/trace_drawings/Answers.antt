@@ -1,7 +1,6 @@
-use Rattle.std.proofs.Common.{◌≡◌, ◌≤◌, length, refl, subst, sym, ap, ◌∙◌, arith}
+use Rattle.std.proofs.Common.{◌≡◌, ◌≤◌, length, refl, ap, ◌∙◌, arith}
 use Rattle.std.proofs.lemmas.List.{length-map}
 use Rattle.text_commands.specs.Steps.Setting.{fits_after}
-use Rattle.text_commands.specs.Steps.Showing.{IsShownScan}
 use Rattle.text_commands.specs.Steps.Testing.{slots_of}
 use Rattle.text_commands.proofs.Showing.{shown_begun, shown_more, slots_more}
 use Rattle.text_commands.proofs.Tracing.{one_longer}

@@ -1,6 +1,5 @@
 use Rattle.std.proofs.Common.{◌∙◌, Vec, Global, length, sym}
 use Rattle.drawings.specs.declared.place.Place.{Place}
-use Rattle.network.specs.declared.element.Element.{Element}
 use Rattle.network.specs.declared.networks.Network.{Network}
 use Rattle.network.specs.declared.order.ranks.Ranks.{Ranks}
 use Rattle.network.specs.Networks.{AreLeftRails, IsUnattachedAt, IsTooTallAt, IsTwiceAt, HoldsNowhere}

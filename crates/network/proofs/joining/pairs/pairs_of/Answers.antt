@@ -1,4 +1,4 @@
-use Rattle.std.proofs.Common.{◌≡◌, ◌∙◌, Some, length, slice_get, refl, arith}
+use Rattle.std.proofs.Common.{◌≡◌, ◌∙◌, Some, slice_get, arith}
 use Rattle.network.specs.Steps.Listed.{element_seen}
 use Rattle.network.proofs.Joined.LinkedPairs.{last_more, pairs_more}
 use Rattle.network.proofs.joining.pairs.pairs_of.Goals as goal

@@ -1,4 +1,4 @@
-use Rattle.std.proofs.Common.{◌∙◌, Some, length, inl, inr, refl, ap}
+use Rattle.std.proofs.Common.{◌∙◌, Some, inl, inr, refl, ap}
 use Rattle.network.specs.declared.element.Element.TheVariants.{Wire, Join, Upright, Contact, Coil, Box}
 use Rattle.network.specs.declared.listing.listed.Seen.{Seen}
 use Rattle.network.specs.Links.{place}

@@ -1,4 +1,4 @@
-use Rattle.std.proofs.Common.{◌≡◌, ◌∙◌, Some, length, slice_get, refl, arith}
+use Rattle.std.proofs.Common.{◌≡◌, ◌∙◌, Some, slice_get, arith}
 use Rattle.network.specs.Steps.Listed.{element_seen}
 use Rattle.network.proofs.Joined.LinkedPairs.{takers_more}
 use Rattle.network.proofs.joining.takers.takers_of.Goals as goal

@@ -1,11 +1,8 @@
-use Rattle.std.proofs.Common.{◌≡◌, ◌∙◌, ◌+◌, ◌++◌, ◌∷◌, [], List, MatchOption, OnOk, Option, Result, Some, None, map, refl, sym, ap}
+use Rattle.std.proofs.Common.{◌≡◌, ◌∙◌, ◌+◌, ◌++◌, ◌∷◌, [], List, MatchOption, OnOk, Option, Result, Some, None, sym, ap}
 use Rattle.std.proofs.lemmas.List.{map-append}
-use Rattle.std.specs.Option.{option_map}
 use Rattle.std.specs.declared.alloc.AllocError.{AllocError}
 use Rattle.drawings.specs.Picture.{Picture, IsSound, mark_at}
 use Rattle.drawings.specs.declared.place.Place.{Place}
-use Rattle.network.specs.declared.element.Element.{Element}
-use Rattle.network.specs.declared.element.Element.TheVariants.{Wire, Join, Upright}
 use Rattle.network.specs.declared.listing.listed.Entry.{Entry}
 use Rattle.network.specs.declared.listing.listed.Entry.TheVariants.{Wire as WireEntry, Join as JoinEntry, Upright as UprightEntry}
 use Rattle.network.specs.Apart.{first_place}

@@ -1,6 +1,4 @@
-use Rattle.std.proofs.Common.{rules, ◌≡◌, ◌∙◌, ◌<◌, Some, length, slice_get, sym, refl}
-use Rattle.std.proofs.lemmas.Option.{slice_get_within, slice_get_read}
-use Rattle.network.proofs.Basics.{some_is}
+use Rattle.std.proofs.Common.{◌≡◌, ◌∙◌, ◌<◌}
 use Rattle.network.proofs.Listed.FoundSymbols.{coil_there, no_coil, a_coil, inside_coil}
 use Rattle.network.proofs.listing.symbols.coil_at.Goals as coil_at_goals
 

@@ -1,6 +1,4 @@
-use Rattle.std.proofs.Common.{rules, ◌≡◌, ◌∙◌, ◌<◌, Some, length, slice_get, sym, refl}
-use Rattle.std.proofs.lemmas.Option.{slice_get_within, slice_get_read}
-use Rattle.network.proofs.Basics.{some_is}
+use Rattle.std.proofs.Common.{◌≡◌, ◌∙◌, ◌<◌}
 use Rattle.network.proofs.Listed.FoundSymbols.{contact_there, no_contact, a_contact, inside_contact}
 use Rattle.network.proofs.listing.symbols.contact_at.Goals as goal
 

@@ -1,11 +1,10 @@
 -- Of the entry's resource one entry more is seen, and of the others the same.
-use Rattle.std.proofs.Common.{◌≡◌, ◌∙◌, ℕ, Some, get_or, refl, ap, sym, subst}
+use Rattle.std.proofs.Common.{◌≡◌, ◌∙◌, Some, get_or, refl, ap, sym, subst}
 use Rattle.std.proofs.Math.ListN.{set}
 use Rattle.std.specs.Prelude.{slice_get}
 use Rattle.std.specs.Vec.{with_item}
 use Rattle.std.proofs.lemmas.Option.{slice_get-get_or}
 use Rattle.evaluation.specs.declared.name.Name.{Name}
-use Rattle.evaluation.specs.declared.take.Take.{Take}
 use Rattle.evaluation.specs.Meaning.{Evaluated}
 use Rattle.world.specs.declared.schedule.tables.Seen.{Seen}
 use Rattle.world.specs.Steps.Tables.{SeesMore}
