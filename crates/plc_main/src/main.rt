@@ -17,7 +17,9 @@ use console::{
     answer_kinds, answer_schedule, answer_text, answer_verify, file_bytes, file_plant, given_words,
     prepare, print_failure, print_fault, print_given_fault, print_usage, read_words, wanted_for,
 };
-use keepers::{BadLine, FileKeeper, FolderLock, Keeper, KeeperFault, LockFault, MemoryKeeper, SystemFolder};
+use keepers::{
+    BadLine, FileKeeper, FolderLock, Keeper, KeeperFault, LockFault, MemoryKeeper, SystemFolder,
+};
 use node::{FreeGate, Gate, PacedGate};
 use node_command::answer_node;
 use node_reports::RunFault;

@@ -1,5 +1,5 @@
 -- Lines are made one by one, and written some at a time.
-use Rattle.std.proofs.Common.{◌≡◌, ℕ, ◌+◌, ◌<◌, ◌++◌, List, [], ◌∷◌, length, take, drop, get_or, Option, Result, Ok, Err, OnOk, OnErr, sym, ap, subst, ◌∙◌, ◌≤◌, append_assoc, arith}
+use Rattle.std.proofs.Common.{◌≡◌, ℕ, ◌+◌, ◌<◌, ◌++◌, List, [], ◌∷◌, length, take, drop, get_or, Option, Result, Ok, Err, OnOk, OnErr, sym, ap, subst, ◌∙◌, ◌≤◌, append_assoc, arith, Some, None}
 use Rattle.std.proofs.Math.Seq.{take-append_seam, take-append-add}
 use Rattle.std.proofs.lemmas.List.{take-append-drop, take_more, append-nil, take-append-le, length-append}
 use Rattle.std.proofs.lemmas.List.Concat.{flat_map-append}
