@@ -4,6 +4,7 @@ use Rattle.std.proofs.lemmas.Bool.{cases_eq}
 use Rattle.std.proofs.lemmas.List.{get_or-set_other, map-set, map-append}
 use Rattle.std.proofs.lemmas.Option.{slice_get_within, slice_get-get_or, get_or_from_slice_get}
 use Rattle.lists.proofs.Places.{slice_get-set_same, push_cases, push_here, push_old}
+use Rattle.lists.proofs.Mapped.{mapped_at}
 use Rattle.network.specs.declared.element.Element.{Element}
 use Rattle.network.specs.Steps.Ranks.{IsIn, AreSplit, IsPut}
 use Rattle.network.proofs.Basics.{some_is, one_at, get_set, get_map}
