@@ -4,7 +4,7 @@ ghost use Rattle.std_blocks.specs.Pins.{field_value};
 ghost use Rattle.scan_steps.specs.declared.variable_pair.Negated.{Negated};
 ghost use Rattle.scan_steps.specs.Values.{is_true};
 ghost use Rattle.scan_steps.specs.Steps.BoxSteps.{HasOutput, box_result};
-ghost use Rattle.scan_steps.specs.Steps.Passing.{IsStepIn, AreJoined, AreMarked, ArePinsShown, AreShown, IsBoxObeyed, IsObeyed, ArePassed, IsReadAtRail, IsJoinedPairRead, behind_all, pass_of, rows_behind, memories_behind, read_rows, read_memories};
+ghost use Rattle.scan_steps.specs.Steps.Passing.{IsStepIn, AreJoined, AreMarked, ArePinsShown, AreShown, IsBoxObeyed, IsObeyed, ArePassed, IsReadAtRail, IsJoinedPairRead, IsPairOverRead, behind_all, pass_of, rows_behind, memories_behind, read_rows, read_memories};
 
 use crate::bound_box::{BoundBox, BoundOutput};
 use crate::bound_contact::{BoundContact, VariableContact, is_variable_on};
@@ -350,6 +350,18 @@ fn read_joined_pair(pair: &PairRows, places: &PairPlaces, slots: &Slots, rows: &
     }
 }
 
+/// Nothing leads to the row below this one, and all three from this one on are ON where this one or the third is; and then state goes on in the row of each of two plain contacts that conducts, in this row and in the third.
+fn read_pair_over(row: usize, places: &PairPlaces, slots: &Slots, rows: &mut [bool])
+    requires { row + 2 < length rows.old }
+    ensures { IsPairOverRead row places.now slots.now rows.old rows.new }
+{
+    let upper = is_variable_on(slots, places.first as usize);
+    let lower = is_variable_on(slots, places.second as usize);
+    join_over(rows, row);
+    rows[row] = rows[row] & upper;
+    rows[row + 2] = rows[row + 2] & lower;
+}
+
 /// Reads the contacts of a rung: the state behind them is that of its row, and the left link of its coil.
 fn read_rung(
     row: u8,
@@ -415,6 +427,7 @@ fn obey(
         Step::RailContact(contact) => read_at_rail(*contact, slots, rows),
         Step::Pair(pair, places) => read_pair(pair, places, slots, rows),
         Step::JoinedPair(pair, places) => read_joined_pair(pair, places, slots, rows),
+        Step::PairOver(row, places) => read_pair_over(*row as usize, places, slots, rows),
         Step::Rung(row, coil, contacts) => read_rung(*row, *coil, contacts, slots, rows, links),
         Step::Coil(row, number) => links[*number as usize] = rows[*row as usize],
         Step::Box(number) | Step::BoxCoil(number, _, _) => {

@@ -38,6 +38,8 @@ pub enum Step {
     Pair(PairRows, PairPlaces),
     /// The rows from the first to the second contact of a pair are joined, and then state goes on behind each that conducts.
     JoinedPair(PairRows, PairPlaces),
+    /// Nothing leads to the row below this one; this row and the next two are joined, and then state goes on behind each of two plain contacts that conducts, in this row and in the third.
+    PairOver(u8, PairPlaces),
     /// A contact follows the left rail in this row, and the others one behind the other; the state behind them is the left link of the coil with this number.
     Rung(u8, u32, Series),
     /// The state of this row is the left link of the coil with this number.

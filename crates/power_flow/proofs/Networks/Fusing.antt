@@ -11,7 +11,7 @@ use Rattle.scan_steps.specs.Conducting.{bit_at, contact_conducts, contact_memory
 use Rattle.scan_steps.specs.Values.{is_true}
 use Rattle.scan_steps.specs.Slots.{variable_at}
 use Rattle.scan_steps.specs.Steps.Passing.{IsStepIn, behind_all, is_conducting, after_contact, after_rung}
-use Rattle.scan_steps.specs.Steps.Contacts.{contact_of, first_of, second_of, in_row, plain_kind}
+use Rattle.scan_steps.specs.Steps.Contacts.{contact_of, first_of, second_of, in_row, plain_kind, rows_over}
 use Rattle.power_flow.specs.Steps.Fused.{contacts_in, single, singles}
 use Rattle.scan_steps.specs.Steps.Passing.{Pass, IsObeyed, ArePassed, read_rows, read_memories}
 
@@ -110,6 +110,13 @@ module _ (boxes : List BoundBox) (slots : List Slot) (dt : ℕ) where
   first_passed (step.JoinedPair pair places) rest a b p =
       let mid = p.1.0 in
       (mid, p.1.1, (record mid { rows = read_rows (first_of pair places) slots mid.rows mid.memories; memories = read_memories (first_of pair places) slots mid.memories }, refl, (p.0, p.1.2, p.2)))
+  first_passed (step.PairOver row places) rest a b p =
+      let mid = p.1.0 in
+      let first = first_of (rows_over row) places in (
+        record a { rows = slice_set a.rows (row + 1) false },
+        refl,
+        (mid, p.1.1, (record mid { rows = read_rows first slots mid.rows mid.memories; memories = read_memories first slots mid.memories }, refl, (p.0, p.1.2, p.2))),
+      )
   first_passed (step.Rung row k contacts) rest a b p =
       (with_row row a true, refl, rung_passed row k contacts rest a (with_row row a true) b true refl (subst (λ (x : Pass). ArePassed boxes slots dt rest x b) p.1 p.2))
   first_passed (step.Coil row k) rest a b p = p
@@ -141,6 +148,13 @@ module _ (boxes : List BoundBox) (slots : List Slot) (dt : ℕ) where
       let read = p.2 in
       let later = read.2 in
       (later.0, (p.0, p.1, later.1 ∙ ap second read.1), later.2)
+  first_back (step.PairOver row places) rest a b p =
+      let second : Pass → Pass = λ w. record w { rows = read_rows (second_of (rows_over row) places) slots w.rows w.memories; memories = read_memories (second_of (rows_over row) places) slots w.memories } in
+      let joined = p.2 in
+      let read = joined.2 in
+      let later = read.2 in
+      let P : Pass → Type 0 = λ w. IsObeyed boxes slots dt (step.Upright row (row + 2)) w joined.0 in
+      (later.0, (joined.0, subst P p.1 joined.1, later.1 ∙ ap second read.1), later.2)
   first_back (step.Rung row k contacts) rest a b p = (after_rung slots row k contacts a, refl, rung_back row k contacts rest a p.0 b true p.1 p.2)
   first_back (step.Coil row k) rest a b p = p
   first_back (step.Box k) rest a b p = p
@@ -201,6 +215,13 @@ module _ (rows memories coils boxes : ℕ) where
       let two = All-cons In (step.Contact (second_of pair places)) rest (here.2, here.3) later in
       let one = All-cons In (step.Contact (first_of pair places)) (step.Contact (second_of pair places) ∷ rest) (here.0, here.1) two in
       All-cons In (step.Upright pair.first pair.second) (step.Contact (first_of pair places) ∷ step.Contact (second_of pair places) ∷ rest) here.2 one
+  first_in (step.PairOver row places) rest here later =
+      let first = step.Contact (first_of (rows_over row) places) in
+      let second = step.Contact (second_of (rows_over row) places) in
+      let two = All-cons In second rest (here.0, here.1) later in
+      let one = All-cons In first (second ∷ rest) (omega (arith, here.0), omega (arith, here.1)) two in
+      let join = All-cons In (step.Upright row (row + 2)) (first ∷ second ∷ rest) here.0 one in
+      All-cons In (step.Off (row + 1)) (step.Upright row (row + 2) ∷ first ∷ second ∷ rest) (omega (arith, here.0)) join
   first_in (step.Rung row k contacts) rest here later =
       All-cons In (step.Rail row) ((contacts_in row contacts ++ (step.Coil row k ∷ [])) ++ rest) here.0 (contacts_first row k contacts rest here.0 here.2 here.1 later)
   first_in (step.Coil row k) rest here later = All-cons In (step.Coil row k) rest here later
@@ -236,6 +257,14 @@ module _ (rows memories coils boxes : ℕ) where
       let one = All-head In (step.Contact (first_of pair places)) (step.Contact (second_of pair places) ∷ rest) contacts in
       let two = All-head In (step.Contact (second_of pair places)) rest later in
       ((one.0, one.1, two.0, two.1), All-tail In (step.Contact (second_of pair places)) rest later)
+  here_in (step.PairOver row places) rest h =
+      let first = step.Contact (first_of (rows_over row) places) in
+      let second = step.Contact (second_of (rows_over row) places) in
+      let join = All-tail In (step.Off (row + 1)) (step.Upright row (row + 2) ∷ first ∷ second ∷ rest) h in
+      let contacts = All-tail In (step.Upright row (row + 2)) (first ∷ second ∷ rest) join in
+      let later = All-tail In first (second ∷ rest) contacts in
+      let two = All-head In second rest later in
+      ((two.0, two.1), All-tail In second rest later)
   here_in (step.Rung row k contacts) rest h =
       let more = (contacts_in row contacts ++ (step.Coil row k ∷ [])) ++ rest in
       let parts = contacts_back row k contacts rest (All-tail In (step.Rail row) more h) in

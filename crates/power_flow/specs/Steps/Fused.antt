@@ -3,7 +3,7 @@ use Rattle.std.specs.Prelude.{◌+◌, ℕ, List, [], ◌∷◌, ◌++◌}
 use Rattle.scan_steps.specs.declared.step.Step.{Step}
 use Rattle.scan_steps.specs.declared.step.Step.TheVariants as step
 use Rattle.scan_steps.specs.declared.bound_contact.VariableContact.{VariableContact}
-use Rattle.scan_steps.specs.Steps.Contacts.{contact_of, first_of, second_of, in_row}
+use Rattle.scan_steps.specs.Steps.Contacts.{contact_of, first_of, second_of, in_row, rows_over}
 
 -- the steps at contacts of variables, one behind the other in a row
 abbrev pub contacts_in : ℕ → List VariableContact → List Step
@@ -23,6 +23,8 @@ single (step.RailContact v) = step.Rail v.row ∷ step.Contact (contact_of v) �
 single (step.Pair rows places) = step.Contact (first_of rows places) ∷ step.Contact (second_of rows places) ∷ []
 single (step.JoinedPair rows places) = step.Upright rows.first rows.second ∷ step.Contact (first_of rows places)
     ∷ step.Contact (second_of rows places) ∷ []
+single (step.PairOver row places) = step.Off (row + 1) ∷ step.Upright row (row + 2)
+    ∷ step.Contact (first_of (rows_over row) places) ∷ step.Contact (second_of (rows_over row) places) ∷ []
 single (step.Rung row k contacts) = step.Rail row ∷ (contacts_in row contacts ++ (step.Coil row k ∷ []))
 single (step.Coil row k) = step.Coil row k ∷ []
 single (step.Box k) = step.Box k ∷ []

@@ -1,7 +1,10 @@
-ghost use Rattle.std.specs.Prelude.{◌≡◌, ◌++◌, IfOk, IfSome, OnOk};
+ghost use Rattle.std.specs.Prelude.{◌≡◌, ◌+◌, ◌++◌, IfOk, IfSome, IsTrue, OnOk};
+ghost use Rattle.scan_steps.specs.Steps.Contacts.{rows_over};
 ghost use Rattle.power_flow.specs.Steps.Fused.{contacts_in, single, singles};
 
-use scan_steps::{BoundContact, PairPlaces, PairRows, Series, Step, VariableContact, pair_of};
+use scan_steps::{
+    BoundContact, Negated, PairPlaces, PairRows, Series, Step, VariableContact, pair_of,
+};
 use std::alloc::{AllocError, Global};
 
 /// A row that is turned off, and then rows that are joined.
@@ -48,6 +51,25 @@ fn joined_pair(first: u8, lowest: u8, rows: PairRows, places: PairPlaces) -> Opt
     Some(Step::JoinedPair(rows, places))
 }
 
+/// Whether the contacts of a pair are plain and have one row between them, and this row, and from first to lowest all three.
+fn are_over(row: u8, first: u8, lowest: u8, rows: &PairRows) -> bool
+    ensures { IsTrue result → (row ≡ first + 1) × (lowest ≡ first + 2) × (rows.now ≡ rows_over first) }
+{
+    let plain = matches!(rows.negated, Negated::Neither);
+    let joined = rows.first == first && rows.second == lowest;
+    plain && joined && first.checked_add(1) == Some(row) && first.checked_add(2) == Some(lowest)
+}
+
+/// A row that is turned off, rows that are joined, and then a pair of contacts, if those are plain, above and below the row.
+fn pair_over(row: u8, first: u8, lowest: u8, rows: PairRows, places: PairPlaces) -> Option<Step>
+    ensures { IfSome result (λ s. single s ≡ single (Step.OffUpright row first lowest) ++ single (Step.Pair rows places)) }
+{
+    if !are_over(row, first, lowest, &rows) {
+        return None;
+    }
+    Some(Step::PairOver(first, places))
+}
+
 /// The step that stands for both, if there is one.
 fn both(last: &Step, step: &Step) -> Option<Step>
     ensures { IfSome result (λ s. single s ≡ single last.now ++ single step.now) }
@@ -58,6 +80,9 @@ fn both(last: &Step, step: &Step) -> Option<Step>
         (Step::Contact(first), Step::Contact(second)) => contact_pair(first, second),
         (Step::Upright(first, lowest), Step::Pair(rows, places)) => joined_pair(
             *first, *lowest, *rows, *places,
+        ),
+        (Step::OffUpright(row, first, lowest), Step::Pair(rows, places)) => pair_over(
+            *row, *first, *lowest, *rows, *places,
         ),
         (Step::Box(number), Step::Coil(row, coil)) => Some(Step::BoxCoil(*number, *row, *coil)),
         _ => None,

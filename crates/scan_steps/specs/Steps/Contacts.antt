@@ -59,6 +59,10 @@ in_row row v = variable_contact v.negated row v.place v.memory
 abbrev pub contact_of : VariableContact → ContactValue
 contact_of v = variable_contact v.negated v.row v.place v.memory
 
+-- the rows of two plain contacts, with one row between them
+abbrev pub rows_over : ℕ → PairRows
+rows_over row = record { negated = Neither; first = row; second = row + 2 }
+
 -- the contacts of a pair
 abbrev pub first_of : PairRows → PairPlaces → ContactValue
 first_of rows places = variable_contact (is_first_negated rows.negated) rows.first places.first places.memory

@@ -9,7 +9,7 @@ use Rattle.scan_steps.specs.declared.step.Step.{Step}
 use Rattle.scan_steps.specs.declared.step.Step.TheVariants as step
 use Rattle.scan_steps.specs.declared.bound_contact.VariableContact.{VariableContact}
 use Rattle.scan_steps.specs.Slots.{variable_at}
-use Rattle.scan_steps.specs.Steps.Contacts.{ContactValue, plain_kind, contact_of, first_of, second_of}
+use Rattle.scan_steps.specs.Steps.Contacts.{ContactValue, plain_kind, contact_of, first_of, second_of, rows_over}
 use Rattle.scan_steps.specs.declared.variable_pair.PairRows.{PairRows}
 use Rattle.scan_steps.specs.declared.variable_pair.PairPlaces.{PairPlaces}
 use Rattle.scan_steps.specs.Values.{is_true}
@@ -87,6 +87,12 @@ abbrev pub IsJoinedPairRead : PairRows → PairPlaces → List Slot → List Boo
 IsJoinedPairRead rows places slots old new = (mid : List Bool) × AreJoined rows.first rows.second old mid
     × IsPairRead rows places slots mid new
 
+-- nothing leads to the row below this one, this row and the next two are joined, and then a plain contact is read in
+-- this one and in the third
+abbrev pub IsPairOverRead : ℕ → PairPlaces → List Slot → List Bool → List Bool → Type 0
+IsPairOverRead row places slots old new =
+    IsJoinedPairRead (rows_over row) places slots (slice_set old (row + 1) false) new
+
 -- what a contact leaves, that is read in these rows
 abbrev pub after_contact : ContactValue → List Slot → List Bool → Pass → Pass
 after_contact c slots rows a =
@@ -145,6 +151,9 @@ IsObeyed boxes slots dt (step.RailContact v) a b =
 IsObeyed boxes slots dt (step.Pair rows places) a b = b ≡ after_pair slots rows places a
 IsObeyed boxes slots dt (step.JoinedPair rows places) a b = (mid : Pass)
     × AreRowsJoined rows.first rows.second a.rows a mid × (b ≡ after_pair slots rows places mid)
+IsObeyed boxes slots dt (step.PairOver row places) a b = (mid : Pass)
+    × AreRowsJoined row (row + 2) (slice_set a.rows (row + 1) false) a mid
+    × (b ≡ after_pair slots (rows_over row) places mid)
 IsObeyed boxes slots dt (step.Rung r k contacts) a b = b ≡ after_rung slots r k contacts a
 IsObeyed boxes slots dt (step.Coil r k) a b = b ≡ record a { links = slice_set a.links k (bit_at a.rows r) }
 IsObeyed boxes slots dt (step.Box k) a b = IsBoxObeyed boxes slots dt k a b
@@ -171,6 +180,7 @@ IsStepIn rows memories coils boxes (step.Pair pair places) =
     (pair.first < rows) × (places.memory < memories) × (pair.second < rows) × (places.memory + 1 < memories)
 IsStepIn rows memories coils boxes (step.JoinedPair pair places) =
     (pair.first < rows) × (places.memory < memories) × (pair.second < rows) × (places.memory + 1 < memories)
+IsStepIn rows memories coils boxes (step.PairOver row places) = (row + 2 < rows) × (places.memory + 1 < memories)
 IsStepIn rows memories coils boxes (step.Rung row k contacts) =
     (row < rows) × All (λ (v : VariableContact). v.memory < memories) contacts × (k < coils)
 IsStepIn rows memories coils boxes (step.Coil row k) = (row < rows) × (k < coils)

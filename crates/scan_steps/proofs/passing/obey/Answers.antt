@@ -1,7 +1,7 @@
 use Rattle.std.proofs.Common.{◌≡◌, ℕ, inl, inr, List, Bool, refl, sym, ap, ◌∙◌}
 use Rattle.scan_steps.specs.declared.step.Step.{Step}
 use Rattle.scan_steps.specs.declared.step.Step.TheVariants as step
-use Rattle.scan_steps.specs.Steps.Contacts.{first_of, second_of}
+use Rattle.scan_steps.specs.Steps.Contacts.{first_of, second_of, rows_over}
 use Rattle.scan_steps.specs.Steps.Passing.{Pass, pass_of, read_memories}
 use Rattle.scan_steps.proofs.PairSteps.{pair_keeps}
 use Rattle.scan_steps.proofs.passing.obey.Goals as goal
@@ -20,6 +20,21 @@ returns-in-JoinedPair c =
     let kept : List Bool → Pass = λ m. pass_of c.read_joined_pair.new.rows m links results in
     rw c.in-JoinedPair.is
     (of_rows c.read_joined_pair.ensures.0, (c.read_joined_pair.ensures.1, refl, refl, refl), ap kept (sym (pair_keeps pair places slots memories)) ∙ ap (λ rows. pass_of rows later links results) read)
+
+pub returns-in-PairOver : goal.returns-in-PairOver
+returns-in-PairOver c =
+    let pair = rows_over c.in-PairOver.row in
+    let places = c.in-PairOver.places in
+    let slots = c.args.slots.now in
+    let memories = c.args.memories.now in
+    let links = c.args.links.now in
+    let results = c.args.results.now in
+    let of_rows : List Bool → Pass = λ rows. pass_of rows memories links results in
+    let read = c.read_pair_over.ensures.2 memories (read_memories (first_of pair places) slots memories) in
+    let later = read_memories (second_of pair places) slots (read_memories (first_of pair places) slots memories) in
+    let kept : List Bool → Pass = λ m. pass_of c.read_pair_over.new.rows m links results in
+    rw c.in-PairOver.is
+    (of_rows c.read_pair_over.ensures.0, (c.read_pair_over.ensures.1, refl, refl, refl), ap kept (sym (pair_keeps pair places slots memories)) ∙ ap (λ rows. pass_of rows later links results) read)
 
 -- the number of a step of a box
 abbrev number_of : Step → ℕ
