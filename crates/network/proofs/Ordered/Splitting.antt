@@ -117,5 +117,5 @@ put_long old new (Some m) e put = ap length put.2 ∙ length-set old m (put.0 ++
 pub empty_map : {A B : Type 0} (f : A → B) (parts : List (List A)) → ((m : ℕ) (es : List A) → slice_get parts m ≡ Some es → es ≡ [])
     → (m : ℕ) (es : List B) → slice_get (map (map f) parts) m ≡ Some es → es ≡ []
 empty_map f parts empty m es at =
-    let was = map_get (map f) parts m es at in
+    let was = mapped_at (map f) parts m es at in
     sym was.2 ∙ ap (map f) (empty m was.0 was.1)
