@@ -1,6 +1,9 @@
 ghost use Rattle.std.specs.Prelude.{◌≡◌, IfOk, slice_get};
 ghost use Rattle.network.specs.Steps.Listed.{element_seen, element_of, contact_or_wire, coil_or_wire, box_or_wire};
 
+use crate::element::Element;
+use crate::element_box::ElementBox;
+use crate::listing::copies::{copy_box, copy_coil, copy_contact};
 use drawings::{Coil, Contact, Drawing, DrawnBox, Place};
 use std::alloc::{AllocError, Global};
 use std::marker::Model;
@@ -67,7 +70,7 @@ impl ShortPlace {
 }
 
 impl<'a> Seen<'a> {
-    ghost use Rattle.std.specs.Prelude.{◌≡◌};
+    ghost use Rattle.std.specs.Prelude.{◌≡◌, IfOk};
     ghost use Rattle.network.specs.Apart.{first_place};
     ghost use Rattle.network.specs.Steps.Listed.{element_seen};
 
@@ -89,6 +92,30 @@ impl<'a> Seen<'a> {
                 row: drawn.top,
                 column: drawn.left,
             },
+        }
+    }
+
+    /// The element itself, with a copy of what the drawing has of it.
+    pub fn copied(self, alloc: Global) -> Result<Element, AllocError>
+        ensures { IfOk result (λ e. e ≡ element_seen self.entry) }
+    {
+        match self {
+            Seen::Wire(at) => Ok(Element::Wire(at)),
+            Seen::Join(at) => Ok(Element::Join(at)),
+            Seen::Upright(at) => Ok(Element::Upright(at)),
+            Seen::Contact(contact) => {
+                let contact = copy_contact(alloc, contact)?;
+                Ok(Element::Contact(contact))
+            }
+            Seen::Coil(coil) => {
+                let coil = copy_coil(alloc, coil)?;
+                Ok(Element::Coil(coil))
+            }
+            Seen::Box(drawn) => {
+                let drawn = copy_box(alloc, drawn)?;
+                let boxed = ElementBox::new(alloc, drawn)?;
+                Ok(Element::Box(boxed))
+            }
         }
     }
 }

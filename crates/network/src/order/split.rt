@@ -6,8 +6,6 @@ ghost use Rattle.network.specs.Steps.Ranks.{AreAllSplit, IsPut};
 ghost use Rattle.network.specs.Steps.Tables.{AreSuch};
 
 use crate::element::Element;
-use crate::element_box::ElementBox;
-use crate::listing::copies::{copy_box, copy_coil, copy_contact};
 use crate::listing::listed::{Elements, Entry, Seen, entry_seen};
 use crate::networks::Network;
 use crate::order::part::Part;
@@ -73,7 +71,16 @@ fn split_entries(
     Ok(parts)
 }
 
-/// Adds an element at the end of a network, with a copy of what the drawing has of it. Each kind is put by itself, since it is moved once then.
+/// Adds a symbol or box at the end of a network, with a copy of what the drawing has of it.
+#[inline(never)]
+fn push_symbol(alloc: Global, network: &mut Network, element: Seen) -> Result<(), AllocError>
+    ensures { OnOk result (network.new ≡ network.old ++ element_seen element.entry ∷ []) }
+{
+    let element = element.copied(alloc)?;
+    network.push(element)
+}
+
+/// Adds an element at the end of a network. Lines are put by themselves, since there are the most of them.
 fn push_copy(alloc: Global, network: &mut Network, element: Seen) -> Result<(), AllocError>
     ensures { OnOk result (network.new ≡ network.old ++ element_seen element.entry ∷ []) }
 {
@@ -81,19 +88,7 @@ fn push_copy(alloc: Global, network: &mut Network, element: Seen) -> Result<(), 
         Seen::Wire(at) => network.push(Element::Wire(at)),
         Seen::Join(at) => network.push(Element::Join(at)),
         Seen::Upright(at) => network.push(Element::Upright(at)),
-        Seen::Contact(contact) => {
-            let contact = copy_contact(alloc, contact)?;
-            network.push(Element::Contact(contact))
-        }
-        Seen::Coil(coil) => {
-            let coil = copy_coil(alloc, coil)?;
-            network.push(Element::Coil(coil))
-        }
-        Seen::Box(drawn) => {
-            let drawn = copy_box(alloc, drawn)?;
-            let boxed = ElementBox::new(alloc, drawn)?;
-            network.push(Element::Box(boxed))
-        }
+        Seen::Contact(_) | Seen::Coil(_) | Seen::Box(_) => push_symbol(alloc, network, element),
     }
 }
 
