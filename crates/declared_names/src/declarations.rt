@@ -83,6 +83,17 @@ fn key_of(alloc: Global, name: &str) -> Result<Vec<u8>, AllocError>
     Ok(key)
 }
 
+/// Puts a name in small letters into as much room.
+#[inline(always)]
+fn put_small(name: &[u8], room: &mut [u8])
+    requires { length room.old ≡ length name.now }
+    ensures { room.new ≡ str_to_ascii_lowercase name.now }
+{
+    for i in 0..name.len() {
+        room[i] = name[i].to_ascii_lowercase();
+    }
+}
+
 impl Declarations {
     ghost use Rattle.std.specs.Prelude.{◌≡◌, ◌++◌, [], ◌∷◌, OnOk, OnErr, MatchOption, slice_get, slice_index_or, length, ◌<◌, ◌↔◌, IsTrue, None};
     ghost use Rattle.std.specs.Option.{option_map};
@@ -210,8 +221,7 @@ impl Declarations {
         ensures { result ≡ place_of self.now name.now }
     {
         let key = &mut room[..name.len()];
-        key.copy_from_slice(name);
-        key.make_ascii_lowercase();
+        put_small(name, key);
         self.entries.get_index_of(&*key)
     }
 

@@ -2,4 +2,5 @@
 pub mod RowWords
 pub mod WordOrder
 pub mod NamedSymbols
+pub mod NearWords
 pub mod SpanRows

@@ -12,13 +12,14 @@ use ladder_rows::{Outline, Span};
 use std::alloc::{AllocError, Global};
 use words::Text;
 
-/// The contact whose first place is in a column, with its name.
+/// The contact whose first place is in a column, with its name, which is looked for at a number first.
 #[tactic(auto, unfolding(crate::specs::Places::layout_of), using(crate::proofs::Words::SpanRows::contact_beside))]
 fn contact_here(
     alloc: Global,
     worded: &WordedGrid,
     row: usize,
     column: usize,
+    near: usize,
 ) -> Result<Option<Contact>, AllocError>
     ensures { IfOk result (λ o. o ≡ contact_here (layout_of worded.now) row column) }
 {
@@ -28,7 +29,7 @@ fn contact_here(
     match worded.marked().contact_at(row, column) {
         None => Ok(None),
         Some(kind) => {
-            let name = name_above(alloc, worded, row, &symbol_span(column))?;
+            let name = name_above(alloc, worded, row, &symbol_span(column), near)?;
             Ok(Some(Contact {
                 row,
                 column,
@@ -39,13 +40,14 @@ fn contact_here(
     }
 }
 
-/// The coil whose first place is in a column, with its name.
+/// The coil whose first place is in a column, with its name, which is looked for at a number first.
 #[tactic(auto, unfolding(crate::specs::Places::layout_of), using(crate::proofs::Words::SpanRows::coil_beside))]
 fn coil_here(
     alloc: Global,
     worded: &WordedGrid,
     row: usize,
     column: usize,
+    near: usize,
 ) -> Result<Option<Coil>, AllocError>
     ensures { IfOk result (λ o. o ≡ coil_here (layout_of worded.now) row column) }
 {
@@ -55,7 +57,7 @@ fn coil_here(
     match worded.marked().coil_at(row, column) {
         None => Ok(None),
         Some(kind) => {
-            let name = name_above(alloc, worded, row, &symbol_span(column))?;
+            let name = name_above(alloc, worded, row, &symbol_span(column), near)?;
             Ok(Some(Coil {
                 row,
                 column,
@@ -75,8 +77,8 @@ fn push_contacts(
 ) -> Result<(), AllocError>
     ensures { OnOk result (all.new.items ≡ all.old.items ++ row_contacts (layout_of worded.now) row) }
 {
-    for symbol in worded.symbols(row) {
-        if let Some(contact) = contact_here(alloc, worded, row, symbol.first)? {
+    for (near, symbol) in worded.symbols(row).iter().enumerate() {
+        if let Some(contact) = contact_here(alloc, worded, row, symbol.first, near)? {
             all.push(contact)?;
         }
     }
@@ -92,8 +94,8 @@ fn push_coils(
 ) -> Result<(), AllocError>
     ensures { OnOk result (all.new.items ≡ all.old.items ++ row_coils (layout_of worded.now) row) }
 {
-    for symbol in worded.symbols(row) {
-        if let Some(coil) = coil_here(alloc, worded, row, symbol.first)? {
+    for (near, symbol) in worded.symbols(row).iter().enumerate() {
+        if let Some(coil) = coil_here(alloc, worded, row, symbol.first, near)? {
             all.push(coil)?;
         }
     }
@@ -139,7 +141,7 @@ fn drawn_box(alloc: Global, worded: &WordedGrid, outline: &Outline) -> Result<Dr
         bottom: outline.bottom,
         right,
         block: outline.block,
-        instance: name_above(alloc, worded, outline.top, &span)?,
+        instance: name_above(alloc, worded, outline.top, &span, 0)?,
         pins: outline.pins.try_copy(alloc)?,
     })
 }

@@ -1,10 +1,10 @@
 -- The marks of a row from left to right.
-use Rattle.std.proofs.Common.{ℕ, ◌+◌, ◌-◌, ◌≤◌, ◌≡◌, ◌&&◌, ◌||◌, ◌++◌, ◌∷◌, [], List, Bool, true, false, Option, Some, None, refl, sym, ap, ◌∙◌, arith, append_assoc}
+use Rattle.std.proofs.Common.{ℕ, ◌+◌, ◌-◌, ◌≤◌, ◌≡◌, ◌≢◌, ◌||◌, ◌++◌, ◌∷◌, [], List, Bool, true, false, Option, Some, None, refl, sym, ap, ◌∙◌, arith, append_assoc}
 use Rattle.std.specs.Option.{is_some}
-use Rattle.std.proofs.lemmas.Bool.{both_ways, and_right, or_from}
+use Rattle.std.proofs.lemmas.Bool.{both_ways, and_right, ne_eqb, or_from}
 use Rattle.drawings.specs.declared.mark.Mark.{Mark}
 use Rattle.drawings.specs.declared.mark.Mark.TheVariants.{Blank, ContactPart, CoilPart}
-use Rattle.ladder_rows.specs.Rows.{upto, width, char_at, is_rail_char}
+use Rattle.ladder_rows.specs.Rows.{upto, width, char_at}
 use Rattle.ladder_text.specs.Places.{Layout, contact_at, coil_at, in_box, in_contact, in_coil, is_rail_column, mark}
 use Rattle.ladder_text.proofs.Rows.Runs.{upto-more}
 use Rattle.ladder_text.proofs.Marks.SymbolPlaces.{contact_parts, coil_parts, contacts_same, coils_same, contact_off_coil, mark-contact, mark-coil, not_some, drawn_inside}
@@ -115,9 +115,12 @@ contact_by_mark p r c e = ap (λ b. is_some (contact_at p r c) || b) (not_some (
 pub coil_by_mark : (p : Layout) (r c : ℕ) → mark p r c ≡ CoilPart → (is_some (contact_at p r c) || is_some (coil_at p r c)) ≡ is_some (coil_at p r c)
 coil_by_mark p r c e = ap (λ b. b || is_some (coil_at p r c)) (not_some (contact_at p r c) (λ k q. let m = sym e ∙ mark-contact p r c c k q (omega arith) (omega arith) in absurd (cc)))
 
--- a blank outside boxes and symbols has no mark
-pub blank_mark : (p : Layout) (r c : ℕ) → in_box p r c ≡ false → in_contact p r c ≡ false → in_coil p r c ≡ false → char_at p.rows r c ≡ 32 → mark p r c ≡ Blank
+-- what draws no line has no mark outside boxes and symbols
+pub blank_mark : (p : Layout) (r c : ℕ) → in_box p r c ≡ false → in_contact p r c ≡ false → in_coil p r c ≡ false
+    → char_at p.rows r c ≢ 45 → char_at p.rows r c ≢ 124 → char_at p.rows r c ≢ 43 → mark p r c ≡ Blank
 unfolding mark
-blank_mark p r c a b d e =
-    let rail : (is_rail_column p c && is_rail_char (char_at p.rows r c)) ≡ false = and_right _ _ (ap is_rail_char e) in
-    rw (a, b, d, rail, e) refl
+blank_mark p r c a b d dash bar cross =
+    let e = ne_eqb (char_at p.rows r c) 45 dash in
+    let f = ne_eqb (char_at p.rows r c) 124 bar in
+    let g = ne_eqb (char_at p.rows r c) 43 cross in
+    rw (a, b, d, e, f, g) (rw (and_right (is_rail_column p c) false refl) refl)

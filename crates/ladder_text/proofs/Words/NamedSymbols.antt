@@ -35,7 +35,7 @@ pairs-more xs ys n from w a b f s o = record {
 apart_left : (x y : Span) → x.end ≤ y.first → overlap x y ≡ false
 apart_left x y h = let e = le-ltb y.first x.end h in search (rules, tests)
 
-apart_right : (x y : Span) → y.end ≤ x.first → overlap x y ≡ false
+pub apart_right : (x y : Span) → y.end ≤ x.first → overlap x y ≡ false
 apart_right x y h = let e = le-ltb x.first y.end h in search (rules, tests)
 
 overlap-sym : (x y : Span) → overlap x y ≡ true → overlap y x ≡ true

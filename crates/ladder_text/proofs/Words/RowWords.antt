@@ -1,7 +1,7 @@
 -- The words and the symbols of a row from left to right.
-use Rattle.std.proofs.Common.{ℕ, zero, suc, ◌+◌, ◌-◌, ◌<◌, ◌≤◌, ◌≡◌, ◌++◌, ◌&&◌, ◌||◌, not, Some, inl, inr, [], ◌∷◌, List, true, false, refl, ap, ◌∙◌, arith}
+use Rattle.std.proofs.Common.{ℕ, zero, suc, ◌+◌, ◌-◌, ◌<◌, ◌≤◌, ◌≡◌, ◌≢◌, ◌++◌, ◌&&◌, ◌||◌, not, Bool, Some, inl, inr, [], ◌∷◌, List, true, false, refl, ap, ◌∙◌, arith}
 use Rattle.std.proofs.lemmas.List.{append-nil}
-use Rattle.std.proofs.lemmas.Bool.{and_parts, and_right, both_ways, or_cases}
+use Rattle.std.proofs.lemmas.Bool.{and_parts, and_right, both_ways, or_cases, or_from}
 use Rattle.std.specs.Option.{is_some}
 use Rattle.ladder_rows.specs.declared.span.Span.{Span}
 use Rattle.ladder_rows.specs.Rows.{run, upto, width, char_at}
@@ -9,11 +9,13 @@ use Rattle.words.specs.Chars.{is_word_char}
 use Rattle.ladder_rows.specs.Boxes.{option_list}
 use Rattle.drawings.specs.declared.mark.Mark.{Mark}
 use Rattle.drawings.specs.declared.mark.Mark.TheVariants.{ContactPart, CoilPart}
-use Rattle.ladder_text.specs.Places.{Layout, contact_at, coil_at}
+use Rattle.ladder_rows.specs.declared.boxes.box_test.BoxTest.TheVariants.{Covers, Reaches}
+use Rattle.ladder_rows.specs.Steps.RowBoxes.{IsBare}
+use Rattle.ladder_text.specs.Places.{Layout, contact_at, coil_at, in_operand, is_taken}
 use Rattle.ladder_text.specs.Names.{in_word, word_at, symbol_at}
 use Rattle.ladder_text.proofs.Rows.Runs.{upto-more, run_passes}
 use Rattle.ladder_text.proofs.Marks.RowMarks.{IsPassed, contact_passed, coil_passed}
-use Rattle.ladder_text.proofs.Marks.SymbolPlaces.{cond_some_of, drawn_inside}
+use Rattle.ladder_text.proofs.Marks.SymbolPlaces.{cond_some_of, drawn_inside, no_contact, no_coil}
 
 -- a place of a word has no blank
 word_drawn : (p : Layout) (r c : ℕ) → in_word p r c ≡ true → char_at p.rows r c ≡ 32 → ⊥
@@ -22,6 +24,28 @@ word_drawn p r c h blank =
     let test : is_word_char (char_at p.rows r c) ≡ true = (and_parts _ _ (and_parts _ _ h).0).0 in
     let none : is_word_char (char_at p.rows r c) ≡ false = rw blank refl in
     both_ways (is_word_char (char_at p.rows r c)) none test
+
+word_char : (p : Layout) (r c : ℕ) → in_word p r c ≡ true → is_word_char (char_at p.rows r c) ≡ true
+unfolding in_word
+word_char p r c h = (and_parts _ _ (and_parts _ _ h).0).0
+
+no_word_char : (x y : ℕ) → is_word_char y ≡ false → is_word_char x ≡ true → x ≢ y
+no_word_char x y none h e = both_ways (is_word_char x) (ap is_word_char e ∙ none) h
+
+word_alone : (b t o : Bool) → (b ≡ true → t ≡ false) → o ≡ false → b ≡ (b && not t && not o)
+word_alone true t o h e = rw (h refl, e) refl
+word_alone false t o h e = refl
+
+-- in a row without boxes a word goes on with each of its characters
+pub word_goes_on : (p : Layout) (r c : ℕ) → IsBare p.boxes r → in_word p r (c - 1) ≡ true → is_word_char (char_at p.rows r c) ≡ in_word p r c
+unfolding in_word
+word_goes_on p r c bare before =
+    let was = word_char p r (c - 1) before in
+    let free : is_word_char (char_at p.rows r c) ≡ true → is_taken p r c ≡ false = λ h.
+    or_from _ _
+    (or_from _ _ (bare.none Covers c) (no_contact p r c (no_word_char (char_at p.rows r c) 124 refl h) (no_word_char (char_at p.rows r (c - 1)) 124 refl was)))
+    (no_coil p r c (no_word_char (char_at p.rows r c) 40 refl h) (no_word_char (char_at p.rows r c) 41 refl h) (no_word_char (char_at p.rows r (c - 1)) 40 refl was)) in
+    word_alone (is_word_char (char_at p.rows r c)) (is_taken p r c) (in_operand p r c) free (bare.none Reaches c)
 
 -- as far as the places are those of a word, they are in the drawing
 pub word_within : (p : Layout) (r c n : ℕ) → c ≤ width p.rows → ((k : ℕ) → k < n → in_word p r (c + 1 + k) ≡ true) → c + n ≤ width p.rows

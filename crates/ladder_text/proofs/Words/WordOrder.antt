@@ -17,11 +17,11 @@ use Rattle.std.proofs.lemmas.Option.{same_Some}
 use Rattle.std.proofs.Common.{◌&&◌, not, ◌-◌}
 use Rattle.lists.specs.Rising.{IsRising}
 
-word_first : (p : Layout) (r c : ℕ) (s : Span) → word_at p r c ≡ Some s → s.first ≡ c
+pub word_first : (p : Layout) (r c : ℕ) (s : Span) → word_at p r c ≡ Some s → s.first ≡ c
 unfolding word_at
 word_first p r c s e = ap (λ (t : Span). t.first) (sym (same_Some _ s (cond_some_of (in_word p r c && not (in_word p r (c - 1))) _ s e).1))
 
-words_rising : (p : Layout) (r : ℕ) → IsRising (λ (x y : Span). x.first < y.first) (words p r)
+pub words_rising : (p : Layout) (r : ℕ) → IsRising (λ (x y : Span). x.first < y.first) (words p r)
 unfolding words
 words_rising p r = options_rising (λ (s : Span). s.first) (word_at p r) (word_first p r) (width p.rows)
 

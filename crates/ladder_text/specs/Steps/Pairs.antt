@@ -21,6 +21,11 @@ pub record ArePaired (xs ys : List Span) : Type 0 where
   pub as_many : length xs ≡ length ys
   pub pairs : ArePairs xs ys (length xs)
 
+-- spans that stand one behind the other
+pub record AreApart (xs : List Span) : Type 0 where
+  pub wide : (k : ℕ) → k < length xs → (span_at xs k).first ≤ (span_at xs k).end
+  pub behind : (j k : ℕ) → j < k → k < length xs → (span_at xs j).end ≤ (span_at xs k).first
+
 -- the words of the row r are all names
 abbrev pub are_names : Layout → ℕ → Bool
 are_names p r = list_all (λ w. is_name (word_text p r w)) (words p r)

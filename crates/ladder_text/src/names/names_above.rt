@@ -1,12 +1,12 @@
 //! What stands above symbols and boxes: the words that name them, and those that name nothing.
 
-ghost use Rattle.std.specs.Prelude.{MatchOption, IfNone, IfSome, IsFalse, option_copied, find, min, ◌≡◌, ◌<◌, ◌≤◌, ◌^◌, IfOk, IsTrue, count_by, length};
+ghost use Rattle.std.specs.Prelude.{MatchOption, IfNone, IfSome, IsFalse, option_copied, find, min, ◌≡◌, ◌-◌, ◌<◌, ◌≤◌, ◌^◌, IfOk, IsTrue, count_by, length};
 ghost use Rattle.std.specs.List.{list_any};
 ghost use Rattle.ladder_text.specs.Places.{layout_of};
 ghost use Rattle.ladder_text.specs.Names.{things, overlap, word_text, found_text, name_above};
 ghost use Rattle.ladder_text.specs.Faults.{has_earlier, is_second, stray_name, name_missing, has_unnamed, has_stray_word};
 ghost use Rattle.ladder_text.specs.Steps.Search.{AreNamed, IsFirstStrayWord, IsFirstUnnamed};
-ghost use Rattle.ladder_text.specs.Steps.Pairs.{StandAbove, are_names};
+ghost use Rattle.ladder_text.specs.Steps.Pairs.{span_at, AreApart, StandAbove, are_names};
 ghost use Rattle.std.specs.Str.{IsAscii};
 
 use crate::names::pairs::are_paired;
@@ -192,6 +192,25 @@ fn first_overlap(span: &Span, above: &[Span]) -> Option<Span>
     find_overlap(span, above).copied()
 }
 
+/// Whether the span before a number ends before another span.
+fn is_free_before(span: &Span, above: &[Span], near: usize) -> bool
+    requires { near < length above.now }
+    ensures { IsTrue result → 0 < near → (span_at above.now (near - 1)).end ≤ span.now.first }
+{
+    near == 0 || above[near - 1].end <= span.first
+}
+
+/// The first word above a span, looked for at a number first. Words stand one behind the other.
+fn overlap_near(span: &Span, above: &[Span], near: usize) -> Option<Span>
+    requires { AreApart above.now }
+    ensures { result ≡ find (overlap span.now) above.now }
+{
+    if near < above.len() && overlap(span, &above[near]) && is_free_before(span, above, near) {
+        return Some(above[near]);
+    }
+    first_overlap(span, above)
+}
+
 fn found_text(worded: &WordedGrid, row: usize, found: Option<Span>) -> &[u8]
     ensures value { result.now ≡ found_text (layout_of worded.now) row found }
     ensures ascii { IsAscii result.now }
@@ -202,17 +221,18 @@ fn found_text(worded: &WordedGrid, row: usize, found: Option<Span>) -> &[u8]
     }
 }
 
-/// The name of what stands at a span of a row.
+/// The name of what stands at a span of a row. The word with the number `near` is looked at first.
 #[tactic(auto, unfolding(crate::specs::Names::name_above))]
 pub fn name_above(
     alloc: Global,
     worded: &WordedGrid,
     row: usize,
     span: &Span,
+    near: usize,
 ) -> Result<Text, AllocError>
     ensures { IfOk result (λ t. t ≡ name_above (layout_of worded.now) row span.now) }
 {
     let above = row.saturating_sub(1);
-    let found = first_overlap(span, worded.words(above));
+    let found = overlap_near(span, worded.words(above), near);
     Text::from_ascii(alloc, found_text(worded, above, found))
 }

@@ -30,11 +30,28 @@ fn in_word_with(marked: &MarkedGrid, bare: bool, c: u8, row: usize, column: usiz
         && !marked.in_operand_of(bare, row, column)
 }
 
-/// How many places of a word follow a column of a row whose characters are at hand.
+/// Whether a word goes on at a place with a character; in a row that is bare each character of a word does so.
+#[inline(always)]
+#[tactic(auto, unfolding(crate::specs::Places::layout_of))]
+fn goes_on_with(marked: &MarkedGrid, bare: bool, c: u8, row: usize, column: usize) -> bool
+    requires column { column < 2 ^ 62 }
+    requires bare { IsTrue bare → IsBare (outlines marked.now) row }
+    requires char { c ≡ char_at marked.now row column }
+    requires before { IsTrue (in_word (layout_of marked.now) row (column - 1)) }
+    ensures { result ≡ in_word (layout_of marked.now) row column }
+{
+    if bare {
+        return is_word_char(c);
+    }
+    in_word_with(marked, bare, c, row, column)
+}
+
+/// How many places of a word follow one in a column of a row whose characters are at hand.
 fn word_rest(marked: &MarkedGrid, bare: bool, cells: &[u8], row: usize, column: usize) -> usize
     requires bare { IsTrue bare → IsBare (outlines marked.now) row }
     requires cells { cells.now ≡ slice_index_or marked.now row [] }
     requires column { column < 2 ^ 61 }
+    requires inside { IsTrue (in_word (layout_of marked.now) row column) }
     ensures rest { result ≡ run (in_word (layout_of marked.now) row) (column + 1) (width marked.now) }
     ensures within { column ≤ width marked.now → column + result ≤ width marked.now }
 {
@@ -43,7 +60,7 @@ fn word_rest(marked: &MarkedGrid, bare: bool, cells: &[u8], row: usize, column: 
     let limit = grid.last();
     let mut n = 0;
     while n < limit
-        && in_word_with(
+        && goes_on_with(
             marked,
             bare,
             grid.cell(cells, row, column + 1 + n),

@@ -18,7 +18,7 @@ pub fn is_line(mark: Mark) -> bool
 pub fn has_meaning(c: u8) -> bool
     ensures { result ≡ has_meaning c }
 {
-    c.is_ascii_alphanumeric() || matches!(c, b' ' | b'-' | b'|' | b'+' | b'_' | b'.' | b'#')
+    c == b' ' || c.is_ascii_alphanumeric() || matches!(c, b'-' | b'|' | b'+' | b'_' | b'.' | b'#')
 }
 
 pub fn is_vertical(mark: Mark) -> bool

@@ -1,11 +1,12 @@
-ghost use Rattle.std.specs.Prelude.{◌≡◌, ◌<◌, ℕ, List, [], Some, IfOk, IfSome, OnOk, map, slice_get, length};
+ghost use Rattle.std.specs.Prelude.{◌≡◌, ◌<◌, ◌++◌, ◌∷◌, ℕ, List, [], Some, IfOk, IfSome, OnOk, map, slice_get, length};
 ghost use Rattle.drawings.specs.Picture.{Picture};
 ghost use Rattle.network.specs.declared.listing.listed.Entry.{Entry};
-ghost use Rattle.network.specs.Steps.Listed.{stand_for};
+ghost use Rattle.network.specs.Steps.Listed.{element_seen, stand_for};
 ghost use Rattle.network.specs.Steps.Ranks.{AreAllSplit, IsPut};
 ghost use Rattle.network.specs.Steps.Tables.{AreSuch};
 
-use crate::listing::listed::{Elements, Entry, entry_seen};
+use crate::element::Element;
+use crate::listing::listed::{Elements, Entry, Seen, entry_seen};
 use crate::networks::Network;
 use crate::order::part::Part;
 use drawings::Drawing;
@@ -70,14 +71,34 @@ fn split_entries(
     Ok(parts)
 }
 
+/// Adds a symbol or box at the end of a network, with a copy of what the drawing has of it.
+#[inline(never)]
+fn push_symbol(alloc: Global, network: &mut Network, element: Seen) -> Result<(), AllocError>
+    ensures { OnOk result (network.new ≡ network.old ++ element_seen element.entry ∷ []) }
+{
+    let element = element.copied(alloc)?;
+    network.push(element)
+}
+
+/// Adds an element at the end of a network. Lines are put by themselves, since there are the most of them.
+fn push_copy(alloc: Global, network: &mut Network, element: Seen) -> Result<(), AllocError>
+    ensures { OnOk result (network.new ≡ network.old ++ element_seen element.entry ∷ []) }
+{
+    match element {
+        Seen::Wire(at) => network.push(Element::Wire(at)),
+        Seen::Join(at) => network.push(Element::Join(at)),
+        Seen::Upright(at) => network.push(Element::Upright(at)),
+        Seen::Contact(_) | Seen::Coil(_) | Seen::Box(_) => push_symbol(alloc, network, element),
+    }
+}
+
 /// The network of these entries, with copies of what the drawing has of its elements.
 fn network_of(alloc: Global, drawing: &Drawing, entries: &[Entry]) -> Result<Network, AllocError>
     ensures { IfOk result (λ network. network ≡ stand_for drawing.now entries.now) }
 {
     let mut network = Network::with_capacity(alloc, entries.len())?;
     for entry in entries {
-        let element = entry_seen(drawing, *entry).copied(alloc)?;
-        network.push(element)?;
+        push_copy(alloc, &mut network, entry_seen(drawing, *entry))?;
     }
     Ok(network)
 }

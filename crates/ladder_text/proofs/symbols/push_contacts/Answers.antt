@@ -9,11 +9,11 @@ use Rattle.ladder_text.proofs.Words.SpanRows.{filter_map-step_behind, row_contac
 use Rattle.ladder_text.proofs.symbols.push_contacts.Goals as goal
 use Rattle.ladder_text.proofs.symbols.push_contacts.Goals.{in-Some+in_ok-push, in_default}
 
-pub loop-symbol-preserved : goal.loop-symbol-preserved
-loop-symbol-preserved c =
+pub loop-near-preserved : goal.loop-near-preserved
+loop-near-preserved c =
     let p = layout_of c.args.worded.now in
-    let step = filter_map-step_behind (λ (s : Span). contact_with p c.args.row s.first (contact_at p c.args.row s.first)) c.symbols-symbol-items.result.now c.loop-symbol.symbol-index
-    (record { first = 0; end = 0 }) c.in_ok-contact.field-0 c.args.all.now.items c.loop-symbol.all.items c.match-branch-2.all.items c.loop-symbol-test.true c.in_ok-contact.ensures c.loop-symbol.invariant in
+    let step = filter_map-step_behind (λ (s : Span). contact_with p c.args.row s.first (contact_at p c.args.row s.first)) c.symbols-symbol-items.result.now c.loop-near.near
+    (record { first = 0; end = 0 }) c.in_ok-contact.field-0 c.args.all.now.items c.loop-near.all.items c.match-branch-2.all.items c.loop-near-test.true c.in_ok-contact.ensures c.loop-near.invariant in
     elim c.match-branch-2.branch [
       | in-Some+in_ok-push w ↦ step (search rules)
       | in_default w ↦ step (search rules)
@@ -24,6 +24,6 @@ returns c =
     let p = layout_of c.args.worded.now in
     let r = c.args.row in
     let items = c.symbols-symbol-items.result.now in
-    let all = take_all c.loop-symbol.symbol-index items c.loop-symbol-test.false in
-    c.loop-symbol.invariant
+    let all = take_all c.loop-near.near items c.loop-near-test.false in
+    c.loop-near.invariant
     ∙ ap (λ (l : List Contact). c.args.all.now.items ++ l) (ap (filter_map (λ (s : Span). contact_with p r s.first (contact_at p r s.first))) (all ∙ c.symbols-symbol-items.ensures) ∙ row_contacts_by_symbol p r)

@@ -31,7 +31,7 @@ impl MarkedGrid {
         requires coil { coil ≡ in_coil (layout_of self.now) row column }
         ensures { result ≡ mark (layout_of self.now) row column }
     {
-        if bare && c == b' ' && !contact && !coil {
+        if bare && c != b'-' && c != b'|' && c != b'+' && !contact && !coil {
             return Mark::Blank;
         }
         if self.in_box_of(bare, row, column) {

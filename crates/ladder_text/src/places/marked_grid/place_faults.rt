@@ -1,7 +1,7 @@
 //! The faults of single places.
 
-ghost use Rattle.std.specs.Prelude.{◌≡◌, ◌+◌, ◌-◌, ◌<◌, ◌≤◌, ◌^◌, ℕ, IsTrue, IsFalse, IfNone, IfSome};
-ghost use Rattle.ladder_rows.specs.Rows.{char_at, width};
+ghost use Rattle.std.specs.Prelude.{◌≡◌, ◌+◌, ◌-◌, ◌<◌, ◌≤◌, ◌^◌, ℕ, [], IsTrue, IsFalse, IfNone, IfSome, slice_index_or};
+ghost use Rattle.ladder_rows.specs.Rows.{width};
 ghost use Rattle.ladder_rows.specs.Boxes.{outlines};
 ghost use Rattle.ladder_text.specs.Places.{layout_of, gives, mark as place_mark};
 ghost use Rattle.ladder_rows.specs.Steps.RowBoxes.{IsBare};
@@ -153,10 +153,25 @@ impl MarkedGrid {
         }
     }
 
-    /// Whether a place in a row without boxes surely has no fault, by its character, the mark before it and its own.
+    /// Whether a Join in a row without boxes surely has no fault, by the mark before it.
+    fn is_join_fine(&self, before: Mark, row: usize, column: usize) -> bool
+        requires row { row < 2 ^ 62 }
+        requires column { column < 2 ^ 61 }
+        requires bare { IsBare (outlines self.now) row }
+        requires before { before ≡ place_mark (layout_of self.now) row (column - 1) }
+        requires mark { place_mark (layout_of self.now) row column ≡ Mark.Join }
+        ensures { IsTrue result → IsFineAt (layout_of self.now) row column }
+    {
+        if 1 < self.grid.row_end() && self.mark_gives(before, row, column.saturating_sub(1)) {
+            return true;
+        }
+        self.is_faultless_at(Mark::Join, row, column)
+    }
+
+    /// Whether a place in a row without boxes surely has no fault, by the row's characters, the mark before it and its own.
     #[tactic(auto, unfolding(crate::specs::Places::layout_of))]
-    fn is_fine(&self, c: u8, before: Mark, mark: Mark, row: usize, column: usize) -> bool
-        requires char { c ≡ char_at self.now row column }
+    fn is_fine(&self, cells: &[u8], before: Mark, mark: Mark, row: usize, column: usize) -> bool
+        requires cells { cells.now ≡ slice_index_or self.now row [] }
         requires row { row < 2 ^ 62 }
         requires column { column < 2 ^ 61 }
         requires bare { IsBare (outlines self.now) row }
@@ -168,8 +183,10 @@ impl MarkedGrid {
             Mark::Wire | Mark::ContactPart | Mark::CoilPart => {
                 self.mark_gives(before, row, column.saturating_sub(1))
             }
-            Mark::Blank | Mark::Rail => has_meaning(c),
-            Mark::Join | Mark::Upright | Mark::BoxPart => self.is_faultless_at(mark, row, column),
+            Mark::Blank | Mark::Rail => has_meaning(self.grid.cell(cells, row, column)),
+            Mark::Join => self.is_join_fine(before, row, column),
+            Mark::Upright => !self.crossing(mark, row, column),
+            Mark::BoxPart => self.is_faultless_at(mark, row, column),
         }
     }
 
@@ -184,9 +201,8 @@ impl MarkedGrid {
         let cells = self.grid.cells(row);
         let mut before = self.mark(row, 0);
         for column in 0..self.grid.last() + 1 {
-            let c = self.grid.cell(cells, row, column);
             let mark = self.mark_in(marks, row, column);
-            if !self.is_fine(c, before, mark, row, column) {
+            if !self.is_fine(cells, before, mark, row, column) {
                 return false;
             }
             before = mark;

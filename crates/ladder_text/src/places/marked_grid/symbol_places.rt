@@ -39,6 +39,7 @@ fn coil_kind(c: u8) -> Option<CoilKind>
 
 impl MarkedGrid {
     /// Whether none of the three places from a column on is in a box.
+    #[inline(always)]
     #[tactic(auto, unfolding(crate::specs::Places::layout_of))]
     fn are_three_free(&self, row: usize, column: usize) -> bool
         requires { column < 2 ^ 62 }
@@ -55,15 +56,16 @@ impl MarkedGrid {
         requires { column < 2 ^ 62 }
         ensures { result ≡ contact_at (layout_of self.now) row column }
     {
-        if self.grid.at(row, column) != b'|' {
+        let cells = self.grid.cells(row);
+        if self.grid.cell(cells, row, column) != b'|' {
             return None;
         }
-        let before = self.grid.at(row, column.saturating_sub(1));
+        let before = self.grid.cell(cells, row, column.saturating_sub(1));
         let open = (before == b'-' || before == b'+')
-            && self.grid.at(row, column + 2) == b'|'
+            && self.grid.cell(cells, row, column + 2) == b'|'
             && self.are_three_free(row, column);
         if open {
-            contact_kind(self.grid.at(row, column + 1))
+            contact_kind(self.grid.cell(cells, row, column + 1))
         } else {
             None
         }

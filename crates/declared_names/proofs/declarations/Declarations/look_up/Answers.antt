@@ -1,7 +1,5 @@
-use Rattle.std.proofs.Common.{◌≡◌, ◌∙◌, ap, List, map, ℕ, position}
-use Rattle.std.specs.Char.{to_ascii_lowercase}
+use Rattle.std.proofs.Common.{◌≡◌, ◌∙◌, ap, List, ℕ, position}
 use Rattle.std.specs.Map.{keys_of}
-use Rattle.std.specs.Str.{str_to_ascii_lowercase}
 use Rattle.declared_names.specs.declared.declarations.Declaration.{Declaration}
 use Rattle.declared_names.specs.Names.{place_of}
 use Rattle.declared_names.proofs.FoldedNames.{is_key, position_folded}
@@ -11,9 +9,7 @@ pub returns : goal.returns
 returns c =
     let entries = c.self.inside.entries.entries in
     let name = c.args.name.now in
-    let small : c.make_ascii_lowercase.new.self ≡ str_to_ascii_lowercase name
-    = c.make_ascii_lowercase.ensures.after ∙ ap (map to_ascii_lowercase) c.copy_from_slice.ensures.after in
     c.get_index_of.ensures.index
-    ∙ ap (λ (l : List ℕ). position (is_key l) (keys_of entries)) small
+    ∙ ap (λ (l : List ℕ). position (is_key l) (keys_of entries)) c.put_small.ensures
     ∙ position_folded name entries c.self.invariant
     ∙ ap (λ (ds : List Declaration). place_of ds name) c.self.view_is

@@ -15,4 +15,4 @@ returns-then-not-coil c =
     let p = layout_of a.self.now in
     sym (blank_mark p a.row a.column ((c.requires.bare c.if-bare.true).none Covers a.column)
     (sym c.requires.contact ∙ c.if-not-contact.true) (sym c.requires.coil ∙ c.if-not-coil.true)
-    (sym c.requires.char ∙ c.if-c-eq32.true))
+    (λ e. c.if-c-ne45.true (c.requires.char ∙ e)) (λ e. c.if-c-ne124.true (c.requires.char ∙ e)) (λ e. c.if-c-ne43.true (c.requires.char ∙ e)))
