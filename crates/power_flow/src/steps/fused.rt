@@ -51,7 +51,7 @@ fn joined_pair(first: u8, lowest: u8, rows: PairRows, places: PairPlaces) -> Opt
     Some(Step::JoinedPair(rows, places))
 }
 
-/// Whether the contacts of a pair are plain and have one row between them, and this row, and from first to lowest all three.
+/// Whether the contacts of a pair are plain and stand in the first and the lowest row, with this row alone between them.
 fn are_over(row: u8, first: u8, lowest: u8, rows: &PairRows) -> bool
     ensures { IsTrue result → (row ≡ first + 1) × (lowest ≡ first + 2) × (rows.now ≡ rows_over first) }
 {
@@ -60,7 +60,7 @@ fn are_over(row: u8, first: u8, lowest: u8, rows: &PairRows) -> bool
     plain && joined && first.checked_add(1) == Some(row) && first.checked_add(2) == Some(lowest)
 }
 
-/// A row that is turned off, rows that are joined, and then a pair of contacts, if those are plain, above and below the row.
+/// A row that is turned off, rows that are joined, and then a pair of contacts, if those are plain and stand right above and below the row.
 fn pair_over(row: u8, first: u8, lowest: u8, rows: PairRows, places: PairPlaces) -> Option<Step>
     ensures { IfSome result (λ s. single s ≡ single (Step.OffUpright row first lowest) ++ single (Step.Pair rows places)) }
 {
