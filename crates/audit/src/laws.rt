@@ -1,5 +1,6 @@
 //! What holds of journals and of the nodes that wrote them.
 
+ghost use Rattle.live_node.specs.NodeAnswers.{a_keeper_gives};
 ghost use Rattle.audit.specs.OneReason.{OneReason};
 ghost use Rattle.audit.specs.OneTelling.{AnswersAreTold, OneTelling};
 
@@ -13,7 +14,7 @@ pub fn one_reason()
 
 /// What a node does at a line that it answers and notes is what a line of its journal tells.
 pub fn answers_are_told<K: Keeper>()
-    ensures { AnswersAreTold K.raise_gives }
+    ensures { AnswersAreTold (a_keeper_gives K.last K.raise_gives) }
 {}
 
 /// Behind the same lines a node and an audit stand alike: they hold the same, make the same next, and number the next line alike. That is not said of an evaluation that was noted and never done.

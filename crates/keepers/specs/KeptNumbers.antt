@@ -62,3 +62,12 @@ IsRaisedIn old new resource last (Err fault.Unreadable) = KeepsNoneFrom (old (nu
 IsRaisedIn old new resource last (Err fault.Spent) = KeepsNumber (old (number_file resource)) 4294967295 × (new ≡ old)
 IsRaisedIn old new resource last (Err fault.Unwritable) = IsTried old new resource last
 IsRaisedIn old new resource last (Err fault.Memory) = (new ≡ old) ⊎ IsTried old new resource last
+
+-- What a raise may answer, by the file alone: the number after the one that it keeps; or why there is none, in this order,
+-- where Unwritable is told only if there is one.
+abbrev pub MayAnswer : KnownFile → ℕ → Result ℕ KeeperFault → Type 0
+MayAnswer file last (Ok i) = (n : ℕ) × IsRaisable file last n × (i ≡ n + 1)
+MayAnswer file last (Err fault.Unreadable) = KeepsNoneFrom file last
+MayAnswer file last (Err fault.Spent) = KeepsNumber file 4294967295
+MayAnswer file last (Err fault.Unwritable) = (n : ℕ) × IsRaisable file last n
+MayAnswer file last (Err fault.Memory) = Unit {0}

@@ -2,7 +2,7 @@ ghost use Rattle.std.specs.Prelude.{◌≡◌, IfOk, string_bytes};
 ghost use Rattle.evaluation.specs.Retained.{Suits};
 ghost use Rattle.keepers.specs.Keepers.{Raises};
 ghost use Rattle.keepers.specs.KnownFiles.{IsStored};
-ghost use Rattle.keepers.specs.KeptNumbers.{IsNext, IsRaisedIn, number_file, number_text, temporary_file};
+ghost use Rattle.keepers.specs.KeptNumbers.{IsNext, IsRaisedIn, MayAnswer, number_file, number_text, temporary_file};
 ghost use Rattle.keepers.specs.KeptRetained.{IsToldOf, retained_file, retained_text};
 ghost use Rattle.keepers.specs.Steps.Raising.{IsFound, IsReadOf};
 
@@ -153,6 +153,10 @@ impl<F: Folder> FileKeeper<F> {
 
 impl<F: Folder + Send> Keeper for FileKeeper<F> {
     ghost last = { λ k. k.last };
+
+    ghost raise_gives = { λ k answer. MayAnswer (F.file k.folder (number_file (string_bytes k.resource))) k.last answer };
+
+    ghost kept_gives = { λ k task code answer. IsToldOf (F.file k.folder (retained_file (string_bytes k.resource) task)) code answer };
 
     /// The next incarnation, which is kept then. Unreadable: the file can't be read, or is no incarnation from the last
     /// answer on. Spent: it is 4,294,967,295. Unwritable: the file can't be replaced.

@@ -2,6 +2,7 @@ mod KeptLines
 mod LinesRead
 mod LineTaking
 mod NextAnswered
+mod Opening
 mod Standing
 mod Stopping
 mod Telling

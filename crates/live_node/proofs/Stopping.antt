@@ -1,17 +1,28 @@
 -- A node stops: what was noted and written for the line that it read last.
-use Rattle.std.proofs.Common.{◌≡◌, inl, inr, ℕ, ◌+◌, ◌++◌, ◌<◌, true, false, Bool, List, [], ◌∷◌, Option, refl, sym, ap, ◌∙◌, subst, append_assoc, append-nil, arith}
+use Rattle.std.proofs.Common.{◌≡◌, ◌⊎◌, Result, Ok, Err, IfErr, OnErr, inl, inr, ℕ, ◌+◌, ◌++◌, ◌<◌, true, false, Bool, List, [], ◌∷◌, Option, refl, sym, ap, ◌∙◌, subst, append_assoc, append-nil, arith}
 use Rattle.std.specs.List.{flat_map}
+use Rattle.std.specs.Result.{IsErrAnd}
 use Rattle.std.specs.Io.KnownBytes.{Appends, Consumes}
 use Rattle.std.proofs.KnownBytes.{Appends-nil, Consumes-nil, Keeps-refl}
+use Rattle.std_blocks.specs.declared.value.Value.{Value}
+use Rattle.task_codes.specs.declared.task_ref.TaskRef.{TaskRef}
+use Rattle.plant.specs.PlantValue.{PlantValue}
+use Rattle.evaluation.specs.declared.field_input.FieldInput.{FieldInput}
+use Rattle.exchange_core.specs.MessageCoreValue.{MessageCoreValue}
+use Rattle.exchange_core.specs.Openings.{AreOpeningOf}
+use Rattle.keepers.specs.Keepers.{Telling, TellsNoMore}
+use Rattle.keepers.specs.declared.keeper_fault.KeeperFault.{KeeperFault}
+use Rattle.keepers.specs.declared.keeper_fault.KeeperFault.TheVariants as keeping
+use Rattle.lists.proofs.Results.{kept_fault}
 use Rattle.text_lines.specs.Sending.{SendsPart}
 use Rattle.text_lines.proofs.Sending.{begins}
 use Rattle.text_lines.specs.Lines.{TakesSome}
 use Rattle.text_lines.specs.declared.read_fault.ReadFault.{ReadFault}
 use Rattle.text_lines.specs.declared.read_fault.ReadFault.TheVariants as reading
 use Rattle.world.proofs.LinesRead.{fed}
-use Rattle.live_node.specs.declared.node_line.NodeLine.TheVariants.{Restart}
+use Rattle.live_node.specs.declared.node_line.NodeLine.TheVariants.{Evaluate, Restart}
 use Rattle.live_node.specs.Answers.{refused_line}
-use Rattle.live_node.specs.NodeJournal.{line_note, restart_note}
+use Rattle.live_node.specs.NodeJournal.{line_note, start_note, restart_note}
 use Rattle.live_node.specs.NodeLines.{Spells}
 use Rattle.live_node.specs.declared.line_refusal.LineRefusal.TheVariants as refusal
 use Rattle.live_node.specs.NodeValue.{NodeValue}
@@ -19,9 +30,10 @@ use Rattle.live_node.specs.declared.live_lines.TakenLine.TheVariants.{Line, TooL
 use Rattle.live_node.specs.declared.live_stop.LiveStop.{LiveStop}
 use Rattle.live_node.specs.declared.live_stop.LiveStop.TheVariants.{Node, Read, Write, Memory}
 use Rattle.live_node.specs.declared.node_stop.NodeStop.{NodeStop}
-use Rattle.live_node.specs.NodeAnswers.{Raising, IsAnswered}
-use Rattle.live_node.specs.Stops.{NotesPart, StopsWithin, StopsNode}
-use Rattle.live_node.specs.Steps.Answering.{NotesRestartPart, stop_of}
+use Rattle.live_node.specs.declared.node_stop.NodeStop.TheVariants as ends
+use Rattle.live_node.specs.NodeAnswers.{Raising, AreTold, IsAnswered}
+use Rattle.live_node.specs.Stops.{NotesPart, NotesStart, NotesUnanswered, StopsBeginning, StopsWithin, StopsNode}
+use Rattle.live_node.specs.Steps.Answering.{IsNotKeepers, NotesRestartPart, NotesUnevaluated, TellsNothing, stop_for, stop_of}
 use Rattle.live_node.specs.Steps.LineTaking.{Takes, TakesWithin}
 use Rattle.live_node.proofs.Standing.{Stands}
 
@@ -54,13 +66,94 @@ pub asked_part : (s : NodeValue) (resource : ℕ) (line : List ℕ) (old new : O
 asked_part s resource line old new asked h =
     (restart_note s.core.plant s.core.resource h.0, inr (record { resource = resource; asked = asked; incarnation = h.0; above = h.1; note_is = refl }), h.2)
 
+-- its keeper isn't raised
+pub unraised : (raises : Result ℕ KeeperFault → Type 0) (tells : Telling) (plant : PlantValue) (n above : ℕ) (f : KeeperFault) (old : Option (List ℕ)) → raises (Err f) → StopsBeginning raises tells plant n above (stop_for f) old old
+unraised raises tells plant n above keeping.Unreadable old given = (λ same. cc, inl given, Keeps-refl old)
+unraised raises tells plant n above keeping.Unwritable old given = (λ same. cc, inl given, Keeps-refl old)
+unraised raises tells plant n above keeping.Spent old given = (λ same. cc, inl given, Keeps-refl old)
+unraised raises tells plant n above keeping.Memory old given = inl (Keeps-refl old)
+
+-- it was raised, and tells nothing of a task
+pub untold : (raises : Result ℕ KeeperFault → Type 0) (tells now : Telling) (plant : PlantValue) (n above i : ℕ) (why : NodeStop) (old : Option (List ℕ)) → raises (Ok i) → TellsNoMore tells now → TellsNothing now plant n why → StopsBeginning raises tells plant n above why old old
+untold raises tells now plant n above i (ends.Keeper f) old raised stays (not_memory, (task, code, found, given)) =
+    (not_memory, inr (record { incarnation = i; raised = raised; task = task; code = code; found = found; given = stays task code (Err f) given }), Keeps-refl old)
+untold raises tells now plant n above i ends.Note old raised stays h = absurd h
+untold raises tells now plant n above i ends.Memory old raised stays h = inl (Keeps-refl old)
+
+-- a start was noted in part
+pub start_part : (raises : Result ℕ KeeperFault → Type 0) (tells now : Telling) (plant : PlantValue) (n above i : ℕ) (opening : List (List Value)) (note : List ℕ) (old new : Option (List ℕ)) → raises (Ok i) → above < i → AreOpeningOf plant n opening
+    → TellsNoMore tells now → AreTold now plant n opening → note ≡ start_note plant n i opening → SendsPart note old new → NotesStart raises tells plant n above old new
+start_part raises tells now plant n above i opening note old new raised risen opens stays told is sent = record {
+  incarnation = i;
+  raised = raised;
+  risen = risen;
+  opening = opening;
+  opens = opens;
+  told = λ task code values found at. stays task code (Ok values) (told task code values found at);
+  sent = subst (λ l. SendsPart l old new) is sent;
+}
+
+-- a start was noted, and memory is wanting for what it writes
+pub start_unmade : {T : Type 0} (r : Result T NodeStop) (raises : Result ℕ KeeperFault → Type 0) (tells now : Telling) (plant : PlantValue) (n above i : ℕ) (opening : List (List Value)) (note : List ℕ) (old new : Option (List ℕ)) → IsErrAnd r (λ why. why ≡ ends.Memory)
+    → raises (Ok i) → above < i → AreOpeningOf plant n opening → TellsNoMore tells now → AreTold now plant n opening → note ≡ start_note plant n i opening → Appends old new note → IfErr r (λ why. StopsBeginning raises tells plant n above why old new)
+start_unmade r raises tells now plant n above i opening note old new is raised risen opens stays told noted appended =
+    kept_fault ends.Memory (λ why. StopsBeginning raises tells plant n above why old new) r is
+    (inr (start_part raises tells now plant n above i opening note old new raised risen opens stays told noted (all_sent note old new appended)))
+
+-- a line was noted in part, and not for the keeper
+part_unanswered : (s : NodeValue) (line : List ℕ) (why : NodeStop) (old new : Option (List ℕ)) → IsNotKeepers why → NotesPart s line old new → NotesUnanswered s line why old new
+part_unanswered s line (ends.Keeper f) old new own part = absurd own
+part_unanswered s line ends.Note old new own part = part
+part_unanswered s line ends.Memory old new own part = part
+
+pub line_unanswered : {T : Type 0} (r : Result T NodeStop) (s : NodeValue) (line : List ℕ) (old new : Option (List ℕ)) → IfErr r IsNotKeepers → OnErr r (SendsPart (line_note line) old new) → IfErr r (λ why. NotesUnanswered s line why old new)
+line_unanswered (Ok x) s line old new own part = tt
+line_unanswered (Err why) s line old new own part = part_unanswered s line why old new own (line_part s line old new part)
+
+pub restart_unanswered : {T : Type 0} (r : Result T NodeStop) (s : NodeValue) (resource : ℕ) (line : List ℕ) (old new : Option (List ℕ)) → Spells s.core.plant (Restart resource) line → IfErr r IsNotKeepers → OnErr r (NotesRestartPart s old new)
+    → IfErr r (λ why. NotesUnanswered s line why old new)
+restart_unanswered (Ok x) s resource line old new asked own part = tt
+restart_unanswered (Err why) s resource line old new asked own part = part_unanswered s line why old new own (asked_part s resource line old new asked part)
+
+by_evaluation : (s : NodeValue) (t : TaskRef) (dt : ℕ) (inputs : List FieldInput) (line : List ℕ) (why : NodeStop) (old new : Option (List ℕ)) → Spells s.core.plant (Evaluate t dt inputs) line → NotesUnevaluated s.core t line why old new → NotesUnanswered s line why old new
+by_evaluation s t dt inputs line (ends.Keeper f) old new asked h = (h.0, record { task = t; dt = dt; inputs = inputs; asked = asked; here = h.1; noted = h.2 })
+by_evaluation s t dt inputs line ends.Note old new asked h = line_part s line old new h
+by_evaluation s t dt inputs line ends.Memory old new asked h = line_part s line old new h
+
+pub evaluation_unanswered : {T : Type 0} (r : Result T NodeStop) (s : NodeValue) (t : TaskRef) (dt : ℕ) (inputs : List FieldInput) (line : List ℕ) (old new : Option (List ℕ)) → Spells s.core.plant (Evaluate t dt inputs) line → IfErr r (λ why. NotesUnevaluated s.core t line why old new)
+    → IfErr r (λ why. NotesUnanswered s line why old new)
+evaluation_unanswered (Ok x) s t dt inputs line old new asked h = tt
+evaluation_unanswered (Err why) s t dt inputs line old new asked h = by_evaluation s t dt inputs line why old new asked h
+
+-- for want of memory nothing was noted of a line
+pub none_unanswered : {T : Type 0} (r : Result T NodeStop) (s : NodeValue) (line : List ℕ) (old : Option (List ℕ)) → IsErrAnd r (λ why. why ≡ ends.Memory) → IfErr r (λ why. NotesUnanswered s line why old old)
+none_unanswered r s line old is = kept_fault ends.Memory (λ why. NotesUnanswered s line why old old) r is (no_part s line old)
+
+-- an evaluation that isn't noted whole
+pub part_unevaluated : {T : Type 0} (why : NodeStop) (r : Result T NodeStop) (core : MessageCoreValue) (t : TaskRef) (line : List ℕ) (old new : Option (List ℕ)) → IsErrAnd r (λ found. found ≡ why) → IsNotKeepers why → SendsPart (line_note line) old new
+    → IfErr r (λ found. NotesUnevaluated core t line found old new)
+part_unevaluated why r core t line old new is own part = kept_fault why (λ found. NotesUnevaluated core t line found old new) r is (by why own)
+  where
+    by : (found : NodeStop) → IsNotKeepers found → NotesUnevaluated core t line found old new
+    by (ends.Keeper f) own = absurd own
+    by ends.Note own = part
+    by ends.Memory own = part
+
+-- one whose values the keeper doesn't keep
+pub unkept : {T : Type 0} (why : NodeStop) (r : Result T NodeStop) (core : MessageCoreValue) (t : TaskRef) (line : List ℕ) (old new : Option (List ℕ)) → IsErrAnd r (λ found. found ≡ why)
+    → (why ≡ stop_for keeping.Unwritable) ⊎ (why ≡ stop_for keeping.Memory) → t.resource ≡ core.resource → Appends old new (line_note line) → IfErr r (λ found. NotesUnevaluated core t line found old new)
+unkept why r core t line old new is (inl same) here noted =
+    kept_fault why (λ found. NotesUnevaluated core t line found old new) r is (subst (λ found. NotesUnevaluated core t line found old new) (sym same) (refl, here, noted))
+unkept why r core t line old new is (inr same) here noted =
+    kept_fault why (λ found. NotesUnevaluated core t line found old new) r is (subst (λ found. NotesUnevaluated core t line found old new) (sym same) (all_sent (line_note line) old new noted))
+
 -- the next line can't be read
 pub stops_unread : (raising : Raising) (s : NodeValue) (given left noted from : Option (List ℕ)) (found : ReadFault) → TakesWithin given left → StopsWithin raising s given left noted noted from from (stop_of found)
 stops_unread raising s given left noted from reading.Read t = record { line = t.line; bytes = t.bytes; line_is = t.line_is; read = t.taken; leaves = (Keeps-refl noted, Keeps-refl from) }
 stops_unread raising s given left noted from reading.Memory t = record { line = t.line; bytes = t.bytes; line_is = t.line_is; read = t.taken; leaves = (Keeps-refl noted, Keeps-refl from) }
 
 -- a line isn't answered
-pub stops_unanswered : (raising : Raising) (s : NodeValue) (given left noted_old noted_new from : Option (List ℕ)) (line : List ℕ) (fed : Bool) (why : NodeStop) → Takes given left line (Line fed) → NotesPart s line noted_old noted_new
+pub stops_unanswered : (raising : Raising) (s : NodeValue) (given left noted_old noted_new from : Option (List ℕ)) (line : List ℕ) (fed : Bool) (why : NodeStop) → Takes given left line (Line fed) → NotesUnanswered s line why noted_old noted_new
     → StopsWithin raising s given left noted_old noted_new from from (Node why)
 stops_unanswered raising s given left noted_old noted_new from line true why t h = record { line = line; bytes = line ++ 10 ∷ []; line_is = (t.1.0, inl refl); read = t.1.2; leaves = (h, Keeps-refl from) }
 stops_unanswered raising s given left noted_old noted_new from line false why t h = record { line = line; bytes = line; line_is = (t.1.0, inr refl); read = t.1.2.0; leaves = (h, Keeps-refl from) }

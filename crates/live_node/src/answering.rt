@@ -5,6 +5,7 @@ ghost use Rattle.std.specs.Io.KnownBytes.{Appends};
 ghost use Rattle.text_lines.specs.Lines.{TakesSome};
 ghost use Rattle.text_lines.specs.Sending.{SendsPart};
 ghost use Rattle.live_node.specs.LiveNode.{HasAnsweredSoFar, WritesNode};
+ghost use Rattle.live_node.specs.NodeAnswers.{a_keeper_gives};
 ghost use Rattle.live_node.specs.Stops.{StopsWithin, StopsNode};
 ghost use Rattle.live_node.specs.Steps.Answering.{HasAnsweredNext, IsUnwritten};
 
@@ -51,10 +52,10 @@ fn do_next<K: Keeper, N: Notes, L: LineSource, W: Write>(
     requires few { node.old.state.lines < 18446744073709551615 }
     requires kept { K.last node.old.keeper ≡ node.old.state.core.incarnation }
     requires ready { (left : Option (List ℕ)) → TakesSome (L.left source.old) left → L.is_ready left (W.contents out.old) }
-    ensures answered { IfOk result (HasAnsweredNext K.raise_gives node.old.state node.new.state
+    ensures answered { IfOk result (HasAnsweredNext (a_keeper_gives K.last K.raise_gives) node.old.state node.new.state
         (L.left source.old) (L.left source.new) (N.noted node.old.notes) (N.noted node.new.notes)
         (W.contents out.old) (W.contents out.new)) }
-    ensures stopped { IfErr result (StopsWithin K.raise_gives node.old.state
+    ensures stopped { IfErr result (StopsWithin (a_keeper_gives K.last K.raise_gives) node.old.state
         (L.left source.old) (L.left source.new) (N.noted node.old.notes) (N.noted node.new.notes)
         (W.contents out.old) (W.contents out.new)) }
     ensures kept { OnOk result (K.last node.new.keeper ≡ node.new.state.core.incarnation) }
@@ -91,13 +92,13 @@ pub fn live<K: Keeper, N: Notes, L: LineSource, W: Write>(
     requires fresh { node.old.state.lines ≡ 0 }
     requires kept { K.last node.old.keeper ≡ node.old.state.core.incarnation }
     requires turns { (left written : Option (List ℕ))
-        → HasAnsweredSoFar K.raise_gives node.old.state begun.now (L.left source.old) left (W.contents out.old) written
+        → HasAnsweredSoFar (a_keeper_gives K.last K.raise_gives) node.old.state begun.now (L.left source.old) left (W.contents out.old) written
         → L.is_ready left written }
-    ensures ok { OnOk result (WritesNode K.raise_gives node.old.state node.new.state begun.now
+    ensures ok { OnOk result (WritesNode (a_keeper_gives K.last K.raise_gives) node.old.state node.new.state begun.now
         (L.left source.old) (L.left source.new) (N.noted node.old.notes) (N.noted node.new.notes)
         (W.contents out.old) (W.contents out.new)) }
     ensures kept { OnOk result (K.last node.new.keeper ≡ node.new.state.core.incarnation) }
-    ensures stopped { IfErr result (StopsNode K.raise_gives node.old.state begun.now
+    ensures stopped { IfErr result (StopsNode (a_keeper_gives K.last K.raise_gives) node.old.state begun.now
         (L.left source.old) (L.left source.new) (N.noted node.old.notes) (N.noted node.new.notes)
         (W.contents out.old) (W.contents out.new)) }
 {

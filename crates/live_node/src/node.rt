@@ -1,6 +1,6 @@
 //! A node answers lines.
 
-ghost use Rattle.std.specs.Prelude.{◌≡◌, ◌≢◌, ◌<◌, IfOk, OnOk, OnErr, Some, [], length, string_bytes, if◌then◌else◌};
+ghost use Rattle.std.specs.Prelude.{◌≡◌, ◌≢◌, ◌<◌, ◌⊎◌, IfOk, IfErr, OnOk, OnErr, Some, [], length, string_bytes, if◌then◌else◌};
 ghost use Rattle.std.specs.Io.KnownBytes.{Appends};
 ghost use Rattle.evaluation.specs.Messages.{message_of};
 ghost use Rattle.exchange_core.specs.Openings.{AreOpeningOf};
@@ -9,9 +9,9 @@ ghost use Rattle.keepers.specs.declared.keeper_fault.KeeperFault.TheVariants as 
 ghost use Rattle.live_node.specs.declared.line_refusal.LineRefusal.TheVariants as refusal;
 ghost use Rattle.live_node.specs.Answers.{refused_line};
 ghost use Rattle.live_node.specs.declared.node_line.NodeLine.TheVariants as asked;
-ghost use Rattle.live_node.specs.NodeAnswers.{is_told, own_hello, IsAnswered, HasBegun};
-ghost use Rattle.live_node.specs.Stops.{NotesPart};
-ghost use Rattle.live_node.specs.Steps.Answering.{HasRisenTo, IsAnsweredBy, NotesRestartPart};
+ghost use Rattle.live_node.specs.NodeAnswers.{is_told, keeper_gives, own_hello, AreTold, IsAnswered, HasBegun};
+ghost use Rattle.live_node.specs.Stops.{NotesUnanswered, StopsBeginning};
+ghost use Rattle.live_node.specs.Steps.Answering.{HasRisenTo, IsAnsweredBy, IsNotKeepers, NotesRestartPart, NotesUnevaluated, TellsNothing, stop_for};
 ghost use Rattle.live_node.specs.NodeJournal.{line_note, restart_note};
 ghost use Rattle.text_lines.specs.Growing.{GrowsBy};
 ghost use Rattle.text_lines.specs.Sending.{SendsPart};
@@ -30,7 +30,7 @@ use evaluation::{Evaluation, Inputs, Message, Retained};
 use exchange_core::Accepted;
 use keepers::{Keeper, KeeperFault};
 use plant::Plant;
-use std::alloc::Global;
+use std::alloc::{AllocError, Global};
 use std::sync::Arc;
 use task_codes::TaskRef;
 use world::push_evaluation;
@@ -45,6 +45,7 @@ pub struct Node<K: Keeper, N: Notes> {
 }
 
 /// What a keeper has kept of each task of its resource, in their order.
+#[tactic(auto, using(crate::proofs::Opening::told_none, crate::proofs::Opening::told_more, crate::proofs::Opening::tells_more, crate::proofs::Opening::tells_nothing))]
 fn kept_opening<K: Keeper>(
     alloc: Global,
     plant: &Plant,
@@ -52,7 +53,9 @@ fn kept_opening<K: Keeper>(
     keeper: &mut K,
 ) -> Result<Vec<Retained>, NodeStop>
     ensures opened { IfOk result (λ kept. AreOpeningOf plant.now resource kept.items) }
+    ensures told { IfOk result (λ kept. AreTold (K.kept_gives keeper.old) plant.now resource kept.items) }
     ensures last { OnOk result (K.last keeper.new ≡ K.last keeper.old) }
+    ensures untold { IfErr result (TellsNothing (K.kept_gives keeper.old) plant.now resource) }
 {
     // The getter hands out that each task has its code.
     let _resources = plant.resources();
@@ -72,7 +75,8 @@ fn keep_after<K: Keeper>(
     keeper: &mut K,
     evaluation: &Evaluation,
 ) -> Result<(), NodeStop>
-    ensures { K.last keeper.new ≡ K.last keeper.old }
+    ensures last { K.last keeper.new ≡ K.last keeper.old }
+    ensures fault { IfErr result (λ stop. (stop ≡ stop_for keeping.Unwritable) ⊎ (stop ≡ stop_for keeping.Memory)) }
 {
     let code = evaluation.code();
     if code.retained().is_empty() {
@@ -95,7 +99,8 @@ fn is_told(answer: Accepted, is_behind: bool) -> bool
 
 /// Refuses a restart for which the keeper didn't raise the incarnation. Want of memory is a stop.
 fn refuse_unraised(fault: KeeperFault, out: &mut String) -> Result<(), NodeStop>
-    ensures { OnOk result ((fault ≢ keeping.Memory) × GrowsBy out.old out.new (refused_line refusal.Keeper)) }
+    ensures refused { OnOk result ((fault ≢ keeping.Memory) × GrowsBy out.old out.new (refused_line refusal.Keeper)) }
+    ensures stopped { IfErr result IsNotKeepers }
 {
     match fault {
         KeeperFault::Memory => Err(NodeStop::Memory),
@@ -106,8 +111,36 @@ fn refuse_unraised(fault: KeeperFault, out: &mut String) -> Result<(), NodeStop>
     }
 }
 
+/// Raises the incarnation of a resource, notes the start with what was kept of its tasks, and starts it. `out` is what it writes, behind what is there.
+fn open<K: Keeper, N: Notes>(
+    alloc: Global,
+    plant: Arc<Plant>,
+    resource: usize,
+    keeper: &mut K,
+    notes: &mut N,
+    out: &mut String,
+) -> Result<NodeCore, NodeStop>
+    requires { resource < length plant.value.resources }
+    ensures begun { IfOk result (λ s. HasBegun (K.raise_gives keeper.old) (K.kept_gives keeper.old) plant.value resource s
+        (N.noted notes.old) (N.noted notes.new) (string_bytes out.old) (string_bytes out.new)) }
+    ensures kept { IfOk result (λ s. K.last keeper.new ≡ s.core.incarnation) }
+    ensures above { IfOk result (λ s. K.last keeper.old < s.core.incarnation) }
+    ensures fresh { IfOk result (λ s. s.lines ≡ 0) }
+    ensures stopped { IfErr result (λ why. StopsBeginning (K.raise_gives keeper.old) (K.kept_gives keeper.old) plant.value resource (K.last keeper.old) why
+        (N.noted notes.old) (N.noted notes.new)) }
+{
+    let incarnation = keeper.raise()?;
+    let opening = kept_opening(alloc, &plant, resource, keeper)?;
+    let note = note_of_start(alloc, &plant, resource, incarnation, opening.as_slice())?;
+    notes.note(note.as_bytes())?;
+    let state = NodeCore::start(alloc, plant, resource, opening.as_slice(), incarnation)?;
+    push_greetings(alloc, out, state.plant(), resource, incarnation)?;
+    push_risen(out, "START", state.plant(), resource, incarnation)?;
+    Ok(state)
+}
+
 impl<K: Keeper, N: Notes> Node<K, N> {
-    /// Raises the incarnation of a resource of the plant, notes the start with what was kept of its tasks, and starts it. `out` is what it writes, behind what is there: its hellos, and `START R i`.
+    /// Raises the incarnation of a resource of the plant, notes the start with what was kept of its tasks, and starts it. `out` is what it writes, behind what is there: its hellos, and `START R i`. After a stop the notes come back, with nothing or a beginning of the start's note; a keeper that isn't raised or tells nothing stops it before that.
     pub fn begin(
         alloc: Global,
         plant: Arc<Plant>,
@@ -115,34 +148,46 @@ impl<K: Keeper, N: Notes> Node<K, N> {
         keeper: K,
         notes: N,
         out: &mut String,
-    ) -> Result<Node<K, N>, NodeStop>
+    ) -> Result<Node<K, N>, (N, NodeStop)>
         requires { resource < length plant.value.resources }
-        ensures begun { IfOk result (λ node. HasBegun plant.value resource node.state
+        ensures begun { IfOk result (λ node. HasBegun (K.raise_gives keeper) (K.kept_gives keeper) plant.value resource node.state
             (N.noted notes) (N.noted node.notes) (string_bytes out.old) (string_bytes out.new)) }
         ensures kept { IfOk result (λ node. K.last node.keeper ≡ node.state.core.incarnation) }
         ensures above { IfOk result (λ node. K.last keeper < node.state.core.incarnation) }
         ensures fresh { IfOk result (λ node. node.state.lines ≡ 0) }
+        ensures stopped { IfErr result (λ e. StopsBeginning (K.raise_gives keeper) (K.kept_gives keeper) plant.value resource (K.last keeper) e.1
+            (N.noted notes) (N.noted e.0)) }
     {
         let (mut keeper, mut notes) = (keeper, notes);
-        let incarnation = keeper.raise()?;
-        let opening = kept_opening(alloc, &plant, resource, &mut keeper)?;
-        let note = note_of_start(alloc, &plant, resource, incarnation, opening.as_slice())?;
-        notes.note(note.as_bytes())?;
-        let state = NodeCore::start(alloc, plant, resource, opening.as_slice(), incarnation)?;
-        push_greetings(alloc, out, state.plant(), resource, incarnation)?;
-        push_risen(out, "START", state.plant(), resource, incarnation)?;
-        Ok(Node {
-            alloc,
-            state,
-            keeper,
+        match open(alloc, plant, resource, &mut keeper, &mut notes, out) {
+            Ok(state) => Ok(Node {
+                alloc,
+                state,
+                keeper,
+                notes,
+            }),
+            Err(stop) => Err((notes, stop)),
+        }
+    }
+
+    /// Its notes, when it has ended.
+    pub fn into_notes(self) -> N
+        ensures { result ≡ self.notes }
+    {
+        let Node {
+            alloc: _,
+            state: _,
+            keeper: _,
             notes,
-        })
+        } = self;
+        notes
     }
 
     /// Notes a line that is done next.
     fn note_line(&mut self, line: &[u8]) -> Result<(), NodeStop>
         ensures noted { OnOk result (Appends (N.noted self.old.notes) (N.noted self.new.notes) (line_note line.now)) }
         ensures part { OnErr result (SendsPart (line_note line.now) (N.noted self.old.notes) (N.noted self.new.notes)) }
+        ensures stopped { IfErr result IsNotKeepers }
         ensures state { self.new.state ≡ self.old.state }
         ensures keeper { self.new.keeper ≡ self.old.keeper }
     {
@@ -162,9 +207,9 @@ impl<K: Keeper, N: Notes> Node<K, N> {
         out: &mut String,
     ) -> Result<(), NodeStop>
         requires few { self.old.state.lines < 18446744073709551615 }
-        ensures answered { OnOk result (IsAnsweredBy K.raise_gives self.old.state self.new.state line.now (Some (asked.Evaluate task dt inputs.now))
+        ensures answered { OnOk result (IsAnsweredBy (keeper_gives K.raise_gives self.old.keeper) self.old.state self.new.state line.now (Some (asked.Evaluate task dt inputs.now))
             (N.noted self.old.notes) (N.noted self.new.notes) (string_bytes out.old) (string_bytes out.new)) }
-        ensures part { OnErr result (SendsPart (line_note line.now) (N.noted self.old.notes) (N.noted self.new.notes)) }
+        ensures stopped { IfErr result (λ why. NotesUnevaluated self.old.state.core task line.now why (N.noted self.old.notes) (N.noted self.new.notes)) }
         ensures kept { OnOk result (K.last self.new.keeper ≡ K.last self.old.keeper) }
     {
         if let Some(refusal) = self.state.refusal_of_task(task) {
@@ -190,9 +235,10 @@ impl<K: Keeper, N: Notes> Node<K, N> {
         out: &mut String,
     ) -> Result<(), NodeStop>
         requires few { self.old.state.lines < 18446744073709551615 }
-        ensures answered { OnOk result (IsAnsweredBy K.raise_gives self.old.state self.new.state line.now (Some (asked.Take message))
+        ensures answered { OnOk result (IsAnsweredBy (keeper_gives K.raise_gives self.old.keeper) self.old.state self.new.state line.now (Some (asked.Take message))
             (N.noted self.old.notes) (N.noted self.new.notes) (string_bytes out.old) (string_bytes out.new)) }
         ensures part { OnErr result (SendsPart (line_note line.now) (N.noted self.old.notes) (N.noted self.new.notes)) }
+        ensures stopped { IfErr result IsNotKeepers }
         ensures kept { self.new.keeper ≡ self.old.keeper }
     {
         self.note_line(line)?;
@@ -205,7 +251,7 @@ impl<K: Keeper, N: Notes> Node<K, N> {
     }
 
     /// Writes the node's own hello to a resource.
-    fn push_own_hello(&self, to: usize, out: &mut String) -> Result<(), NodeStop>
+    fn push_own_hello(&self, to: usize, out: &mut String) -> Result<(), AllocError>
         ensures { OnOk result (GrowsBy out.old out.new (own_hello self.now.state.core to)) }
     {
         let state = &self.state;
@@ -216,12 +262,11 @@ impl<K: Keeper, N: Notes> Node<K, N> {
             to,
             state.resource(),
             state.incarnation(),
-        )?;
-        Ok(())
+        )
     }
 
     /// Writes the node's own hello to a resource, where it is wanted.
-    fn push_own_hello_if(&self, wanted: bool, to: usize, out: &mut String) -> Result<(), NodeStop>
+    fn push_own_hello_if(&self, wanted: bool, to: usize, out: &mut String) -> Result<(), AllocError>
         ensures { OnOk result (GrowsBy out.old out.new (if wanted then own_hello self.now.state.core to else [])) }
     {
         if wanted {
@@ -239,9 +284,10 @@ impl<K: Keeper, N: Notes> Node<K, N> {
         out: &mut String,
     ) -> Result<(), NodeStop>
         requires few { self.old.state.lines < 18446744073709551615 }
-        ensures answered { OnOk result (IsAnsweredBy K.raise_gives self.old.state self.new.state line.now (Some (asked.Hello of incarnation))
+        ensures answered { OnOk result (IsAnsweredBy (keeper_gives K.raise_gives self.old.keeper) self.old.state self.new.state line.now (Some (asked.Hello of incarnation))
             (N.noted self.old.notes) (N.noted self.new.notes) (string_bytes out.old) (string_bytes out.new)) }
         ensures part { OnErr result (SendsPart (line_note line.now) (N.noted self.old.notes) (N.noted self.new.notes)) }
+        ensures stopped { IfErr result IsNotKeepers }
         ensures kept { self.new.keeper ≡ self.old.keeper }
     {
         if of >= self.state.plant().resources() {
@@ -266,9 +312,10 @@ impl<K: Keeper, N: Notes> Node<K, N> {
     ) -> Result<(), NodeStop>
         requires kept { K.last self.old.keeper ≡ self.old.state.core.incarnation }
         requires few { self.old.state.lines < 18446744073709551615 }
-        ensures answered { OnOk result (IsAnsweredBy K.raise_gives self.old.state self.new.state line.now (Some (asked.Restart resource))
+        ensures answered { OnOk result (IsAnsweredBy (keeper_gives K.raise_gives self.old.keeper) self.old.state self.new.state line.now (Some (asked.Restart resource))
             (N.noted self.old.notes) (N.noted self.new.notes) (string_bytes out.old) (string_bytes out.new)) }
         ensures part { OnErr result (NotesRestartPart self.old.state (N.noted self.old.notes) (N.noted self.new.notes)) }
+        ensures stopped { IfErr result IsNotKeepers }
         ensures kept { OnOk result (K.last self.new.keeper ≡ self.new.state.core.incarnation) }
     {
         if let Some(refusal) = self.state.refusal_of_place(resource) {
@@ -289,6 +336,7 @@ impl<K: Keeper, N: Notes> Node<K, N> {
         ensures part { OnErr result
             (SendsPart (restart_note self.old.state.core.plant self.old.state.core.resource incarnation)
             (N.noted self.old.notes) (N.noted self.new.notes)) }
+        ensures stopped { IfErr result IsNotKeepers }
         ensures keeper { self.new.keeper ≡ self.old.keeper }
     {
         let resource = self.state.resource();
@@ -301,14 +349,14 @@ impl<K: Keeper, N: Notes> Node<K, N> {
         Ok(())
     }
 
-    /// Answers a line, without its line feed: notes it, does it, keeps what it left, and writes its answer behind what is there. A line that is refused, a blank one and a comment change nothing, and aren't noted. After a stop there is no answer, no more than a beginning of the line's note is noted, and the node is at its end.
+    /// Answers a line, without its line feed: notes it, does it, keeps what it left, and writes its answer behind what is there. A line that is refused, a blank one and a comment change nothing, and aren't noted. After a stop there is no answer, and the node is at its end: a line `EVAL` is noted whole, where the keeper can't keep what it left, else no more than a beginning of the line's note.
     #[tactic(auto, using(crate::proofs::Telling::idle_answer, crate::proofs::Telling::line_answered))]
     pub fn answer(&mut self, line: &[u8], out: &mut String) -> Result<(), NodeStop>
         requires few { self.old.state.lines < 18446744073709551615 }
         requires kept { K.last self.old.keeper ≡ self.old.state.core.incarnation }
-        ensures answered { OnOk result (IsAnswered K.raise_gives self.old.state self.new.state line.now
+        ensures answered { OnOk result (IsAnswered (keeper_gives K.raise_gives self.old.keeper) self.old.state self.new.state line.now
             (N.noted self.old.notes) (N.noted self.new.notes) (string_bytes out.old) (string_bytes out.new)) }
-        ensures stopped { OnErr result (NotesPart self.old.state line.now (N.noted self.old.notes) (N.noted self.new.notes)) }
+        ensures stopped { IfErr result (λ why. NotesUnanswered self.old.state line.now why (N.noted self.old.notes) (N.noted self.new.notes)) }
         ensures kept { OnOk result (K.last self.new.keeper ≡ self.new.state.core.incarnation) }
     {
         match read_node_line(self.alloc, self.state.plant(), line)? {

@@ -51,6 +51,11 @@ impl From<NoteFault> for NodeStop {
 }
 
 impl From<KeeperFault> for NodeStop {
+    ghost use Rattle.std.specs.Prelude.{◌≡◌};
+    ghost use Rattle.live_node.specs.Steps.Answering.{stop_for};
+
+    ghost from_gives = { λ fault stop. stop ≡ stop_for fault };
+
     fn from(fault: KeeperFault) -> NodeStop {
         match fault {
             KeeperFault::Memory => NodeStop::Memory,

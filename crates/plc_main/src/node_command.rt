@@ -1,6 +1,9 @@
 //! The command `node`.
 
 ghost use Rattle.std.specs.Prelude.{◌≡◌, ◌<◌, length, IfOk, IfErr};
+ghost use Rattle.live_node.specs.LiveNode.{WritesNode};
+ghost use Rattle.live_node.specs.NodeAnswers.{a_keeper_gives};
+ghost use Rattle.live_node.specs.Stops.{StopsNode};
 ghost use Rattle.plc_main.specs.NodeCommand.{RunsNode, StopsRunning};
 
 use crate::{keeper_in, print_lock_fault, print_resource_faults};
@@ -22,10 +25,36 @@ enum NodeFault {
     Stop(LiveStop),
 }
 
+/// Writes what a node that begun writes at its start, and answers the lines of a reader, to its end; it answers with the
+/// node as it is then, or with its notes and why it stopped.
+fn run_begun<K: Keeper, N: Notes, I: Read, W: Write>(
+    alloc: Global,
+    node: Node<K, N>,
+    begun: &str,
+    input: &mut I,
+    writer: &mut W,
+) -> Result<Node<K, N>, (N, LiveStop)>
+    requires fresh { node.state.lines ≡ 0 }
+    requires kept { K.last node.keeper ≡ node.state.core.incarnation }
+    ensures ok { IfOk result (λ last. WritesNode (a_keeper_gives K.last K.raise_gives) node.state last.state begun.now
+        (I.remaining input.old) (I.remaining input.new) (N.noted node.notes) (N.noted last.notes)
+        (W.contents writer.old) (W.contents writer.new)) }
+    ensures kept { IfOk result (λ last. K.last last.keeper ≡ last.state.core.incarnation) }
+    ensures stopped { IfErr result (λ e. StopsNode (a_keeper_gives K.last K.raise_gives) node.state begun.now
+        (I.remaining input.old) (I.remaining input.new) (N.noted node.notes) (N.noted e.0)
+        (W.contents writer.old) (W.contents writer.new) e.1) }
+{
+    let mut node = node;
+    match live(alloc, &mut node, begun, input, writer) {
+        Ok(()) => Ok(node),
+        Err(stop) => Err((node.into_notes(), stop)),
+    }
+}
+
 /// Starts a node, and answers the lines of a reader, to its end; it answers with the node as it is then.
 ///
 /// Before a stop all lines but the one that was read last are answered. After `Node` nothing is written of the answer to
-/// that line, or of what a node writes that doesn't start.
+/// that line, or of what a node writes that doesn't start. The notes come back then.
 fn run_node<K: Keeper, N: Notes, I: Read, W: Write>(
     alloc: Global,
     prepared: PreparedNode,
@@ -33,21 +62,22 @@ fn run_node<K: Keeper, N: Notes, I: Read, W: Write>(
     notes: N,
     input: &mut I,
     writer: &mut W,
-) -> Result<Node<K, N>, LiveStop>
+) -> Result<Node<K, N>, (N, LiveStop)>
     requires { prepared.resource < length prepared.plant.value.resources }
-    ensures ok { IfOk result (λ node. RunsNode K.raise_gives prepared.plant.value prepared.resource node.state
+    ensures ok { IfOk result (λ node. RunsNode K.last K.raise_gives K.kept_gives keeper prepared.plant.value prepared.resource node.state
         (I.remaining input.old) (I.remaining input.new) (N.noted notes) (N.noted node.notes)
         (W.contents writer.old) (W.contents writer.new)) }
     ensures kept { IfOk result (λ node. K.last node.keeper ≡ node.state.core.incarnation) }
-    ensures stopped { IfErr result (StopsRunning K.raise_gives prepared.plant.value prepared.resource
-        (I.remaining input.old) (I.remaining input.new) (N.noted notes)
-        (W.contents writer.old) (W.contents writer.new)) }
+    ensures stopped { IfErr result (λ e. StopsRunning K.last K.raise_gives K.kept_gives keeper prepared.plant.value prepared.resource
+        (I.remaining input.old) (I.remaining input.new) (N.noted notes) (N.noted e.0)
+        (W.contents writer.old) (W.contents writer.new) e.1) }
 {
     let PreparedNode { plant, resource } = prepared;
     let mut begun = String::new(alloc);
-    let mut node = Node::begin(alloc, plant, resource, keeper, notes, &mut begun)?;
-    live(alloc, &mut node, begun.as_str(), input, writer)?;
-    Ok(node)
+    match Node::begin(alloc, plant, resource, keeper, notes, &mut begun) {
+        Ok(node) => run_begun(alloc, node, begun.as_str(), input, writer),
+        Err((notes, stop)) => Err((notes, LiveStop::Node(stop))),
+    }
 }
 
 /// Runs a node on standard input and output.
@@ -65,7 +95,7 @@ fn run_with<R: Input + Print + AllocGlobal, K: Keeper, N: Notes>(
     let mut writer = io::writer(rt);
     match run_node(rt.alloc(), prepared, keeper, notes, &mut input, &mut writer) {
         Ok(_node) => Ok(()),
-        Err(stop) => Err(NodeFault::Stop(stop)),
+        Err((_notes, stop)) => Err(NodeFault::Stop(stop)),
     }
 }
 

@@ -1,15 +1,24 @@
 -- A node takes a line and answers it.
-use Rattle.std.specs.Prelude.{◌≡◌, ℕ, ◌<◌, ◌++◌, ◌⊎◌, Bool, true, false, List, [], Option, codes}
+use Rattle.std.specs.Prelude.{◌≡◌, ◌≢◌, ℕ, ◌<◌, ◌++◌, ◌⊎◌, Bool, true, false, List, [], Option, Some, Err, codes}
 use Rattle.std.specs.Io.KnownBytes.{Appends, Consumes, IsAtEnd, Keeps}
+use Rattle.task_codes.specs.CodeValue.{CodeValue}
+use Rattle.task_codes.specs.declared.task_ref.TaskRef.{TaskRef}
+use Rattle.plant.specs.PlantValue.{PlantValue, code_at}
+use Rattle.exchange_core.specs.MessageCoreValue.{MessageCoreValue}
+use Rattle.keepers.specs.Keepers.{Telling}
+use Rattle.keepers.specs.declared.keeper_fault.KeeperFault.{KeeperFault}
+use Rattle.keepers.specs.declared.keeper_fault.KeeperFault.TheVariants as keeping
 use Rattle.text_lines.specs.Sending.{SendsPart}
 use Rattle.text_lines.specs.declared.read_fault.ReadFault.{ReadFault}
 use Rattle.text_lines.specs.declared.read_fault.ReadFault.TheVariants as reading
 use Rattle.live_node.specs.declared.node_line.NodeLine.{NodeLine}
 use Rattle.live_node.specs.Sends.{greetings}
 use Rattle.live_node.specs.Answers.{risen_line}
-use Rattle.live_node.specs.NodeJournal.{restart_note}
+use Rattle.live_node.specs.NodeJournal.{line_note, restart_note}
 use Rattle.live_node.specs.NodeValue.{NodeValue}
 use Rattle.live_node.specs.NodeSteps.{HasRisen}
+use Rattle.live_node.specs.declared.node_stop.NodeStop.{NodeStop}
+use Rattle.live_node.specs.declared.node_stop.NodeStop.TheVariants as ends
 use Rattle.live_node.specs.declared.live_stop.LiveStop.{LiveStop}
 use Rattle.live_node.specs.declared.live_stop.LiveStop.TheVariants.{Read, Write, Memory}
 use Rattle.live_node.specs.NodeAnswers.{Raising, AnswersAsked}
@@ -68,6 +77,34 @@ HasAnsweredNext raising old new given left noted_old noted_new from to false =
 abbrev pub stop_of : ReadFault → LiveStop
 stop_of reading.Read = Read
 stop_of reading.Memory = Memory
+
+-- why a node stops whose keeper has a fault
+abbrev pub stop_for : KeeperFault → NodeStop
+stop_for keeping.Unreadable = ends.Keeper keeping.Unreadable
+stop_for keeping.Unwritable = ends.Keeper keeping.Unwritable
+stop_for keeping.Spent = ends.Keeper keeping.Spent
+stop_for keeping.Memory = ends.Memory
+
+-- a node didn't stop for its keeper
+abbrev pub IsNotKeepers : NodeStop → Type 0
+IsNotKeepers (ends.Keeper fault) = ⊥
+IsNotKeepers ends.Note = Unit {0}
+IsNotKeepers ends.Memory = Unit {0}
+
+-- what was noted of an evaluation that isn't answered
+abbrev pub NotesUnevaluated : MessageCoreValue → TaskRef → List ℕ → NodeStop → Option (List ℕ) → Option (List ℕ) → Type 0
+NotesUnevaluated core t line (ends.Keeper fault) noted_old noted_new =
+    (fault ≡ keeping.Unwritable) × (t.resource ≡ core.resource) × Appends noted_old noted_new (line_note line)
+NotesUnevaluated core t line ends.Note noted_old noted_new = SendsPart (line_note line) noted_old noted_new
+NotesUnevaluated core t line ends.Memory noted_old noted_new = SendsPart (line_note line) noted_old noted_new
+
+-- why a keeper tells nothing of the tasks of a resource, as a node stops then
+abbrev pub TellsNothing : Telling → PlantValue → ℕ → NodeStop → Type 0
+TellsNothing tells plant n (ends.Keeper fault) =
+    (fault ≢ keeping.Memory)
+    × ((task : ℕ) × (code : CodeValue) × (code_at plant (record { resource = n; task = task }) ≡ Some code) × tells task code (Err fault))
+TellsNothing tells plant n ends.Note = ⊥
+TellsNothing tells plant n ends.Memory = Unit {0}
 
 -- no more than a beginning of the note of a restart was noted
 abbrev pub NotesRestartPart : NodeValue → Option (List ℕ) → Option (List ℕ) → Type 0

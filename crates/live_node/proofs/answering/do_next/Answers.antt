@@ -2,19 +2,21 @@
 use Rattle.std.proofs.Common.{◌++◌, sym, ap, ◌∙◌, subst}
 use Rattle.std.specs.Prelude.{string_bytes}
 use Rattle.lists.proofs.Results.{kept_fault}
+use Rattle.std.specs.Io.KnownBytes.{Appends}
 use Rattle.text_lines.specs.Sending.{SendsPart}
 use Rattle.live_node.specs.declared.line_refusal.LineRefusal.TheVariants as refusal
 use Rattle.live_node.specs.Answers.{refused_line}
 use Rattle.live_node.specs.declared.live_stop.LiveStop.TheVariants.{Node}
-use Rattle.live_node.specs.NodeAnswers.{IsAnswered}
-use Rattle.live_node.specs.Stops.{NotesPart, StopsWithin}
+use Rattle.live_node.specs.NodeAnswers.{a_keeper_gives, IsAnswered}
+use Rattle.live_node.specs.Stops.{NotesUnanswered, StopsWithin}
 use Rattle.live_node.specs.Steps.LineTaking.{Takes}
+use Rattle.live_node.proofs.NextAnswered.{answered_by_one, next_answered}
 use Rattle.live_node.proofs.Stopping.{stops_unanswered, stops_unwritten, stops_too_long}
 use Rattle.live_node.proofs.answering.do_next.Goals as goal
 
 pub returns-in_err-answer-in-Line-clause-stopped : goal.returns-in_err-answer-in-Line-clause-stopped
 returns-in_err-answer-in-Line-clause-stopped g c =
-    let raising = g.K.Keeper.raise_gives in
+    let raising = a_keeper_gives g.K.Keeper.last g.K.Keeper.raise_gives in
     let s = c.args.node.now.state in
     let given = g.L.LineSource.left c.args.source.now in
     let left = g.L.LineSource.left c.take_line.new.source in
@@ -24,13 +26,33 @@ returns-in_err-answer-in-Line-clause-stopped g c =
     let from = g.W.Write.contents c.args.out.now in
     let why = c.in_err-answer-in-Line.field-0.0 in
     let taken = subst (Takes given left line) c.in-Line.is c.in_ok-take_line.ensures.ok in
-    let part = subst (λ l. NotesPart s l noted_old noted_new) c.as_slice.ensures.value c.in_err-answer-in-Line.ensures.stopped in
+    let part = subst (λ l. NotesUnanswered s l why noted_old noted_new) c.as_slice.ensures.value c.in_err-answer-in-Line.ensures.stopped in
     kept_fault (Node why) (StopsWithin raising s given left noted_old noted_new from from) c.from_residual-in_err-answer-in-Line.result c.from_residual-in_err-answer-in-Line.ensures.1
     (stops_unanswered raising s given left noted_old noted_new from line c.in-Line.fed why taken part)
 
+pub returns-in_ok-hand_on-in-Line-clause-answered : goal.returns-in_ok-hand_on-in-Line-clause-answered
+returns-in_ok-hand_on-in-Line-clause-answered g c =
+    let raising = a_keeper_gives g.K.Keeper.last g.K.Keeper.raise_gives in
+    let s = c.args.node.now.state in
+    let last = c.answer.new.self.state in
+    let given = g.L.LineSource.left c.args.source.now in
+    let left = g.L.LineSource.left c.take_line.new.source in
+    let line = c.take_line.new.line.items in
+    let noted_old = g.N.Notes.noted c.args.node.now.notes in
+    let noted_new = g.N.Notes.noted c.answer.new.self.notes in
+    let from = g.W.Write.contents c.args.out.now in
+    let to = g.W.Write.contents c.hand_on.new.out in
+    let text = string_bytes c.answer.new.out in
+    let taken = subst (Takes given left line) c.in-Line.is c.in_ok-take_line.ensures.ok in
+    let of_keeper = answered_by_one g.K.Keeper.last g.K.Keeper.raise_gives c.args.node.now.keeper s last c.as_slice.result.now noted_old noted_new (string_bytes c.clear.new.self) text c.requires.kept c.in_ok-answer-in-Line.ensures.answered in
+    let of_line = subst (λ l. IsAnswered raising s last l noted_old noted_new (string_bytes c.clear.new.self) text) c.as_slice.ensures.value of_keeper in
+    let answered = subst (λ o. IsAnswered raising s last line noted_old noted_new o text) c.clear.ensures.bytes of_line in
+    let sent = subst (Appends from to) c.as_str.ensures.value c.in_ok-hand_on-in-Line.ensures.whole in
+    next_answered raising s last given left noted_old noted_new from to line text c.in-Line.fed taken answered sent
+
 pub returns-in_err-hand_on-in-Line-clause-stopped : goal.returns-in_err-hand_on-in-Line-clause-stopped
 returns-in_err-hand_on-in-Line-clause-stopped g c =
-    let raising = g.K.Keeper.raise_gives in
+    let raising = a_keeper_gives g.K.Keeper.last g.K.Keeper.raise_gives in
     let s = c.args.node.now.state in
     let last = c.answer.new.self.state in
     let given = g.L.LineSource.left c.args.source.now in
@@ -43,7 +65,8 @@ returns-in_err-hand_on-in-Line-clause-stopped g c =
     let text = string_bytes c.answer.new.out in
     let stop = c.in_err-hand_on-in-Line.field-0.0 in
     let taken = subst (Takes given left line) c.in-Line.is c.in_ok-take_line.ensures.ok in
-    let of_line = subst (λ l. IsAnswered raising s last l noted_old noted_new (string_bytes c.clear.new.self) text) c.as_slice.ensures.value c.in_ok-answer-in-Line.ensures.answered in
+    let of_keeper = answered_by_one g.K.Keeper.last g.K.Keeper.raise_gives c.args.node.now.keeper s last c.as_slice.result.now noted_old noted_new (string_bytes c.clear.new.self) text c.requires.kept c.in_ok-answer-in-Line.ensures.answered in
+    let of_line = subst (λ l. IsAnswered raising s last l noted_old noted_new (string_bytes c.clear.new.self) text) c.as_slice.ensures.value of_keeper in
     let answered = subst (λ o. IsAnswered raising s last line noted_old noted_new o text) c.clear.ensures.bytes of_line in
     let unwritten = c.in_err-hand_on-in-Line.ensures.part in
     let sent = subst (λ t. SendsPart t from to) c.as_str.ensures.value unwritten.1 in
@@ -52,7 +75,7 @@ returns-in_err-hand_on-in-Line-clause-stopped g c =
 
 pub returns-in_err-hand_on-in-TooLong-clause-stopped : goal.returns-in_err-hand_on-in-TooLong-clause-stopped
 returns-in_err-hand_on-in-TooLong-clause-stopped g c =
-    let raising = g.K.Keeper.raise_gives in
+    let raising = a_keeper_gives g.K.Keeper.last g.K.Keeper.raise_gives in
     let s = c.args.node.now.state in
     let given = g.L.LineSource.left c.args.source.now in
     let left = g.L.LineSource.left c.take_line.new.source in

@@ -1,5 +1,6 @@
 use Rattle.std.proofs.Common.{[], ◌∷◌, ◌++◌, subst, arith}
 use Rattle.lists.proofs.Results.{kept_fault}
+use Rattle.live_node.specs.NodeAnswers.{a_keeper_gives}
 use Rattle.live_node.specs.declared.live_stop.LiveStop.TheVariants.{Read}
 use Rattle.live_node.specs.Stops.{StopsNode}
 use Rattle.live_node.specs.Steps.Answering.{HasAnsweredNext}
@@ -10,14 +11,14 @@ use Rattle.live_node.proofs.answering.live.Goals as goal
 pub loop-init : goal.loop-init
 loop-init g c =
     let first = c.args.node.now.state in
-    let stands = stands_first g.K.Keeper.raise_gives first c.args.begun.now (g.L.LineSource.left c.args.source.now) (g.N.Notes.noted c.args.node.now.notes) (g.W.Write.contents c.args.out.now) (g.W.Write.contents c.hand_on.new.out) c.in_ok-hand_on.ensures.whole in
+    let stands = stands_first (a_keeper_gives g.K.Keeper.last g.K.Keeper.raise_gives) first c.args.begun.now (g.L.LineSource.left c.args.source.now) (g.N.Notes.noted c.args.node.now.notes) (g.W.Write.contents c.args.out.now) (g.W.Write.contents c.hand_on.new.out) c.in_ok-hand_on.ensures.whole in
     ([], stands, c.requires.kept, omega (arith, c.requires.fresh))
 
 pub do_next-requires-clause-ready : goal.do_next-requires-clause-ready
 do_next-requires-clause-ready g c κs within = λ left b.
     let so_far = c.loop.invariant in
     c.requires.turns left (g.W.Write.contents c.loop.out)
-    (stands_within g.K.Keeper.raise_gives c.args.node.now.state c.loop.node.state c.args.begun.now so_far.0 (g.L.LineSource.left c.args.source.now) (g.L.LineSource.left c.loop.source) left (g.N.Notes.noted c.args.node.now.notes) (g.N.Notes.noted c.loop.node.notes) (g.W.Write.contents c.args.out.now) (g.W.Write.contents c.loop.out) so_far.1 b)
+    (stands_within (a_keeper_gives g.K.Keeper.last g.K.Keeper.raise_gives) c.args.node.now.state c.loop.node.state c.args.begun.now so_far.0 (g.L.LineSource.left c.args.source.now) (g.L.LineSource.left c.loop.source) left (g.N.Notes.noted c.args.node.now.notes) (g.N.Notes.noted c.loop.node.notes) (g.W.Write.contents c.args.out.now) (g.W.Write.contents c.loop.out) so_far.1 b)
 
 pub returns-then-not-branch-clause-ok : goal.returns-then-not-branch-clause-ok
 returns-then-not-branch-clause-ok g c =
@@ -34,8 +35,8 @@ returns-then-not-branch-clause-ok g c =
     let written = g.W.Write.contents c.loop.out in
     let to = g.W.Write.contents c.do_next.new.out in
     let so_far = c.loop.invariant in
-    let next = subst (HasAnsweredNext g.K.Keeper.raise_gives mid last now left noted_mid noted_new written to) c.if-not-branch.true c.in_ok-do_next.ensures.answered in
-    stands_ended g.K.Keeper.raise_gives first mid last c.args.begun.now so_far.0 given now left noted_old noted_mid noted_new from written to so_far.1 next
+    let next = subst (HasAnsweredNext (a_keeper_gives g.K.Keeper.last g.K.Keeper.raise_gives) mid last now left noted_mid noted_new written to) c.if-not-branch.true c.in_ok-do_next.ensures.answered in
+    stands_ended (a_keeper_gives g.K.Keeper.last g.K.Keeper.raise_gives) first mid last c.args.begun.now so_far.0 given now left noted_old noted_mid noted_new from written to so_far.1 next
 
 pub loop-preserved : goal.loop-preserved
 loop-preserved g c =
@@ -52,16 +53,16 @@ loop-preserved g c =
     let written = g.W.Write.contents c.loop.out in
     let to = g.W.Write.contents c.do_next.new.out in
     let so_far = c.loop.invariant in
-    let next = subst (HasAnsweredNext g.K.Keeper.raise_gives mid last now left noted_mid noted_new written to) c.if-not-branch.false c.in_ok-do_next.ensures.answered in (
+    let next = subst (HasAnsweredNext (a_keeper_gives g.K.Keeper.last g.K.Keeper.raise_gives) mid last now left noted_mid noted_new written to) c.if-not-branch.false c.in_ok-do_next.ensures.answered in (
       so_far.0 ++ next.line ∷ [],
-      stands_next g.K.Keeper.raise_gives first mid last c.args.begun.now so_far.0 given now left noted_old noted_mid noted_new from written to so_far.1 next,
+      stands_next (a_keeper_gives g.K.Keeper.last g.K.Keeper.raise_gives) first mid last c.args.begun.now so_far.0 given now left noted_old noted_mid noted_new from written to so_far.1 next,
       c.in_ok-do_next.ensures.kept,
       omega (arith, so_far.3, c.in_ok-do_next.ensures.few),
     )
 
 pub returns-in_err-do_next-clause-stopped : goal.returns-in_err-do_next-clause-stopped
 returns-in_err-do_next-clause-stopped g c =
-    let raising = g.K.Keeper.raise_gives in
+    let raising = a_keeper_gives g.K.Keeper.last g.K.Keeper.raise_gives in
     let first = c.args.node.now.state in
     let mid = c.loop.node.state in
     let given = g.L.LineSource.left c.args.source.now in
@@ -80,7 +81,7 @@ returns-in_err-do_next-clause-stopped g c =
 
 pub returns-clause-stopped : goal.returns-clause-stopped
 returns-clause-stopped g c =
-    let raising = g.K.Keeper.raise_gives in
+    let raising = a_keeper_gives g.K.Keeper.last g.K.Keeper.raise_gives in
     let first = c.args.node.now.state in
     let mid = c.loop.node.state in
     let given = g.L.LineSource.left c.args.source.now in

@@ -2,64 +2,73 @@
 use Rattle.std.proofs.Common.{inl, inr, refl, subst}
 use Rattle.std.specs.Prelude.{string_bytes}
 use Rattle.std.proofs.KnownBytes.{Consumes-nil, Keeps-refl}
-use Rattle.lists.proofs.Results.{kept_fault}
-use Rattle.live_node.specs.declared.live_stop.LiveStop.TheVariants.{Node}
+use Rattle.std.proofs.lemmas.Result.{IfOk-weaker, IfErr-weaker}
 use Rattle.live_node.specs.LiveNode.{WritesNode}
-use Rattle.live_node.specs.NodeAnswers.{HasBegun}
+use Rattle.live_node.specs.NodeAnswers.{a_keeper_gives, HasBegun}
 use Rattle.live_node.specs.Stops.{StopsNode}
-use Rattle.plc_main.specs.NodeCommand.{StopsRunning}
+use Rattle.plc_main.specs.NodeCommand.{RunsNode, StopsRunning}
 use Rattle.plc_main.proofs.node_command.run_node.Goals as goal
 
-pub returns-clause-ok : goal.returns-clause-ok
-returns-clause-ok g c =
-    let raising = g.K.Keeper.raise_gives in
+pub returns-in-Ok-clause-ok : goal.returns-in-Ok-clause-ok
+returns-in-Ok-clause-ok g c =
+    let raising = a_keeper_gives g.K.Keeper.last g.K.Keeper.raise_gives in
+    let raises = g.K.Keeper.raise_gives c.args.keeper in
+    let tells = g.K.Keeper.kept_gives c.args.keeper in
     let plant = c.args.prepared.plant.value in
-    let first = c.in_ok-node.node.state in
-    let last = c.live.new.node.state in
+    let resource = c.args.prepared.resource in
+    let first = c.in-Ok.node.state in
     let given = g.I.Read.remaining c.args.input.now in
-    let left = g.I.Read.remaining c.live.new.source in
+    let left = g.I.Read.remaining c.run_begun.new.input in
     let noted_old = g.N.Notes.noted c.args.notes in
-    let noted = g.N.Notes.noted c.in_ok-node.node.notes in
-    let noted_new = g.N.Notes.noted c.live.new.node.notes in
+    let noted = g.N.Notes.noted c.in-Ok.node.notes in
     let from = g.W.Write.contents c.args.writer.now in
-    let to = g.W.Write.contents c.live.new.out in
+    let to = g.W.Write.contents c.run_begun.new.writer in
     let begun = string_bytes c.begin.new.out in
-    record {
+    IfOk-weaker c.run_begun.result
+    (λ last. WritesNode raising first last.state c.as_str.result.now given left noted (g.N.Notes.noted last.notes) from to)
+    (λ last. RunsNode g.K.Keeper.last g.K.Keeper.raise_gives g.K.Keeper.kept_gives c.args.keeper plant resource last.state given left noted_old (g.N.Notes.noted last.notes) from to)
+    (λ last h. record {
       first = first;
       begun = begun;
       noted = noted;
-      begins = subst (λ o. HasBegun plant c.args.prepared.resource first noted_old noted o begun) c.new-begun.ensures.bytes c.in_ok-node.ensures.begun;
-      writes = subst (λ b. WritesNode raising first last b given left noted noted_new from to) c.as_str.ensures.value c.in_ok-live.ensures.ok;
-    }
+      begins = subst (λ o. HasBegun raises tells plant resource first noted_old noted o begun) c.new-begun.ensures.bytes c.in-Ok.ensures.begun;
+      writes = subst (λ b. WritesNode raising first last.state b given left noted (g.N.Notes.noted last.notes) from to) c.as_str.ensures.value h;
+    })
+    c.run_begun.ensures.ok
 
-pub returns-in_err-node-clause-stopped : goal.returns-in_err-node-clause-stopped
-returns-in_err-node-clause-stopped g c =
-    let given = g.I.Read.remaining c.args.input.now in
-    let from = g.W.Write.contents c.args.writer.now in
-    let why = c.in_err-node.field-0.0 in
-    kept_fault (Node why) (StopsRunning g.K.Keeper.raise_gives c.args.prepared.plant.value c.args.prepared.resource given given (g.N.Notes.noted c.args.notes) from from) c.from_residual.result c.from_residual.ensures.1
-    (inl (record { why = why; cause = refl; unread = Consumes-nil given; unwritten = Keeps-refl from }))
-
-pub returns-in_err-live-clause-stopped : goal.returns-in_err-live-clause-stopped
-returns-in_err-live-clause-stopped g c =
-    let raising = g.K.Keeper.raise_gives in
+pub returns-in-Ok-clause-stopped : goal.returns-in-Ok-clause-stopped
+returns-in-Ok-clause-stopped g c =
+    let raising = a_keeper_gives g.K.Keeper.last g.K.Keeper.raise_gives in
+    let raises = g.K.Keeper.raise_gives c.args.keeper in
+    let tells = g.K.Keeper.kept_gives c.args.keeper in
     let plant = c.args.prepared.plant.value in
-    let first = c.in_ok-node.node.state in
+    let resource = c.args.prepared.resource in
+    let first = c.in-Ok.node.state in
     let given = g.I.Read.remaining c.args.input.now in
-    let left = g.I.Read.remaining c.live.new.source in
+    let left = g.I.Read.remaining c.run_begun.new.input in
     let noted_old = g.N.Notes.noted c.args.notes in
-    let noted = g.N.Notes.noted c.in_ok-node.node.notes in
-    let noted_new = g.N.Notes.noted c.live.new.node.notes in
+    let noted = g.N.Notes.noted c.in-Ok.node.notes in
     let from = g.W.Write.contents c.args.writer.now in
-    let to = g.W.Write.contents c.live.new.out in
+    let to = g.W.Write.contents c.run_begun.new.writer in
     let begun = string_bytes c.begin.new.out in
-    let stop = c.in_err-live.field-0.0 in
-    kept_fault stop (StopsRunning raising plant c.args.prepared.resource given left noted_old from to) c.from_residual-in_err-live.result c.from_residual-in_err-live.ensures.1
-    (inr (record {
+    IfErr-weaker c.run_begun.result
+    (λ e. StopsNode raising first c.as_str.result.now given left noted (g.N.Notes.noted e.0) from to e.1)
+    (λ e. StopsRunning g.K.Keeper.last g.K.Keeper.raise_gives g.K.Keeper.kept_gives c.args.keeper plant resource given left noted_old (g.N.Notes.noted e.0) from to e.1)
+    (λ e h. inr (record {
       first = first;
       begun = begun;
       noted = noted;
-      begins = subst (λ o. HasBegun plant c.args.prepared.resource first noted_old noted o begun) c.new-begun.ensures.bytes c.in_ok-node.ensures.begun;
-      noted_new = noted_new;
-      stops = subst (λ b. StopsNode raising first b given left noted noted_new from to stop) c.as_str.ensures.value c.in_err-live.ensures.stopped;
+      begins = subst (λ o. HasBegun raises tells plant resource first noted_old noted o begun) c.new-begun.ensures.bytes c.in-Ok.ensures.begun;
+      stops = subst (λ b. StopsNode raising first b given left noted (g.N.Notes.noted e.0) from to e.1) c.as_str.ensures.value h;
     }))
+    c.run_begun.ensures.stopped
+
+pub returns-in-Err-clause-stopped : goal.returns-in-Err-clause-stopped
+returns-in-Err-clause-stopped g c =
+    inl (record {
+      why = c.in-Err.stop;
+      cause = refl;
+      unread = Consumes-nil (g.I.Read.remaining c.args.input.now);
+      unwritten = Keeps-refl (g.W.Write.contents c.args.writer.now);
+      stops = c.in-Err.ensures.stopped;
+    })
