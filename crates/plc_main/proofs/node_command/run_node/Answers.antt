@@ -63,8 +63,8 @@ returns-in-Ok-clause-stopped g c =
     }))
     c.run_begun.ensures.stopped
 
-pub returns-in-Err-clause-stopped : goal.returns-in-Err-clause-stopped
-returns-in-Err-clause-stopped g c =
+pub returns-clause-stopped : goal.returns-clause-stopped
+returns-clause-stopped g c =
     inl (record {
       why = c.in-Err.stop;
       cause = refl;
