@@ -3,12 +3,11 @@ use Rattle.std.proofs.Common.{◌≡◌, ◌⊎◌, ℕ, ◌++◌, List, [], Opt
 use Rattle.std.proofs.lemmas.List.{append_cancel_right}
 use Rattle.task_codes.specs.declared.task_ref.TaskRef.{TaskRef}
 use Rattle.evaluation.specs.InputTexts.{words_of}
-use Rattle.text_lines.specs.MessageLines.{message_line}
 use Rattle.world.specs.declared.event.Event.TheVariants as event
 use Rattle.world.specs.ScheduleText.{SpellsEvent}
 use Rattle.live_node.specs.declared.node_line.NodeLine.{NodeLine}
 use Rattle.live_node.specs.declared.node_line.NodeLine.TheVariants as asked
-use Rattle.live_node.specs.NodeAnswers.{Raising, Answers, AnswersAsked, IsAsking}
+use Rattle.live_node.specs.NodeAnswers.{Raising, AnswersAsked, IsAsking}
 use Rattle.live_node.specs.NodeJournal.{note_end, line_note, restart_note}
 use Rattle.live_node.specs.NodeLines.{node_text, SpellsHello}
 use Rattle.live_node.specs.NodeValue.{NodeValue}

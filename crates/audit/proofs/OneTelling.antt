@@ -1,14 +1,13 @@
 -- A node and an audit do the same at each line.
-use Rattle.std.proofs.Common.{◌≡◌, ◌≢◌, ◌⊎◌, ℕ, zero, suc, ◌+◌, ◌<◌, ◌==◌, ◌&&◌, nat_lt, not, cond, Bool, true, false, inl, inr, List, [], ◌∷◌, ◌++◌, map, replicate, reverse, filter, length, get_or, Option, Some, None, refl, sym, ap, ◌∙◌, subst, arith, add-one}
-use Rattle.std.specs.Prelude.{slice_get, slice_set, slice_index}
+use Rattle.std.proofs.Common.{◌≡◌, ◌≢◌, ◌⊎◌, ℕ, zero, suc, ◌+◌, ◌<◌, ◌==◌, ◌&&◌, nat_lt, not, cond, Bool, true, false, inl, inr, List, [], ◌∷◌, ◌++◌, map, reverse, filter, length, get_or, Option, Some, None, refl, sym, ap, ◌∙◌, subst, arith, add-one}
+use Rattle.std.specs.Prelude.{slice_set, slice_index}
 use Rattle.std.specs.Option.{option_map, option_and_then}
 use Rattle.std.specs.List.{zip}
-use Rattle.std.proofs.Math.ListN.{get_or-map}
 use Rattle.std.proofs.lemmas.List.{reverse-append}
-use Rattle.std.proofs.lemmas.Bool.{eq-eqb, eqb-true, and_parts}
+use Rattle.std.proofs.lemmas.Bool.{eq-eqb}
 use Rattle.std.proofs.lemmas.Option.{same_Some, get_or_from_slice_get, slice_get-get_or, slice_get_within}
 use Rattle.lists.proofs.Places.{same_by_each}
-use Rattle.lists.proofs.Tables.{cell_same, cell_other, cell_filled, cell_place, row_lengths_kept, row_lengths_filled}
+use Rattle.lists.proofs.Tables.{both_same, cell_same, cell_other, cell_map, cell_filled, cell_place, row_lengths_kept, row_lengths_filled}
 use Rattle.lists.specs.Items.{items_or_none}
 use Rattle.std_blocks.specs.declared.value.Value.{Value}
 use Rattle.declared_names.specs.declared.declarations.Kind.{Kind}
@@ -18,13 +17,11 @@ use Rattle.task_codes.specs.CodeValue.{CodeValue}
 use Rattle.plant.specs.PlantValue.{ResourceValue, PlantValue, IsSoundPlant, code_at}
 use Rattle.evaluation.specs.declared.field_input.FieldInput.{FieldInput}
 use Rattle.evaluation.specs.declared.name.Name.{Name}
-use Rattle.evaluation.specs.declared.take.Take.{Take}
 use Rattle.evaluation.specs.Last.{left_by, takes_of, state_from, last_number, same_task}
 use Rattle.evaluation.specs.Laws.{OneEvaluation}
 use Rattle.evaluation.specs.Heard.{addresses}
 use Rattle.evaluation.specs.Meaning.{Evaluated, IsAsked}
 use Rattle.evaluation.specs.Messages.{MessageValue, message_of, take_from, taken_of, TakenAlike}
-use Rattle.evaluation.specs.Retained.{retained_values}
 use Rattle.exchange_core.specs.declared.accepted.Accepted.{Accepted}
 use Rattle.exchange_core.specs.declared.accepted.Accepted.TheVariants.{Taken, Old, Unused, Stray}
 use Rattle.exchange_core.specs.declared.last.Last.{Last}
@@ -41,11 +38,11 @@ use Rattle.node_reports.specs.declared.step.Step.{Step}
 use Rattle.node_reports.specs.declared.step.Step.TheVariants.{Took, Made, Restarted, Heard}
 use Rattle.node_reports.specs.declared.journal.Journal.{Journal}
 use Rattle.node_reports.specs.Journals.{made, newest, last_of, opening_at, with_step}
-use Rattle.node_reports.specs.Stations.{StationValue, PendingValue, fresh_station, IsReceived, IsTold, IsPending, IsNoted, IsRestarted}
+use Rattle.node_reports.specs.Stations.{StationValue, PendingValue, fresh_station, IsReceived, IsPending, IsNoted, IsRestarted}
 use Rattle.audit.specs.declared.item.Item.{Item}
 use Rattle.audit.specs.declared.item.Item.TheVariants.{Start, Restart, Message, Hello, Evaluate, Faulty}
 use Rattle.audit.specs.declared.line.Line.{Line}
-use Rattle.audit.specs.Lines.{zeros, messages_in, left_in, AreLeft, Rises, Takes, Hears, Evaluates, Does, IsBeginning, StandsAt, item_at, ticket_at, ticket_behind, OpensWith, WasUndone}
+use Rattle.audit.specs.Lines.{zeros, messages_in, left_in, AreLeft, Rises, Takes, Hears, Does, IsBeginning, StandsAt, item_at, ticket_at, ticket_behind, OpensWith, WasUndone}
 use Rattle.audit.specs.OneTelling.{NodeComes, NodeStandsAt, AreAlike, IsUndoneAt, OneTelling}
 use Rattle.audit.proofs.Leavings.{left_made, left_other}
 
@@ -69,12 +66,6 @@ table_empty plant p = cell_filled (λ (r : ResourceValue). length r.codes) None 
 table_filled : (X : Type 0) (plant : PlantValue) → HasPlaces {X = X} plant (nothing_for plant)
 table_filled X plant = row_lengths_filled (λ (r : ResourceValue). length r.codes) None plant.resources
 
-table_map : {X Y : Type 0} (f : Option X → Option Y) (table : List (List (Option X))) (p : TaskRef) → f None ≡ None → at_task (map (map f) table) p ≡ f (at_task table p)
-table_map f table p none =
-    ap (λ row. get_or row p.task None) (get_or-map (map f) table p.resource [])
-    ∙ ap (λ o. get_or (map f (get_or table p.resource [])) p.task o) (sym none)
-    ∙ get_or-map f (get_or table p.resource []) p.task None
-
 abbrev ref_of : ℕ → ℕ → TaskRef
 ref_of resource task = record { resource = resource; task = task }
 
@@ -82,16 +73,11 @@ and_both : (a b : Bool) → a ≡ true → b ≡ true → (a && b) ≡ true
 and_both a b one two = ap (λ c. c && b) one ∙ two
 
 -- two places are one, or they aren't
-same_place : (p q : TaskRef) → same_task p q ≡ true → p ≡ q
-same_place p q e =
-    let parts = and_parts (p.resource == q.resource) (p.task == q.task) e in
-    ap (λ n. ref_of n p.task) (eqb-true p.resource q.resource parts.0) ∙ ap (ref_of q.resource) (eqb-true p.task q.task parts.1)
-
 two_places : (p q : TaskRef) → (p ≡ q → ⊥) → same_task p q ≡ false
 two_places p q apart = by (same_task p q) refl
   where
     by : (b : Bool) → same_task p q ≡ b → b ≡ false
-    by true e = absurd (apart (same_place p q e))
+    by true e = absurd (apart (both_same ref_of p.resource p.task q.resource q.task e))
     by false e = refl
 
 -- what a place has behind a change
@@ -101,7 +87,7 @@ cell_there f table p q x y place here there = by (same_task p q) refl
   where
     by : (b : Bool) → same_task p q ≡ b → f (at_task (with_task table p x) q) ≡ y
     by true e =
-        let same = same_place p q e in
+        let same = both_same ref_of p.resource p.task q.resource q.task e in
         ap f (ap (at_task (with_task table p x)) (sym same) ∙ table_same table p x place) ∙ here same
     by false e =
         ap f (table_other table p q x place e) ∙ there (λ same. let t : same_task p q ≡ true = and_both (p.resource == q.resource) (p.task == q.task) (eq-eqb p.resource q.resource (ap (λ (r : TaskRef). r.resource) same)) (eq-eqb p.task q.task (ap (λ (r : TaskRef). r.task) same)) in absurd (let f = sym e ∙ t in cc))
@@ -231,7 +217,7 @@ greater_alike None name = refl
 greater_alike (Some x) name = refl
 
 known_there : (core : CoreValue) (p : TaskRef) → message_known (messages_in core).table p ≡ option_map message_of (known core.table p)
-known_there core p = ap (option_map message_in) (table_map (option_map (λ x. Whole x)) core.table p refl) ∙ whole_message (known core.table p)
+known_there core p = ap (option_map message_in) (cell_map (option_map (λ x. Whole x)) core.table p.resource p.task None None refl) ∙ whole_message (known core.table p)
 
 module _ (node : messages.MessageCoreValue) (core : CoreValue) (alike : AreAlike node core) (m : MessageValue) where
   usable_there : messages.IsUsable node m → messages.IsUsable (messages_in core) m

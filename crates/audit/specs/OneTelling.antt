@@ -1,5 +1,5 @@
 -- The nodes of a resource, and an audit of what they noted, do the same at each line.
-use Rattle.std.specs.Prelude.{◌≡◌, ◌⊎◌, ℕ, zero, suc, ◌+◌, ◌++◌, Bool, List, [], Option, Some, slice_get}
+use Rattle.std.specs.Prelude.{◌≡◌, ◌⊎◌, ℕ, zero, suc, ◌+◌, ◌++◌, Bool, List, [], Some, slice_get}
 use Rattle.std.specs.Option.{option_map}
 use Rattle.task_codes.specs.declared.task_ref.TaskRef.{TaskRef}
 use Rattle.plant.specs.PlantValue.{PlantValue, IsSoundPlant}
