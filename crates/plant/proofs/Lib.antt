@@ -14,6 +14,7 @@ pub mod LinkedCodes
 pub mod LinkedPlants
 pub mod FoundTasks
 pub mod RefusedKnown
+pub mod MisplacedWords
 pub mod KnownWords
 pub mod BodyCounts
 mod DueTasks

@@ -158,18 +158,19 @@ word_of_line (w ∷ ws) (l ∷ before) line behind e =
     let found = word_of_line ws before line behind more in
     (w ∷ found.0, found.1, found.2, ap (λ us. w ∷ us) found.3, found.4, found.5)
 
--- The text begins with words up to one that is refused, which stands on this line.
-pub record BeginsUpTo (text : List ℕ) (programs : List Program) (k : GrammarFaultKind) (line : ℕ) : Type 0 where
+-- The words are cut behind one, which stands on this line, and of those up to it this holds.
+pub record CutAtLine (P : List Token → Type 0) (ws : List WordValue) (line : ℕ) : Type 0 where
   pub before : List WordValue
   pub word : WordValue
-  pub begun : BeginsWithWords text (before ++ word ∷ [])
-  pub refused : RefusesPlantWords programs k (map (λ (w : WordValue). w.token) (before ++ word ∷ []))
+  pub back : List WordValue
+  pub parts : ws ≡ (before ++ word ∷ []) ++ back
+  pub holds : P (map (λ (w : WordValue). w.token) (before ++ word ∷ []))
   pub line_is : line ≡ word.line
 
--- so it does with those up to a word refused
-pub begun_by_refused : (text : List ℕ) (programs : List Program) (ws : List WordValue) (k : GrammarFaultKind) (line : ℕ) (words : List Token) → IsBegunBy text ws → map (λ (w : WordValue). w.token) ws ≡ words
-    → BeginWith (IsLineBefore (map (λ (w : WordValue). w.line) ws) line) (RefusesPlantWords programs k) words → BeginsUpTo text programs k line
-begun_by_refused text programs ws k line words begun is b =
+-- words that begin so, up to the one on a line, are cut there
+pub cut_at_line : (P : List Token → Type 0) (ws : List WordValue) (line : ℕ) (words : List Token) → map (λ (w : WordValue). w.token) ws ≡ words
+    → BeginWith (IsLineBefore (map (λ (w : WordValue). w.line) ws) line) P words → CutAtLine P ws line
+cut_at_line P ws line words is b =
     let token_of : WordValue → Token = λ (w : WordValue). w.token in
     let found = word_of_line ws b.behind.before line b.behind.behind b.behind.parts in
     let front : List WordValue = found.0 ++ found.1 ∷ [] in
@@ -184,9 +185,32 @@ begun_by_refused text programs ws k line words begun is b =
     record {
       before = found.0;
       word = found.1;
-      begun = begun front found.2 parts (subst AreKnown (sym tokens) (plant_known programs k b.front b.holds));
-      refused = subst (RefusesPlantWords programs k) (sym tokens) b.holds;
+      back = found.2;
+      parts = parts;
+      holds = subst P (sym tokens) b.holds;
       line_is = found.4;
+    }
+
+-- The text begins with words up to one that is refused, which stands on this line.
+pub record BeginsUpTo (text : List ℕ) (programs : List Program) (k : GrammarFaultKind) (line : ℕ) : Type 0 where
+  pub before : List WordValue
+  pub word : WordValue
+  pub begun : BeginsWithWords text (before ++ word ∷ [])
+  pub refused : RefusesPlantWords programs k (map (λ (w : WordValue). w.token) (before ++ word ∷ []))
+  pub line_is : line ≡ word.line
+
+-- so it does with those up to a word refused
+pub begun_by_refused : (text : List ℕ) (programs : List Program) (ws : List WordValue) (k : GrammarFaultKind) (line : ℕ) (words : List Token) → IsBegunBy text ws → map (λ (w : WordValue). w.token) ws ≡ words
+    → BeginWith (IsLineBefore (map (λ (w : WordValue). w.line) ws) line) (RefusesPlantWords programs k) words → BeginsUpTo text programs k line
+begun_by_refused text programs ws k line words begun is b =
+    let cut = cut_at_line (RefusesPlantWords programs k) ws line words is b in
+    let front : List WordValue = cut.before ++ cut.word ∷ [] in
+    record {
+      before = cut.before;
+      word = cut.word;
+      begun = begun front cut.back cut.parts (plant_known programs k (map (λ (w : WordValue). w.token) front) cut.holds);
+      refused = cut.holds;
+      line_is = cut.line_is;
     }
 
 -- all words that are left have their lines

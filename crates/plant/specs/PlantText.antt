@@ -3,6 +3,7 @@ use Rattle.std.specs.Prelude.{◌≡◌, ◌≢◌, ◌⊎◌, ◌≤◌, ◌++�
 use Rattle.std.specs.List.{flat_map, list_all}
 use Rattle.words.specs.Lines.{without_last}
 use Rattle.plant_text.specs.declared.token.Token.{Token}
+use Rattle.plant_text.specs.declared.token.Token.TheVariants as token
 use Rattle.plant_grammar.specs.declared.grammar_fault.GrammarFaultKind.{GrammarFaultKind}
 use Rattle.plant_grammar.specs.declared.grammar.tree.Program.{Program}
 use Rattle.plant_grammar.specs.NameFaults.{RefusesBehind}
@@ -16,7 +17,8 @@ use Rattle.plant_grammar.specs.Parts.{IsSameTree}
 use Rattle.plant.specs.Ladders.{HasLadder}
 use Rattle.plant.specs.BodyFaults.{IsFirstBodyFault}
 use Rattle.plant_text.specs.Spelling.{Spells}
-use Rattle.plant_text.specs.Lines.{WordValue, body_lines, BeginsWithWords}
+use Rattle.plant_text.specs.Lines.{WordValue, body_lines, BeginsWithWords, BeginsWithWordsThen, HasNoWordBehind}
+use Rattle.plant_grammar.specs.GoesOn.{GoesOn}
 use Rattle.plant.specs.Faultless.{AreBindsFed, IsTreeFaultless}
 use Rattle.plant.specs.SourceFaults.{HasFirstSourceFault}
 use Rattle.plant.specs.PlantValue.{PlantValue}
@@ -43,6 +45,34 @@ abbrev pub IsNotOfGrammar : List ℕ → Type 0
 IsNotOfGrammar text =
     (tree : Tree) (more : List Token) → length tree.programs ≤ 64 → IsTreeWellFormed tree → list_all is_plain more ≡ true
     → Spells (without_last 13 text) (words_of tree ++ more) → (more ≢ []) × HasFaultlessWords tree
+
+-- The text, but for a carriage return at its end, begins with these words, each on its line. A plant, as the grammar has it,
+-- goes on from those before the last, and none from all of them; the line is that of the last.
+pub record IsMisplacedIn (text : List ℕ) (line : ℕ) : Type 0 where
+  pub before : List WordValue
+  pub word : WordValue
+  pub begun : BeginsWithWords (without_last 13 text) (before ++ word ∷ [])
+  pub known : word.token ≢ token.Unknown
+  pub goes_on : GoesOn (map (λ (w : WordValue). w.token) before)
+  pub misplaced : GoesOn (map (λ (w : WordValue). w.token) (before ++ word ∷ [])) → ⊥
+  pub line_is : line ≡ word.line
+
+-- The text begins with words from which a plant goes on, each on its line, and then with no word. The line is that of an
+-- unknown word.
+pub record IsUnknownIn (text : List ℕ) (line : ℕ) : Type 0 where
+  pub before : List WordValue
+  pub goes_on : GoesOn (map (λ (w : WordValue). w.token) before)
+  pub stopped : BeginsWithWordsThen (λ n rest. HasNoWordBehind before n rest line) (without_last 13 text) before
+
+-- The text spells words from which a plant goes on.
+abbrev pub EndsEarly : List ℕ → Type 0
+EndsEarly text = (words : List Token) × Spells (without_last 13 text) words × GoesOn words
+
+-- The text isn't as the grammar has it: a plant goes on from its words up to one, on this line, which can't stand there; or
+-- up to what is no word; or from all of them.
+pub record IsSyntaxIn (text : List ℕ) (fault : PlantFault) : Type 0 where
+  pub no_plant : IsNotOfGrammar text
+  pub first : IsMisplacedIn text fault.line ⊎ (IsUnknownIn text fault.line ⊎ EndsEarly text)
 
 -- Trees of at most 64 program types that a text, but for a carriage return at its end, spells say the same.
 abbrev pub OneTree : Type 0

@@ -1,7 +1,7 @@
 ghost use Rattle.std.specs.Prelude.{◌≡◌, ◌≢◌, IfOk, IfErr};
 ghost use Rattle.plant.specs.Faults.{IsPlantFault, IsOfBody, IsOfDeclaredName};
 ghost use Rattle.plant.specs.declared.plant_fault.PlantFaultKind.TheVariants.{Memory, Syntax};
-ghost use Rattle.plant.specs.PlantText.{IsPlantText, IsNoPlant, IsNotOfGrammar, IsBodyFaultIn, IsNameFaultIn};
+ghost use Rattle.plant.specs.PlantText.{IsPlantText, IsNoPlant, IsSyntaxIn, IsBodyFaultIn, IsNameFaultIn};
 
 use crate::drawn::draw_all;
 use crate::plant::Plant;
@@ -18,12 +18,12 @@ impl Plant {
     /// Reads the text of a plant. The first fault met from top to bottom is answered, with its line; a word that the grammar doesn't have there, or that is no word,
     /// is met where it stands, a program's drawing at its END_PROGRAM, and the sources of bound inputs at END_CONFIGURATION.
     ///
-    /// A text without a fault is refused only where there is no memory left. By `one_plant` it is one plant.
+    /// A text without a fault is refused only where there is no memory left. By `one_plant` it is one plant. A Syntax is on the line of the first word from which, with all before it, no plant goes on.
     #[tactic(auto, using(crate::proofs::WordFaults::memory_no_name, crate::proofs::WordFaults::memory_no_body, crate::proofs::WordFaults::memory_no_syntax))]
     pub fn read(alloc: Global, text: &str) -> Result<Plant, PlantFault>
         ensures ok { IfOk result (λ p. IsPlantText text.now p) }
         ensures refused { IfErr result (λ fault. fault.kind ≢ Memory → IsNoPlant text.now) }
-        ensures syntax { IfErr result (λ fault. fault.kind ≡ Syntax → IsNotOfGrammar text.now) }
+        ensures syntax { IfErr result (λ fault. fault.kind ≡ Syntax → IsSyntaxIn text.now fault) }
         ensures value { IfErr result IsPlantFault }
         ensures body { IfErr result (λ fault. IsOfBody fault.kind → IsBodyFaultIn text.now fault) }
         ensures name { IfErr result (λ fault. IsOfDeclaredName fault.kind → IsNameFaultIn text.now fault) }

@@ -21,7 +21,6 @@ use Rattle.plant_grammar.specs.declared.grammar.tree.Item.TheVariants as item
 use Rattle.plant_grammar.specs.declared.grammar.tree.Resource.{Resource}
 use Rattle.plant_grammar.specs.Kinds.{IsOfInputKind}
 use Rattle.lists.specs.Items.{items_or_none}
-use Rattle.plant_grammar.proofs.MissingWords.{no_task}
 use Rattle.plant_grammar.specs.Steps.SameNames.{named_both}
 use Rattle.plant_grammar.specs.Grammar.{Tree, TextValue, key_word, mark_word, bind_words, with_commas, binds_words, binds_listed, task_words, use_words, item_words, items_words, resource_words, resources_words}
 use Rattle.plant_grammar.specs.Names.{is_named, AreNamesApart}
@@ -150,6 +149,11 @@ pub task_allowed : (tree : Tree) (before : List Item) (x : Item) (start rest : L
     → ((t : TaskLine) (after : List Token) → start ≡ task_words t ++ after → IsNew (λ (t : TaskLine). t.name) (flat_map task_of before) t.name → length (flat_map task_of before) < 16 → 0 < t.interval → ⊥) → ⊥
 task_allowed tree before (item.Task t) start rest h next may refuses = refuses t rest h may.0 may.1 may.2
 task_allowed tree before (item.Use u) start rest h next may refuses = let parts = sym next.1 ∙ h ∙ use_parts_of u rest in cc
+
+-- another word than TASK begins no task
+no_task : (t : TaskLine) (start rest : List Token) → IsNotNext (key_word key.Task) start → start ≡ task_words t ++ rest → ⊥
+unfolding task_words
+no_task t start rest none h = none _ h
 
 -- a line that is an instance is refused wrongly
 pub use_allowed : (tree : Tree) (before : List Item) (tally : TallyValue) (x : Item) (start rest : List Token) → start ≡ item_words x ++ rest → IsNotNext (key_word key.Task) start → MayFollow tree before x → HasRoomFor tally (use_of x)

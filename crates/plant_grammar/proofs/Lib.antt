@@ -3,6 +3,15 @@ pub mod WordLists
 pub mod ResourceLines
 pub mod FoundTypes
 pub mod ReadLines
+pub mod ExpectedWords
+pub mod UnexpectedWords
+pub mod StuckBehind
+pub mod WalkedPrograms
+pub mod WalkedResources
+pub mod FirstWords
+pub mod Endings
+pub mod DecodedWords
+pub mod MisplacedWords
 pub mod RefusedNames
 pub mod RefusedPlaces
 pub mod AddedNames
@@ -15,5 +24,4 @@ pub mod RetainedPlaces
 pub mod LawfulPrograms
 pub mod LawfulResources
 pub mod LawfulTrees
-pub mod MissingWords
 pub mod PlacedSources

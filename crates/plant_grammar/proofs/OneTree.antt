@@ -268,7 +268,7 @@ one_settings IntervalFirst PriorityFirst i n j m r q e = absurd cc
 one_settings PriorityFirst IntervalFirst i n j m r q e = absurd cc
 one_settings PriorityFirst PriorityFirst i n j m r q e = let a : i ≡ j = cc in let b : n ≡ m = cc in let c : r ≡ q = cc in (refl, a, b, c)
 
-task_parts : (t : TaskLine) (rest : List Token) → task_words t ++ rest ≡ key_word key.Task ∷ token.Name t.name ∷ mark_word Open ∷ (settings t.order t.interval t.priority ++ mark_word Close ∷ mark_word Semicolon ∷ rest)
+pub task_parts : (t : TaskLine) (rest : List Token) → task_words t ++ rest ≡ key_word key.Task ∷ token.Name t.name ∷ mark_word Open ∷ (settings t.order t.interval t.priority ++ mark_word Close ∷ mark_word Semicolon ∷ rest)
 unfolding task_words
 task_parts t rest = ap (λ ts. key_word key.Task ∷ token.Name t.name ∷ mark_word Open ∷ ts) (append_assoc (settings t.order t.interval t.priority) (mark_word Close ∷ mark_word Semicolon ∷ []) rest)
 

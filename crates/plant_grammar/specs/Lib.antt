@@ -1,5 +1,6 @@
 pub mod Names
 pub mod Kinds
+pub mod GoesOn
 pub mod Grammar
 pub mod Lawful
 pub mod SourceLines

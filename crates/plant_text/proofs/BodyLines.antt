@@ -9,9 +9,9 @@ use Rattle.plant_text.specs.declared.token.Token.TheVariants as token
 use Rattle.plant_text.specs.declared.token.Keyword.{Keyword}
 use Rattle.plant_text.specs.declared.token.Keyword.TheVariants as key
 use Rattle.plant_text.specs.Words.{is_name_char, keyword, word_of}
-use Rattle.plant_text.specs.Spelling.{ends_comment, is_parted, first_line, is_one_line, IsSpace, IsGap, IsEndLine, BeginsNoBlock}
+use Rattle.plant_text.specs.Spelling.{ends_comment, is_parted, first_line, is_one_line, IsSpace, IsGap, IsEndLine, BeginsNoBlock, IsBlankLine}
 use Rattle.plant_text.specs.Steps.Gaps.{behind_comment, behind_star, behind_feed, behind_space, IsBehindGap}
-use Rattle.plant_text.specs.Steps.Lexing.{letters, begins_block, may_run_on, IsBlankLine, IsBehindBody}
+use Rattle.plant_text.specs.Steps.Lexing.{letters, begins_block, may_run_on, IsBehindBody}
 use Rattle.plant_text.proofs.FoundGaps.{cases_of_cond, gap_unique, IsGap-append, IsGap-one}
 use Rattle.plant_text.proofs.FirstWords.{keyword_letters, word_of-keyword, keyword-word_of, letters_end, parted_letters, letters_begin, letter_begins, take_while-yes, take_while-no, run_ends, run_parts}
 

@@ -11,7 +11,8 @@ use Rattle.plant_text.specs.declared.token.Token.{Token}
 use Rattle.plant_text.specs.declared.token.Token.TheVariants as token
 use Rattle.plant_text.specs.declared.lexer.Stage.{Stage}
 use Rattle.plant_text.specs.Spelling.{IsLineEnd, IsBody, Spells}
-use Rattle.plant_text.specs.Steps.Lexing.{stage_behind, IsText, AreInPlace}
+use Rattle.plant_text.specs.Places.{stage_behind}
+use Rattle.plant_text.specs.Steps.Lexing.{IsText, AreInPlace}
 use Rattle.plant_text.specs.declared.lexer.Stage.TheVariants as stage
 use Rattle.plant_text.proofs.FirstWords.{word_of-body}
 use Rattle.plant_text.proofs.BodyLines.{lines_text}

@@ -3,8 +3,8 @@ use Rattle.std.proofs.Common.{◌≡◌, ◌-◌, ℕ, true, List, [], ◌∷◌
 use Rattle.std.proofs.lemmas.List.{append_cancel_left}
 use Rattle.std.specs.List.{AllByRecursion}
 use Rattle.std.specs.Str.{IsUtf8}
-use Rattle.plant_text.specs.Spelling.{first_line, is_one_line, IsEndLine}
-use Rattle.plant_text.specs.Steps.Lexing.{IsBlankLine, IsBehindBody, IsBodyThen}
+use Rattle.plant_text.specs.Spelling.{first_line, is_one_line, IsEndLine, IsBlankLine, IsBodyThen}
+use Rattle.plant_text.specs.Steps.Lexing.{IsBehindBody}
 use Rattle.plant_text.proofs.BodyLines.{first_line_at, one_line_and, first_of_lines, lines_text, IsLine}
 use Rattle.plant_text.proofs.LineCounts.{passed}
 

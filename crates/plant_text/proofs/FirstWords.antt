@@ -15,11 +15,11 @@ use Rattle.plant_text.specs.declared.token.Token.{Token}
 use Rattle.plant_text.specs.declared.token.Token.TheVariants as token
 use Rattle.plant_text.specs.declared.token.Keyword.{Keyword}
 use Rattle.plant_text.specs.declared.token.Punctuation.{Punctuation}
-use Rattle.plant_text.specs.Words.{is_name_char, or_else, program_keyword, configuration_keyword, task_keyword, keyword, punctuation, name, fixed_word, value_word, word_of}
+use Rattle.plant_text.specs.Words.{is_name_char, or_else, program_keyword, configuration_keyword, task_keyword, keyword, punctuation, name, fixed_word, value_word, word_of, is_run_char}
 use Rattle.words.specs.Addresses.{address}
 use Rattle.plant_text.specs.Spelling.{is_parted}
 use Rattle.plant_text.specs.Steps.Gaps.{behind_space}
-use Rattle.plant_text.specs.Steps.Lexing.{is_run_char, letters}
+use Rattle.plant_text.specs.Steps.Lexing.{letters}
 use Rattle.plant_text.proofs.FoundGaps.{cases_of_cond}
 
 -- all are letters, digits and underscores

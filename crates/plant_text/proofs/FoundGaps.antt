@@ -132,7 +132,8 @@ IsBehindGap-here t h = ([], refl, ([], tt, refl), h)
 abbrev joined : List (List ℕ) → List ℕ
 joined pieces = flat_map (λ piece. piece) pieces
 
-no_piece : (p more x : List ℕ) → IsSpace p → behind_space x ≡ None → x ≡ p ++ more → ⊥
+-- where nothing is found, no piece of a gap stands
+pub no_piece : (p more x : List ℕ) → IsSpace p → behind_space x ≡ None → x ≡ p ++ more → ⊥
 no_piece p more x space none e =
     let some : behind_space (p ++ more) ≡ Some more = behind_space-is p more space in
     let same : behind_space x ≡ behind_space (p ++ more) = ap behind_space e in

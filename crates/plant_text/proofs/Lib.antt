@@ -4,6 +4,7 @@ pub mod FirstWords
 pub mod BodyLines
 pub mod SpelledWords
 pub mod LineCounts
+pub mod UnknownWords
 pub mod BodyUnique
 pub mod WordShapes
 pub mod WholeWords

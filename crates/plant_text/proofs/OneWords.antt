@@ -6,10 +6,11 @@ use Rattle.plant_text.specs.declared.token.Token.TheVariants as token
 use Rattle.plant_text.specs.declared.token.Keyword.TheVariants as key
 use Rattle.plant_text.specs.declared.lexer.Stage.{Stage}
 use Rattle.plant_text.specs.declared.lexer.Stage.TheVariants as stage
-use Rattle.plant_text.specs.Words.{word_of}
+use Rattle.plant_text.specs.Words.{word_of, front_len}
 use Rattle.plant_text.specs.Spelling.{Spells}
 use Rattle.plant_text.specs.Steps.Gaps.{behind_space, IsBehindGap}
-use Rattle.plant_text.specs.Steps.Lexing.{front_len, may_follow, stage_behind, is_due, is_section, AreInPlace, AreWordsInPlace}
+use Rattle.plant_text.specs.Places.{stage_behind, is_due}
+use Rattle.plant_text.specs.Steps.Lexing.{may_follow, is_section, AreInPlace, AreWordsInPlace}
 use Rattle.plant_text.proofs.FoundGaps.{shorter_behind_space, IsBehindGap-more, IsBehindGap-here}
 use Rattle.plant_text.proofs.BodyUnique.{one_rest, one_body}
 use Rattle.plant_text.proofs.WholeWords.{IsWordNext, IsBodyNext, next_of, spelled_follows, whole_cut, whole_behind, no_whole_here}

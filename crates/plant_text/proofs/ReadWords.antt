@@ -8,11 +8,12 @@ use Rattle.plant_text.specs.declared.token.Token.TheVariants as token
 use Rattle.plant_text.specs.declared.token.Keyword.TheVariants as key
 use Rattle.plant_text.specs.declared.lexer.Stage.{Stage}
 use Rattle.plant_text.specs.declared.lexer.Stage.TheVariants as stage
-use Rattle.plant_text.specs.Words.{is_name_char, word_of}
+use Rattle.plant_text.specs.Words.{is_name_char, word_of, front_len}
 use Rattle.plant_text.specs.Lines.{WordValue}
-use Rattle.plant_text.specs.Spelling.{first_line, IsGap, IsLineEnd, IsEndLine, BeginsNoBlock, Spells}
+use Rattle.plant_text.specs.Spelling.{first_line, IsGap, IsLineEnd, IsEndLine, BeginsNoBlock, Spells, IsBlankLine, IsBodyThen}
 use Rattle.plant_text.specs.Steps.Gaps.{IsBehindGap}
-use Rattle.plant_text.specs.Steps.Lexing.{front_len, may_follow, stage_behind, is_due, is_section, IsBlankLine, IsBehindBody, IsBodyThen, LexerValue, IsWhole, AreInPlace, AreWordsInPlace, IsText, ReadsWord, ReadsBody, IsReadBefore, ReadsFirst, ReadsNone}
+use Rattle.plant_text.specs.Places.{stage_behind, is_due}
+use Rattle.plant_text.specs.Steps.Lexing.{may_follow, is_section, IsBehindBody, LexerValue, IsWhole, AreInPlace, AreWordsInPlace, IsText, ReadsWord, ReadsBody, IsReadBefore, ReadsFirst, ReadsNone}
 use Rattle.plant_text.proofs.BodyLines.{gap_whole}
 use Rattle.plant_text.proofs.BodyUnique.{one_rest, one_body, body_behind}
 use Rattle.plant_text.proofs.LineCounts.{passed}

@@ -1,14 +1,14 @@
 -- A text spells its words, one after the other.
 use Rattle.std.proofs.Common.{◌≡◌, ◌≢◌, ◌<◌, ◌≤◌, ◌+◌, ◌-◌, ℕ, zero, suc, true, List, [], ◌∷◌, ◌++◌, length, get_or, take, drop, inl, inr, refl, ap, sym, subst, ◌∙◌, append_assoc, arith}
 use Rattle.std.specs.Prelude.{All}
-use Rattle.std.proofs.lemmas.List.{append-nil, length-append, take-append-drop}
+use Rattle.std.proofs.lemmas.List.{append-nil, length-append, length-take-le, take-append-drop}
 use Rattle.std.proofs.Math.Seq.{take-append_seam}
 use Rattle.plant_text.specs.declared.token.Token.{Token}
 use Rattle.plant_text.specs.declared.token.Token.TheVariants as token
-use Rattle.plant_text.specs.Words.{word_of}
-use Rattle.plant_text.specs.Spelling.{is_parted, first_line, IsGap, IsEndLine, IsBody, BeginsNoBlock, Spells}
+use Rattle.plant_text.specs.Words.{front_len, word_of}
+use Rattle.plant_text.specs.Spelling.{is_parted, first_line, IsGap, IsEndLine, IsBody, BeginsNoBlock, Spells, IsBlankLine}
 use Rattle.plant_text.specs.Steps.Gaps.{IsBehindGap}
-use Rattle.plant_text.specs.Steps.Lexing.{IsWordThen, IsBlankLine, IsBehindBody, IsFirstWord}
+use Rattle.plant_text.specs.Steps.Lexing.{IsWordThen, IsBehindBody, IsFirstWord}
 use Rattle.plant_text.proofs.FirstWords.{word_of-body}
 
 -- a word behind a gap
@@ -24,10 +24,10 @@ spells_word text gap word rest (token.Body k) more e g w p s = absurd (word_of-b
 spells_word text gap word rest token.Unknown more e g w p s = (gap, word, rest, e, g, w, p, s)
 
 -- the word in front of a text
-pub word_then : (text : List ℕ) (n : ℕ) (t : Token) (rest : List ℕ) → is_parted (take n text) (drop n text) ≡ true → t ≡ word_of (take n text) → rest ≡ drop n text → IsWordThen text t rest
-word_then text n t rest p et er =
+pub word_then : (text : List ℕ) (n : ℕ) (t : Token) (rest : List ℕ) → n ≤ length text → n ≡ front_len text → is_parted (take n text) (drop n text) ≡ true → t ≡ word_of (take n text) → rest ≡ drop n text → IsWordThen text t rest
+word_then text n t rest le len p et er =
     let e : text ≡ take n text ++ rest = sym (take-append-drop n text) ∙ ap (λ x. take n text ++ x) (sym er) in
-    (take n text, e, sym et, subst (λ (x : List ℕ). is_parted (take n text) x ≡ true) (sym er) p)
+    (take n text, e, sym et, subst (λ (x : List ℕ). is_parted (take n text) x ≡ true) (sym er) p, length-take-le n text le ∙ len)
 
 pub first_word : (text front : List ℕ) (t : Token) (rest : List ℕ) → IsBehindGap text front → (t ≢ token.Unknown → IsWordThen front t rest) → IsFirstWord text t rest
 first_word text front t rest g w = λ known more s.

@@ -8,10 +8,11 @@ use Rattle.plant_text.specs.declared.token.Token.{Token}
 use Rattle.plant_text.specs.declared.token.Token.TheVariants as token
 use Rattle.plant_text.specs.declared.lexer.Stage.{Stage}
 use Rattle.plant_text.specs.declared.lexer.Stage.TheVariants as stage
-use Rattle.plant_text.specs.Words.{is_name_char, word_of}
+use Rattle.plant_text.specs.Words.{is_name_char, word_of, is_run_char, front_len}
 use Rattle.plant_text.specs.Spelling.{is_parted, first_line, is_one_line, IsSpace, IsGap, IsLineEnd, IsBody, IsEndLine, BeginsNoBlock, Spells}
 use Rattle.plant_text.specs.Steps.Gaps.{behind_space, IsBehindGap}
-use Rattle.plant_text.specs.Steps.Lexing.{is_run_char, front_len, may_follow, stage_behind, is_due, IsWhole, IsInPlace, AreInPlace}
+use Rattle.plant_text.specs.Places.{stage_behind, is_due}
+use Rattle.plant_text.specs.Steps.Lexing.{may_follow, IsWhole, IsInPlace, AreInPlace}
 use Rattle.plant_text.proofs.FoundGaps.{gap_unique}
 use Rattle.plant_text.proofs.FirstWords.{letter_begins, take_while-yes, take_while-no, not_both, letter_at, isnt}
 use Rattle.plant_text.proofs.WordShapes.{are_run, IsRun, IsShape, is_mark, known_shape, run_of_letters, run_of_letter}

@@ -16,9 +16,8 @@ use Rattle.words.specs.declared.address.Space.{Space}
 use Rattle.plant_text.specs.declared.token.Token.TheVariants as token
 use Rattle.plant_text.specs.declared.token.Keyword.{Keyword}
 use Rattle.plant_text.specs.declared.token.Punctuation.{Punctuation}
-use Rattle.plant_text.specs.Words.{is_name_char, or_else, keyword, punctuation, name, fixed_word, value_word, word_of}
+use Rattle.plant_text.specs.Words.{is_name_char, or_else, keyword, punctuation, name, fixed_word, value_word, word_of, is_run_char}
 use Rattle.words.specs.Addresses.{address_space, address}
-use Rattle.plant_text.specs.Steps.Lexing.{is_run_char}
 use Rattle.plant_text.proofs.FoundGaps.{cases_of_cond}
 use Rattle.plant_text.proofs.FirstWords.{are_letters, IsLetters, keyword_letters, same_word_letters, letter_at, lower_letter}
 

@@ -1,4 +1,5 @@
 pub mod Words
+pub mod Places
 pub mod Spelling
 pub mod Lines
 pub mod Steps

@@ -1,9 +1,11 @@
 -- Words of a plant's text with the lines that they begin on.
-use Rattle.std.specs.Prelude.{◌≡◌, ◌≢◌, ◌++◌, ℕ, map, All, List, [], ◌∷◌}
+use Rattle.std.specs.Prelude.{◌≡◌, ◌≢◌, ◌<◌, ◌+◌, ◌++◌, ℕ, min, Bool, IsTrue, IsFalse, map, All, List, [], ◌∷◌, length, take, codes}
 use Rattle.std.specs.List.{flat_map}
 use Rattle.plant_text.specs.declared.token.Token.{Token}
 use Rattle.plant_text.specs.declared.token.Token.TheVariants as token
-use Rattle.plant_text.specs.Spelling.{Spells, BeginsWith}
+use Rattle.plant_text.specs.Words.{front_len, word_of}
+use Rattle.plant_text.specs.Spelling.{ends_comment, IsGap, BeginsNoSpace, BeginsNoBlock, HasNoBodyThen, Spells, feeds, BeginsWithThen, BeginsWith}
+use Rattle.plant_text.specs.Places.{is_body_due}
 
 -- a word, and the line that it begins on
 pub record WordValue : Type 0 where
@@ -27,6 +29,12 @@ IsSpelledBy text ws =
     All (λ t. t ≢ token.Unknown) (map (λ (w : WordValue). w.token) ws)
     → Spells text (map (λ (w : WordValue). w.token) ws)
 
+-- The text begins with these words, each on its line. Of the number of the line on which the rest begins, and of the
+-- rest, this holds.
+abbrev pub BeginsWithWordsThen : (ℕ → List ℕ → Type 0) → List ℕ → List WordValue → Type 0
+BeginsWithWordsThen Holds text ws =
+    BeginsWithThen Holds 1 text (map (λ (w : WordValue). w.token) ws) (map (λ (w : WordValue). w.line) ws)
+
 -- The text begins with these words, each on its line.
 abbrev pub BeginsWithWords : List ℕ → List WordValue → Type 0
 BeginsWithWords text ws =
@@ -37,3 +45,49 @@ abbrev pub IsBegunBy : List ℕ → List WordValue → Type 0
 IsBegunBy text ws =
     (front back : List WordValue) → ws ≡ front ++ back
     → All (λ t. t ≢ token.Unknown) (map (λ (w : WordValue). w.token) front) → BeginsWithWords text front
+
+-- Behind the whole gap that the text begins with stands what is no word, and begins on this line. The text's first line
+-- has the number n.
+abbrev pub IsUnknownWord : ℕ → List ℕ → ℕ → Type 0
+IsUnknownWord n text line =
+    (gap more : List ℕ) × (text ≡ gap ++ more) × IsGap gap × BeginsNoSpace more
+    × (more ≢ []) × (word_of (take (front_len more) more) ≡ token.Unknown)
+    × (line ≡ min (n + feeds gap) 18446744073709551615)
+
+-- Behind a gap begins a comment that doesn't end.
+abbrev pub OpensComment : List ℕ → Type 0
+OpensComment text =
+    (gap inside : List ℕ) × (text ≡ gap ++ codes "(*" ++ inside) × IsGap gap × IsFalse (ends_comment inside)
+
+-- A body is due, something is left, and that begins no block of variables.
+abbrev pub IsBodyPlace : Bool → List ℕ → Type 0
+IsBodyPlace due text = IsTrue due × (text ≢ []) × BeginsNoBlock text
+
+-- Why no word stands in front of a text whose first line has the number n, where a body is due or not, behind so many
+-- bodies. Where what stands there is no word, the line is the one on which that begins.
+pub data HasNoWord (due : Bool) (bodies : ℕ) (n : ℕ) (text : List ℕ) (line : ℕ) : Type 0 where
+  -- what stands there is no word
+  unknown_word : (IsBodyPlace due text → ⊥) → IsUnknownWord n text line → HasNoWord due bodies n text line
+  -- a comment doesn't end
+  open_comment : (IsBodyPlace due text → ⊥) → OpensComment text → HasNoWord due bodies n text line
+  -- there is no body
+  no_body : IsBodyPlace due text → HasNoBodyThen text → HasNoWord due bodies n text line
+  -- a further body is due behind more than 64
+  many_bodies : IsTrue due → text ≢ [] → 64 < bodies → HasNoWord due bodies n text line
+
+-- This is why no word stands behind these words, where the rest of the text begins.
+abbrev pub HasNoWordBehind : List WordValue → ℕ → List ℕ → ℕ → Type 0
+HasNoWordBehind front n rest line =
+    HasNoWord (is_body_due (map (λ (w : WordValue). w.token) front)) (length (body_lines front)) n rest line
+
+-- If the last of these words is unknown, the text begins with those before it, each on its line, and then with no word.
+abbrev pub IsStoppedBy : List ℕ → List WordValue → Type 0
+IsStoppedBy text ws =
+    (front : List WordValue) (w : WordValue) → ws ≡ front ++ w ∷ [] → w.token ≡ token.Unknown
+    → BeginsWithWordsThen (λ n rest. HasNoWordBehind front n rest w.line) text front
+
+-- All of these but the last are words.
+abbrev pub AreWordsButLast : List WordValue → Type 0
+AreWordsButLast ws =
+    (front : List WordValue) (w : WordValue) → ws ≡ front ++ w ∷ []
+    → All (λ t. t ≢ token.Unknown) (map (λ (w : WordValue). w.token) front)

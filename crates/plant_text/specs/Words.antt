@@ -1,5 +1,5 @@
 -- What single words of a plant's text are.
-use Rattle.std.specs.Prelude.{ℕ, ◌==◌, ◌||◌, Bool, if◌then◌else◌, List, [], ◌∷◌, codes, Option, Some, None, unwrap_or}
+use Rattle.std.specs.Prelude.{ℕ, ◌+◌, ◌==◌, ◌&&◌, ◌||◌, Bool, if◌then◌else◌, List, [], ◌∷◌, length, take_while, slice_index_or, codes, Option, Some, None, unwrap_or}
 use Rattle.std.specs.Option.{option_map}
 use Rattle.words.specs.Chars.{is_letter_or_digit, same_word, first_that, is_plain_name, block_type}
 use Rattle.words.specs.Addresses.{address}
@@ -14,6 +14,18 @@ use Rattle.words.specs.Numbers.{number_up_to, duration_up_to}
 -- a letter, a digit or an underscore
 abbrev pub is_name_char : ℕ → Bool
 is_name_char c = is_letter_or_digit c || c == 95
+
+-- a character of a word that begins with a letter or a digit; `#` stands in durations
+abbrev pub is_run_char : ℕ → Bool
+is_run_char c = is_name_char c || c == 35
+
+-- how long the word is that a text begins with: letters, digits, `_` and `#`, also behind `%`; or `:=`; or one character
+abbrev pub front_len : List ℕ → ℕ
+front_len [] = 0
+front_len (c ∷ more) =
+    if c == 58 && slice_index_or more 0 32 == 61 then 2
+    else (if c == 37 then 1 + length (take_while is_run_char more)
+    else (if is_run_char c then length (take_while is_run_char (c ∷ more)) else 1))
 
 -- the first of two that there is
 abbrev pub or_else : {A : Type 0} → Option A → Option A → Option A

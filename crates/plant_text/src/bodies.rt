@@ -4,8 +4,8 @@ ghost use Rattle.std.specs.Prelude.{◌≡◌, ◌↔◌, IsTrue, Some, MatchOpt
 ghost use Rattle.words.specs.Lines.{without_last};
 ghost use Rattle.plant_text.specs.declared.token.Keyword.TheVariants as key;
 ghost use Rattle.plant_text.specs.Words.{keyword};
-ghost use Rattle.plant_text.specs.Spelling.{first_line, is_one_line, IsGap, IsEndLine, BeginsNoBlock};
-ghost use Rattle.plant_text.specs.Steps.Lexing.{begins_block, may_run_on, IsBehindLine, IsBlankLine, HasNoBlankLine, HasNoBody, IsBehindWholeBody};
+ghost use Rattle.plant_text.specs.Spelling.{first_line, is_one_line, IsGap, IsEndLine, IsBlankLine, BeginsNoBlock};
+ghost use Rattle.plant_text.specs.Steps.Lexing.{begins_block, may_run_on, IsBehindLine, HasNoBlankLine, HasNoBody, IsBehindWholeBody};
 
 use crate::front_word::{behind, letters};
 use crate::gaps::behind_gap;

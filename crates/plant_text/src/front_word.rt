@@ -1,9 +1,9 @@
 //! How long the word is that a text begins with.
 
 ghost use Rattle.std.specs.Prelude.{◌≡◌, ◌≤◌, ◌<◌, IsTrue, length, take, drop, take_while};
-ghost use Rattle.plant_text.specs.Words.{is_name_char};
+ghost use Rattle.plant_text.specs.Words.{is_name_char, is_run_char, front_len};
 ghost use Rattle.plant_text.specs.Spelling.{is_parted};
-ghost use Rattle.plant_text.specs.Steps.Lexing.{is_run_char, letters, front_len};
+ghost use Rattle.plant_text.specs.Steps.Lexing.{letters};
 
 /// A letter, a digit or an underscore.
 fn is_name_char(c: u8) -> bool

@@ -1,12 +1,13 @@
 //! The lexer: a plant's text word by word, with the line of each.
 
-ghost use Rattle.std.specs.Prelude.{◌≡◌, ◌≢◌, ◌<◌, ℕ, List, [], None, IfOk, IfSome, OnOk, IsTrue, IsFalse, length, true};
-ghost use Rattle.plant_text.specs.Words.{word_of};
+ghost use Rattle.std.specs.Prelude.{◌≡◌, ◌≢◌, ◌<◌, ℕ, List, [], None, IfOk, IfSome, OnOk, IsTrue, IsFalse, length, take, true};
+ghost use Rattle.plant_text.specs.Words.{word_of, front_len};
 ghost use Rattle.words.specs.Lines.{without_last};
 ghost use Rattle.plant_text.specs.declared.token.Token.TheVariants as token;
 ghost use Rattle.plant_text.specs.declared.lexer.Stage.TheVariants as stage;
-ghost use Rattle.plant_text.specs.Spelling.{BeginsNoBlock, IsGap, feeds};
-ghost use Rattle.plant_text.specs.Steps.Lexing.{stage_behind, part_before, line_behind, IsPart, HasNoBodyThen, IsKnownThen, IsFirstWord, FindsFirstWord, StandsFirst, is_due, IsWhole, ReadsWord, ReadsBody, ReadsFirst, ReadsNone};
+ghost use Rattle.plant_text.specs.Spelling.{HasNoBodyThen, BeginsNoBlock, IsGap, feeds};
+ghost use Rattle.plant_text.specs.Places.{stage_behind, is_due};
+ghost use Rattle.plant_text.specs.Steps.Lexing.{part_before, line_behind, IsPart, IsKnownThen, IsFirstWord, FindsFirstWord, StandsFirst, GoesOn, FindsNoWord, StopsAt, IsWhole, ReadsWord, ReadsBody, ReadsFirst, ReadsNone};
 
 use crate::bodies::{
     begins_no_block, behind_blank_line, behind_body, is_blank_line, without_return,
@@ -157,6 +158,8 @@ impl<'a> Lexer<'a> {
         ensures counted { OnOk result (self.new.bodies ≡ self.old.bodies) }
         ensures line { OnOk result (self.new.line ≡ self.old.line) }
         ensures begins { IfOk result (λ w. w.line ≡ self.old.line) }
+        ensures is { IfOk result (λ w. w.token ≡ word_of (take (front_len self.old.text) self.old.text)) }
+        ensures last { IfOk result (λ w. w.token ≡ token.Unknown → self.new.text ≡ []) }
         ensures shorter { OnOk result (length self.new.text < length self.old.text) }
     {
         let line = self.line;
@@ -179,6 +182,8 @@ impl<'a> Lexer<'a> {
         ensures first { IfOk result (λ w. StandsFirst self.old w self.new) }
         ensures none { IfOk result (λ w. w.token ≡ token.Unknown → HasNoBodyThen self.old.text) }
         ensures every { IfOk result (λ w. ReadsBody self.old w self.new) }
+        ensures goes_on { IfOk result (λ w. GoesOn self.old w self.new) }
+        ensures last { IfOk result (λ w. w.token ≡ token.Unknown → self.new.text ≡ []) }
         ensures shorter { OnOk result (length self.new.text < length self.old.text) }
     {
         let line = self.line;
@@ -207,6 +212,9 @@ impl<'a> Lexer<'a> {
         ensures none { IfOk result (λ w. IsGap self.old.text → w ≡ None) }
         ensures word { IfOk result (λ w. FindsFirstWord self.old.text w self.new.text) }
         ensures first { IfOk result (λ w. IfSome w (λ t. StandsFirst self.old t self.new)) }
+        ensures goes_on { IfOk result (λ w. IfSome w (λ t. GoesOn self.old t self.new)) }
+        ensures stops { IfOk result (λ w. IfSome w (λ t. FindsNoWord self.old t)) }
+        ensures last { IfOk result (λ w. IfSome w (λ t. t.token ≡ token.Unknown → self.new.text ≡ [])) }
         ensures shorter { IfOk result (λ w. IfSome w (λ _. length self.new.text < length self.old.text)) }
     {
         let rest = behind_gap(self.rest);
@@ -227,6 +235,10 @@ impl<'a> Lexer<'a> {
         ensures none { IfOk result (λ w. ReadsNone self.old w) }
         ensures word { IfOk result (λ w. FindsFirstWord self.old.text w self.new.text) }
         ensures first { IfOk result (λ w. IfSome w (λ t. StandsFirst self.old t self.new)) }
+        ensures goes_on { IfOk result (λ w. IfSome w (λ t. GoesOn self.old t self.new)) }
+        ensures stops { IfOk result (λ w. IfSome w (λ t. StopsAt self.old t)) }
+        ensures last { IfOk result (λ w. IfSome w (λ t. t.token ≡ token.Unknown → self.new.text ≡ [])) }
+        ensures ended { IfOk result (λ w. self.old.text ≡ [] → w ≡ None) }
         ensures shorter { IfOk result (λ w. IfSome w (λ _. length self.new.text < length self.old.text)) }
     {
         if !self.is_body_due() {

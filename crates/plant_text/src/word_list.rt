@@ -1,6 +1,6 @@
-ghost use Rattle.std.specs.Prelude.{◌≡◌, IfOk};
+ghost use Rattle.std.specs.Prelude.{◌≡◌, ◌<◌, ◌^◌, length, IfOk};
 ghost use Rattle.words.specs.Lines.{without_last};
-ghost use Rattle.plant_text.specs.Lines.{IsSpelledBy, IsBegunBy};
+ghost use Rattle.plant_text.specs.Lines.{IsSpelledBy, IsBegunBy, IsStoppedBy, AreWordsButLast};
 ghost use Rattle.plant_text.specs.Steps.Lexing.{AreAllWords};
 
 use crate::lexer::Lexer;
@@ -27,7 +27,8 @@ impl Model for Words {
 impl Words {
     /// The words.
     pub fn words(&self) -> &[Word]
-        ensures { result.now ≡ self.now }
+        ensures value { result.now ≡ self.now }
+        ensures few { length result.now < 2 ^ 63 }
     {
         self.words.as_slice()
     }
@@ -44,6 +45,8 @@ pub fn read_words(alloc: Global, text: &str) -> Result<Words, AllocError>
     ensures spelled { IfOk result (IsSpelledBy (without_last 13 text.now)) }
     ensures every { IfOk result (AreAllWords (without_last 13 text.now)) }
     ensures begun { IfOk result (IsBegunBy (without_last 13 text.now)) }
+    ensures stops { IfOk result (IsStoppedBy (without_last 13 text.now)) }
+    ensures known { IfOk result AreWordsButLast }
 {
     let mut lexer = Lexer::new(text);
     let last = lexer.last();

@@ -5,7 +5,7 @@ use Rattle.std.specs.Io.KnownBytes.{Appends, Keeps}
 use Rattle.plant.specs.PlantValue.{PlantValue}
 use Rattle.plant.specs.Counts.{task_count, program_count, connection_count}
 use Rattle.plant.specs.Faults.{IsPlantFault, IsOfBody, IsOfDeclaredName}
-use Rattle.plant.specs.PlantText.{IsPlantText, IsNoPlant, IsNotOfGrammar, IsBodyFaultIn, IsNameFaultIn}
+use Rattle.plant.specs.PlantText.{IsPlantText, IsNoPlant, IsSyntaxIn, IsBodyFaultIn, IsNameFaultIn}
 use Rattle.plant.specs.declared.plant_fault.PlantFault.{PlantFault}
 use Rattle.plant.specs.declared.plant_fault.PlantFaultKind.TheVariants as plant
 use Rattle.text_lines.specs.Sending.{SendsLess}
@@ -39,7 +39,7 @@ pub record IsRefusal (text : List ℕ) (fault : PlantFault) : Type 0 where
   pub not_memory : fault.kind ≢ plant.Memory
   pub value : IsPlantFault fault
   pub no_plant : IsNoPlant text
-  pub syntax : fault.kind ≡ plant.Syntax → IsNotOfGrammar text
+  pub syntax : fault.kind ≡ plant.Syntax → IsSyntaxIn text fault
   pub body : IsOfBody fault.kind → IsBodyFaultIn text fault
   pub name : IsOfDeclaredName fault.kind → IsNameFaultIn text fault
 

@@ -1,5 +1,5 @@
 -- Names that are one name, case aside: `plant` cites it too.
-use Rattle.std.specs.Prelude.{◌≡◌, ℕ, IsTrue, List}
+use Rattle.std.specs.Prelude.{ℕ, IsTrue, List}
 use Rattle.std.proofs.Common.{sym, ◌∙◌}
 use Rattle.std.proofs.lemmas.Slice.Eq.{bytes_eq-Decides}
 use Rattle.std.specs.Str.{str_to_ascii_lowercase}

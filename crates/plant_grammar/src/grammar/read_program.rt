@@ -1,6 +1,6 @@
 //! The rules of the grammar from names to programs.
 
-ghost use Rattle.std.specs.Prelude.{◌≡◌, ◌≢◌, ℕ, List, ◌∷◌, ◌++◌, ◌+◌, ◌<◌, IfOk, OnOk, OnErr, IsTrue, IsFalse, All, length, IfErr};
+ghost use Rattle.std.specs.Prelude.{◌≡◌, ◌≢◌, ℕ, List, [], ◌∷◌, ◌++◌, ◌+◌, ◌<◌, IfOk, OnOk, OnErr, IsTrue, IsFalse, All, length, IfErr};
 ghost use Rattle.plant_grammar.specs.WordFaults.{IsGrammarFault};
 ghost use Rattle.std.specs.List.{flat_map};
 ghost use Rattle.plant_text.specs.declared.token.Token.{Token};
@@ -11,17 +11,17 @@ ghost use Rattle.plant_grammar.specs.declared.grammar.tree.TypeName.{TypeName};
 ghost use Rattle.plant_grammar.specs.declared.grammar.tree.NameList.{NameList};
 ghost use Rattle.plant_grammar.specs.declared.grammar.tree.VarBlock.{VarBlock};
 ghost use Rattle.plant_grammar.specs.declared.grammar.tree.Program.{Program};
-ghost use Rattle.plant_grammar.specs.declared.grammar_fault.GrammarFaultKind.TheVariants.{Memory, Syntax};
+ghost use Rattle.plant_grammar.specs.declared.grammar_fault.GrammarFaultKind.TheVariants.{Memory};
 ghost use Rattle.plant_text.specs.declared.token.Keyword.TheVariants as key;
-ghost use Rattle.plant_text.specs.declared.token.Punctuation.TheVariants.{Colon, Semicolon};
+ghost use Rattle.plant_text.specs.declared.token.Punctuation.TheVariants.{Colon, Semicolon, Comma};
 ghost use Rattle.plant_grammar.specs.Steps.Refusing.{MayBeDeclared};
 ghost use Rattle.plant_grammar.specs.Grammar.{key_word, mark_word, section_words, kind_word, type_word, name_words, list_words, lists_words, block_words, program_words};
 ghost use Rattle.plant_grammar.specs.Lawful.{list_variables, lists_variables, block_variables, IsTypeLawful, IsListLawful, IsBlockLawful, IsProgramLawful, AreProgramsDeclared};
-ghost use Rattle.plant_grammar.specs.WellFormed.{HasNames, IsBlockWellFormed, IsProgramWellFormed};
 ghost use Rattle.plant_grammar.specs.NameFaults.{TellsOfName, RefusesVariable, RefusesOneList, RefusesList, RefusesBlock, RefusesBlocks, RefusesProgram};
 ghost use Rattle.plant_grammar.specs.Steps.Declaring.{TellsOfType, TellsOfVariable, TellsOfBlock, BeginRefused, BeginRefusedBehind, IsAtNext, RefusesFurtherProgram};
-ghost use Rattle.plant_grammar.specs.Steps.Lines.{next_line, KeepsLines, IsNotNext, IsOneNext, IsNoneNext};
+ghost use Rattle.plant_grammar.specs.Steps.Lines.{next_line, syntax_at, KeepsLines, IsNotNext, IsOneNext, IsNoneNext};
 ghost use Rattle.plant_grammar.specs.Steps.ReadParts.{section_start, IsSectionWhole, IsNew, AreVariables};
+ghost use Rattle.plant_grammar.specs.Steps.Expected.{Key, AName, ABody, AType, ASection, MorePrograms, MoreBlocks, MoreLists, MoreNames, program_rest, list_rest, GetsStuck};
 ghost use Rattle.plant_grammar.specs.Steps.Reading.{programs_of, all_words, AreSameWords, AreSameLines, BeginWithWordsOf, BeginWithLinesOf};
 
 use crate::grammar::known_names::{check_new, is_program};
@@ -56,7 +56,7 @@ impl<'a> Reader<'a> {
         ensures new { IfOk result (λ name. (IsDeclared variables.now name → ⊥) × IsNew (λ n. n) before.now name × (length variables.now + length before.now < 1000)) }
         ensures tells { IfErr result (TellsOfVariable variables.now before.now self.old.words) }
         ensures line { IfErr result (IsAtNext self.old) }
-        ensures syntax { IfErr result (λ e. e.kind ≡ Syntax → IsNoneNext token.Name self.old.words) }
+        ensures stuck { IfErr result (GetsStuck (AName ∷ []) self.old) }
         ensures value { IfErr result IsGrammarFault }
     {
         let line = self.line();
@@ -66,17 +66,18 @@ impl<'a> Reader<'a> {
     }
 
     /// Names with commas between them.
-    #[tactic(auto, using(crate::proofs::RefusedNames::no_name, crate::proofs::RefusedNames::memory_no_name, crate::proofs::MissingWords::memory_no_syntax))]
+    #[tactic(auto, using(crate::proofs::RefusedNames::no_name, crate::proofs::RefusedNames::memory_no_name, crate::proofs::UnexpectedWords::memory_no_syntax))]
     fn names(&mut self, alloc: Global, variables: &Variables) -> Result<Vec<Name>, GrammarFault>
         ensures ok { IfOk result (λ names. self.old.words ≡ name_words names.items ++ self.new.words) }
         ensures left { OnOk result (KeepsLines self.old self.new) }
         ensures bodies { OnOk result (self.new.bodies ≡ self.old.bodies) }
         ensures some { IfOk result (λ names. 0 < length names.items) }
         ensures may { IfOk result (λ names. MayBeDeclared variables.now names.items) }
+        ensures none { OnOk result (IsNotNext (mark_word Comma) self.new.words) }
         ensures other { IfErr result (λ e. e.kind ≢ Memory → (ns : List (List ℕ)) (rest : List Token) → self.old.words ≡ name_words ns ++ mark_word Colon ∷ rest → 0 < length ns → MayBeDeclared variables.now ns → ⊥) }
         ensures only { IfOk result (λ names. (ns : List (List ℕ)) (rest : List Token) → self.old.words ≡ name_words ns ++ mark_word Colon ∷ rest → 0 < length ns → (names.items ≡ ns) × (self.new.words ≡ mark_word Colon ∷ rest)) }
         ensures names { IfErr result (BeginRefused (λ k. RefusesVariable k variables.now) self.old) }
-        ensures syntax { IfErr result (λ e. e.kind ≡ Syntax → (ns : List (List ℕ)) (rest : List Token) → self.old.words ≡ name_words ns ++ mark_word Colon ∷ rest → 0 < length ns → ⊥) }
+        ensures stuck { IfErr result (GetsStuck (AName ∷ MoreNames ∷ []) self.old) }
         ensures value { IfErr result IsGrammarFault }
     {
         let mut names = Vec::new(alloc);
@@ -94,6 +95,7 @@ impl<'a> Reader<'a> {
         ensures left { OnOk result (KeepsLines self.old self.new) }
         ensures bodies { OnOk result (self.new.bodies ≡ self.old.bodies) }
         ensures other { OnErr result (IsNoneNext kind_word self.old.words) }
+        ensures err { IfErr result (λ e. e ≡ syntax_at self.old) }
         ensures tells { IfErr result (λ e. TellsOfName e.kind ⊥ ⊥) }
         ensures value { IfErr result IsGrammarFault }
     {
@@ -120,7 +122,7 @@ impl<'a> Reader<'a> {
         ensures only { OnOk result ((t : TypeName) (rest : List Token) → self.old.words ≡ type_word t ∷ rest → rest ≡ self.new.words) }
         ensures tells { IfErr result (TellsOfBlock section self.old.words) }
         ensures line { IfErr result (IsAtNext self.old) }
-        ensures syntax { IfErr result (λ e. e.kind ≡ Syntax → IsNoneNext type_word self.old.words) }
+        ensures stuck { IfErr result (GetsStuck (AType ∷ []) self.old) }
         ensures value { IfErr result IsGrammarFault }
     {
         if !self.sees_block_type() {
@@ -133,7 +135,7 @@ impl<'a> Reader<'a> {
     }
 
     /// A list of names of one type. They are declared.
-    #[tactic(auto, using(crate::proofs::RefusedNames::no_name, crate::proofs::RefusedNames::memory_no_name, crate::proofs::MissingWords::memory_no_syntax), unfolding(crate::specs::Grammar::list_words))]
+    #[tactic(auto, using(crate::proofs::RefusedNames::no_name, crate::proofs::RefusedNames::memory_no_name, crate::proofs::UnexpectedWords::memory_no_syntax), unfolding(crate::specs::Grammar::list_words))]
     fn list(
         &mut self,
         alloc: Global,
@@ -147,7 +149,7 @@ impl<'a> Reader<'a> {
         ensures lawful { IfOk result (λ l. IsListLawful section l) }
         ensures other { IfErr result (λ e. e.kind ≢ Memory → (ns : List (List ℕ)) (t : TypeName) (rest : List Token) → self.old.words ≡ name_words ns ++ mark_word Colon ∷ type_word t ∷ mark_word Semicolon ∷ rest → 0 < length ns → IsTypeLawful section t → MayBeDeclared variables.old ns → ⊥) }
         ensures names { IfErr result (BeginRefused (RefusesOneList section variables.old) self.old) }
-        ensures syntax { IfErr result (λ e. e.kind ≡ Syntax → (ns : List (List ℕ)) (t : TypeName) (rest : List Token) → self.old.words ≡ name_words ns ++ mark_word Colon ∷ type_word t ∷ mark_word Semicolon ∷ rest → 0 < length ns → ⊥) }
+        ensures stuck { IfErr result (GetsStuck (AName ∷ list_rest) self.old) }
         ensures value { IfErr result IsGrammarFault }
     {
         let names = self.names(alloc, variables)?;
@@ -160,7 +162,7 @@ impl<'a> Reader<'a> {
     }
 
     /// The lists of a block, up to its end. They are declared.
-    #[tactic(auto, using(crate::proofs::RefusedNames::no_name, crate::proofs::RefusedNames::memory_no_name, crate::proofs::MissingWords::memory_no_syntax, crate::proofs::WordLists::list_has_words))]
+    #[tactic(auto, using(crate::proofs::RefusedNames::no_name, crate::proofs::RefusedNames::memory_no_name, crate::proofs::UnexpectedWords::memory_no_syntax, crate::proofs::WordLists::list_has_words))]
     fn lists(
         &mut self,
         alloc: Global,
@@ -174,7 +176,7 @@ impl<'a> Reader<'a> {
         ensures lawful { IfOk result (λ ls. All (IsListLawful section) ls.items) }
         ensures other { IfErr result (λ e. e.kind ≢ Memory → (ls : List NameList) (rest : List Token) → self.old.words ≡ lists_words ls ++ rest → All (IsListLawful section) ls → AreVariables (variables.old ++ lists_variables section ls) → ⊥) }
         ensures names { IfErr result (BeginRefused (λ k. RefusesList k section variables.old) self.old) }
-        ensures syntax { IfErr result (λ e. e.kind ≡ Syntax → (ls : List NameList) (rest : List Token) → self.old.words ≡ lists_words ls ++ rest → All HasNames ls → ⊥) }
+        ensures stuck { IfErr result (GetsStuck (MoreLists ∷ []) self.old) }
         ensures value { IfErr result IsGrammarFault }
     {
         let mut lists = Vec::new(alloc);
@@ -204,6 +206,7 @@ impl<'a> Reader<'a> {
         ensures bodies { OnOk result (self.new.bodies ≡ self.old.bodies) }
         ensures other { OnErr result (IsNoneNext section_start self.old.words) }
         ensures tells { IfErr result (λ e. TellsOfName e.kind ⊥ ⊥) }
+        ensures stuck { IfErr result (GetsStuck (ASection ∷ []) self.old) }
         ensures value { IfErr result IsGrammarFault }
     {
         if self.sees_keyword(Keyword::VarInput) {
@@ -223,7 +226,7 @@ impl<'a> Reader<'a> {
     }
 
     /// A block. Its names are declared.
-    #[tactic(auto, using(crate::proofs::RefusedNames::no_name, crate::proofs::RefusedNames::memory_no_name, crate::proofs::MissingWords::memory_no_syntax), unfolding(crate::specs::Grammar::block_words))]
+    #[tactic(auto, using(crate::proofs::RefusedNames::no_name, crate::proofs::RefusedNames::memory_no_name, crate::proofs::UnexpectedWords::memory_no_syntax), unfolding(crate::specs::Grammar::block_words))]
     fn block(&mut self, alloc: Global, variables: &mut Variables) -> Result<VarBlock, GrammarFault>
         ensures ok { IfOk result (λ b. self.old.words ≡ block_words b ++ self.new.words) }
         ensures left { OnOk result (KeepsLines self.old self.new) }
@@ -232,7 +235,7 @@ impl<'a> Reader<'a> {
         ensures lawful { IfOk result (λ b. IsBlockLawful b) }
         ensures other { IfErr result (λ e. e.kind ≢ Memory → (s : Section) (ls : List NameList) (rest : List Token) → self.old.words ≡ section_words s ++ (lists_words ls ++ rest) → All (IsListLawful s) ls → AreVariables (variables.old ++ lists_variables s ls) → ⊥) }
         ensures names { IfErr result (BeginRefused (λ k. RefusesBlock k variables.old) self.old) }
-        ensures syntax { IfErr result (λ e. e.kind ≡ Syntax → (s : Section) (ls : List NameList) (rest : List Token) → self.old.words ≡ section_words s ++ (lists_words ls ++ rest) → All HasNames ls → ⊥) }
+        ensures stuck { IfErr result (GetsStuck (ASection ∷ MoreLists ∷ []) self.old) }
         ensures value { IfErr result IsGrammarFault }
     {
         let section = self.section()?;
@@ -241,7 +244,7 @@ impl<'a> Reader<'a> {
     }
 
     /// The blocks of a program. Their names are declared.
-    #[tactic(auto, using(crate::proofs::RefusedNames::no_name, crate::proofs::RefusedNames::memory_no_name, crate::proofs::MissingWords::memory_no_syntax, crate::proofs::WordLists::block_has_words))]
+    #[tactic(auto, using(crate::proofs::RefusedNames::no_name, crate::proofs::RefusedNames::memory_no_name, crate::proofs::UnexpectedWords::memory_no_syntax, crate::proofs::WordLists::block_has_words))]
     fn blocks(
         &mut self,
         alloc: Global,
@@ -255,7 +258,7 @@ impl<'a> Reader<'a> {
         ensures none { OnOk result (IsNoneNext section_start self.new.words) }
         ensures other { IfErr result (λ e. e.kind ≢ Memory → (bs : List VarBlock) (rest : List Token) → self.old.words ≡ flat_map block_words bs ++ rest → IsNoneNext section_start rest → All IsBlockLawful bs → AreVariables (variables.old ++ flat_map block_variables bs) → ⊥) }
         ensures names { IfErr result (BeginRefused (λ k. RefusesBlocks k variables.old) self.old) }
-        ensures syntax { IfErr result (λ e. e.kind ≡ Syntax → (bs : List VarBlock) (rest : List Token) → self.old.words ≡ flat_map block_words bs ++ rest → IsNoneNext section_start rest → All IsBlockWellFormed bs → ⊥) }
+        ensures stuck { IfErr result (GetsStuck (MoreBlocks ∷ []) self.old) }
         ensures value { IfErr result IsGrammarFault }
     {
         let mut blocks = Vec::new(alloc);
@@ -277,7 +280,7 @@ impl<'a> Reader<'a> {
         ensures other { IfErr result (λ e. e.kind ≢ Memory → (name : List ℕ) (rest : List Token) → self.old.words ≡ token.Name name ∷ rest → IsNew (λ p. p.name) (programs_of before.now) name → length before.now < 64 → ⊥) }
         ensures tells { IfErr result (TellsOfType before.now self.old.words) }
         ensures line { IfErr result (IsAtNext self.old) }
-        ensures syntax { IfErr result (λ e. e.kind ≡ Syntax → IsNoneNext token.Name self.old.words) }
+        ensures stuck { IfErr result (GetsStuck (AName ∷ []) self.old) }
         ensures value { IfErr result IsGrammarFault }
     {
         let line = self.line();
@@ -296,7 +299,7 @@ impl<'a> Reader<'a> {
         ensures few { OnOk result (length before.now < 64) }
         ensures other { IfErr result (λ e. e.kind ≢ Memory → (name : List ℕ) (rest : List Token) → self.old.words ≡ key_word key.Program ∷ token.Name name ∷ rest → IsNew (λ p. p.name) (programs_of before.now) name → length before.now < 64 → ⊥) }
         ensures names { IfErr result (BeginRefused (λ k. RefusesProgram k (programs_of before.now)) self.old) }
-        ensures syntax { IfErr result (λ e. e.kind ≡ Syntax → (name : List ℕ) (rest : List Token) → self.old.words ≡ key_word key.Program ∷ token.Name name ∷ rest → ⊥) }
+        ensures stuck { IfErr result (GetsStuck (Key key.Program ∷ AName ∷ []) self.old) }
         ensures value { IfErr result IsGrammarFault }
     {
         self.keyword(Keyword::Program)?;
@@ -310,6 +313,7 @@ impl<'a> Reader<'a> {
         ensures bodies { OnOk result (self.old.bodies ≡ next_line self.old ∷ self.new.bodies) }
         ensures other { IfErr result (λ e. e.kind ≢ Memory → (body : List ℕ) (rest : List Token) → self.old.words ≡ token.Body body ∷ key_word key.EndProgram ∷ rest → ⊥) }
         ensures tells { IfErr result (λ e. TellsOfName e.kind ⊥ ⊥) }
+        ensures stuck { IfErr result (GetsStuck (ABody ∷ Key key.EndProgram ∷ []) self.old) }
         ensures value { IfErr result IsGrammarFault }
     {
         let body = self.body(alloc)?;
@@ -318,7 +322,7 @@ impl<'a> Reader<'a> {
     }
 
     /// A program type, behind these. Its body isn't drawn.
-    #[tactic(auto, using(crate::proofs::RefusedNames::no_name, crate::proofs::RefusedNames::memory_no_name, crate::proofs::MissingWords::memory_no_syntax), unfolding(crate::specs::Grammar::program_words))]
+    #[tactic(auto, using(crate::proofs::RefusedNames::no_name, crate::proofs::RefusedNames::memory_no_name, crate::proofs::UnexpectedWords::memory_no_syntax), unfolding(crate::specs::Grammar::program_words))]
     fn program(
         &mut self,
         alloc: Global,
@@ -332,7 +336,7 @@ impl<'a> Reader<'a> {
         ensures declared { IfOk result (λ p. IsProgramLawful p.program) }
         ensures other { IfErr result (λ e. e.kind ≢ Memory → (p : Program) (rest : List Token) → self.old.words ≡ program_words p ++ rest → IsNew (λ p. p.name) (programs_of before.now) p.name → length before.now < 64 → IsProgramLawful p → ⊥) }
         ensures names { IfErr result (BeginRefused (λ k. RefusesProgram k (programs_of before.now)) self.old) }
-        ensures syntax { IfErr result (λ e. e.kind ≡ Syntax → (p : Program) (rest : List Token) → self.old.words ≡ program_words p ++ rest → IsProgramWellFormed p → ⊥) }
+        ensures stuck { IfErr result (GetsStuck (Key key.Program ∷ program_rest) self.old) }
         ensures value { IfErr result IsGrammarFault }
     {
         let name = self.program_start(alloc, before)?;
@@ -345,7 +349,7 @@ impl<'a> Reader<'a> {
     }
 
     /// The program types, their bodies not drawn. They are added to `texts`; after a fault, those before it.
-    #[tactic(auto, using(crate::proofs::RefusedNames::no_name, crate::proofs::RefusedNames::memory_no_name, crate::proofs::MissingWords::memory_no_syntax, crate::proofs::WordLists::program_has_words))]
+    #[tactic(auto, using(crate::proofs::RefusedNames::no_name, crate::proofs::RefusedNames::memory_no_name, crate::proofs::UnexpectedWords::memory_no_syntax, crate::proofs::WordLists::program_has_words))]
     pub fn programs(
         &mut self,
         alloc: Global,
@@ -361,7 +365,7 @@ impl<'a> Reader<'a> {
         ensures none { OnOk result (IsNotNext (key_word key.Program) self.new.words) }
         ensures other { IfErr result (λ e. e.kind ≢ Memory → (ps : List Program) (rest : List Token) → all_words texts.old.items self.old.words ≡ flat_map program_words ps ++ rest → IsNotNext (key_word key.Program) rest → AreProgramsDeclared ps → ⊥) }
         ensures names { IfErr result (BeginRefusedBehind (RefusesFurtherProgram (programs_of texts.new.items)) self.old (all_words texts.old.items self.old.words)) }
-        ensures syntax { IfErr result (λ e. e.kind ≡ Syntax → (ps : List Program) (rest : List Token) → all_words texts.old.items self.old.words ≡ flat_map program_words ps ++ rest → IsNotNext (key_word key.Program) rest → All IsProgramWellFormed ps → ⊥) }
+        ensures stuck { IfErr result (GetsStuck (MorePrograms ∷ []) self.old) }
         ensures value { IfErr result IsGrammarFault }
     {
         'programs: while self.sees_keyword(Keyword::Program) {

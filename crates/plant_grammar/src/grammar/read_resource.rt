@@ -16,17 +16,17 @@ ghost use Rattle.plant_grammar.specs.declared.grammar.tree.Resource.{Resource};
 ghost use Rattle.plant_grammar.specs.declared.grammar.tree.SourceName.{SourceName};
 ghost use Rattle.plant_grammar.specs.declared.grammar.tree.SourceName.TheVariants as source;
 ghost use Rattle.plant_grammar.specs.declared.grammar_fault.GrammarFaultKind.TheVariants.{Memory, Syntax};
-ghost use Rattle.plant_text.specs.declared.token.Keyword.TheVariants.{Program, With, EndResource};
-ghost use Rattle.plant_text.specs.declared.token.Punctuation.TheVariants.{Colon, Semicolon, Close};
+ghost use Rattle.plant_text.specs.declared.token.Keyword.TheVariants as key;
+ghost use Rattle.plant_text.specs.declared.token.Punctuation.TheVariants as mark;
 ghost use Rattle.plant_grammar.specs.Grammar.{key_word, mark_word, interval_words, priority_words, settings, task_words, source_words, bind_words, binds_words, binds_listed, use_words, item_words, items_words, resource_words, resources_words};
 ghost use Rattle.plant_grammar.specs.Names.{is_named, AreNamesApart};
 ghost use Rattle.plant_grammar.specs.Lawful.{variables, task_of, use_of, uses_of, IsUseLawful, IsResourceLawful};
 ghost use Rattle.plant_grammar.specs.SourceLines.{IsUseOn, IsItemOn, EachBefore, IsResourceOn, AreSourcesOn};
-ghost use Rattle.plant_grammar.specs.WellFormed.{AreIntervalsPositive, IsResourceWellFormed};
-ghost use Rattle.plant_grammar.specs.Steps.Lines.{HasLinesOf, KeepsLines, IsNoneNext};
+ghost use Rattle.plant_grammar.specs.Steps.Lines.{HasLinesOf, KeepsLines, IsNotNext, IsNoneNext};
 ghost use Rattle.plant_grammar.specs.NameFaults.{TellsOfName, IsUnknown, IsAfter, RefusesTask, RefusesOneBind, RefusesBind};
 ghost use Rattle.plant_grammar.specs.Steps.Declaring.{TellsOfTask, TellsOfInstance, TellsOfMissing, TellsOfInput, TellsOfAddress, TellsOfResource, BeginRefused, IsAtNext, RefusesFurtherInstance, RefusesItem, RefusesFurtherItems, RefusesFurtherResource, RefusesFurtherResources, RefusesInParentheses};
 ghost use Rattle.plant_grammar.specs.Steps.ReadParts.{types_alone, with_instance, with_binds, tally_with, EndWithBinds, bound_in, IsNew, MayFollow, AreItemsLawful, AreResourcesLawful, KeepsLinesOf, AreKeptLines};
+ghost use Rattle.plant_grammar.specs.Steps.Expected.{Key, Mark, AName, ASource, AnItem, MayHaveBinds, TheSettings, FirstBind, MoreItems, MoreResources, interval_rest, priority_rest, task_rest, bind_rest, instance_rest, resource_rest, GetsStuck};
 ghost use Rattle.plant_grammar.specs.Steps.Reading.{programs_of};
 ghost use Rattle.plant_grammar.specs.Steps.Refusing.{HasRoomFor, AreTypesApart};
 ghost use Rattle.plant_grammar.specs.Kinds.{input_kind_of, HasFieldKind, IsOfInputKind};
@@ -62,6 +62,7 @@ impl<'a> Reader<'a> {
         ensures positive { IfOk result (λ n. 0 < n) }
         ensures other { OnErr result ((n : ℕ) (rest : List Token) → self.old.words ≡ interval_words n ++ rest → 0 < n → ⊥) }
         ensures tells { IfErr result (λ e. TellsOfName e.kind ⊥ ⊥) }
+        ensures stuck { IfErr result (GetsStuck (Key key.Interval ∷ interval_rest) self.old) }
         ensures value { IfErr result IsGrammarFault }
     {
         self.keyword(Keyword::Interval)?;
@@ -81,6 +82,7 @@ impl<'a> Reader<'a> {
         ensures left { OnOk result (KeepsLines self.old self.new) }
         ensures other { OnErr result ((n : ℕ) (rest : List Token) → self.old.words ≡ priority_words n ++ rest → ⊥) }
         ensures tells { IfErr result (λ e. TellsOfName e.kind ⊥ ⊥) }
+        ensures stuck { IfErr result (GetsStuck (Key key.Priority ∷ priority_rest) self.old) }
         ensures value { IfErr result IsGrammarFault }
     {
         self.keyword(Keyword::Priority)?;
@@ -96,6 +98,7 @@ impl<'a> Reader<'a> {
         ensures other { OnErr result ((o : Order) (i n : ℕ) (rest : List Token) → self.old.words ≡ settings o i n ++ rest → 0 < i → ⊥) }
         ensures only { OnOk result ((o : Order) (i n : ℕ) (rest : List Token) → self.old.words ≡ settings o i n ++ rest → rest ≡ self.new.words) }
         ensures tells { IfErr result (λ e. TellsOfName e.kind ⊥ ⊥) }
+        ensures stuck { IfErr result (GetsStuck (TheSettings ∷ []) self.old) }
         ensures value { IfErr result IsGrammarFault }
     {
         if self.sees_keyword(Keyword::Interval) {
@@ -121,7 +124,7 @@ impl<'a> Reader<'a> {
         ensures other { IfErr result (λ e. e.kind ≢ Memory → (name : List ℕ) (rest : List Token) → self.old.words ≡ token.Name name ∷ rest → IsNew (λ t. t.name) (flat_map task_of before.now) name → length (flat_map task_of before.now) < 16 → ⊥) }
         ensures tells { IfErr result (TellsOfTask before.now self.old.words) }
         ensures line { IfErr result (IsAtNext self.old) }
-        ensures syntax { IfErr result (λ e. e.kind ≡ Syntax → IsNoneNext token.Name self.old.words) }
+        ensures stuck { IfErr result (GetsStuck (AName ∷ []) self.old) }
         ensures value { IfErr result IsGrammarFault }
     {
         let line = self.line();
@@ -135,7 +138,7 @@ impl<'a> Reader<'a> {
     }
 
     /// A task, behind these lines of its resource.
-    #[tactic(auto, using(crate::proofs::RefusedNames::no_name, crate::proofs::RefusedNames::memory_no_name, crate::proofs::MissingWords::memory_no_syntax), unfolding(crate::specs::Grammar::task_words))]
+    #[tactic(auto, using(crate::proofs::RefusedNames::no_name, crate::proofs::RefusedNames::memory_no_name), unfolding(crate::specs::Grammar::task_words))]
     fn task(&mut self, alloc: Global, before: &[Item]) -> Result<TaskLine, GrammarFault>
         ensures ok { IfOk result (λ t. self.old.words ≡ task_words t ++ self.new.words) }
         ensures left { OnOk result (KeepsLines self.old self.new) }
@@ -144,7 +147,7 @@ impl<'a> Reader<'a> {
         ensures positive { IfOk result (λ t. 0 < t.interval) }
         ensures other { IfErr result (λ e. e.kind ≢ Memory → (t : TaskLine) (rest : List Token) → self.old.words ≡ task_words t ++ rest → IsNew (λ t. t.name) (flat_map task_of before.now) t.name → length (flat_map task_of before.now) < 16 → 0 < t.interval → ⊥) }
         ensures names { IfErr result (BeginRefused (λ k. RefusesTask k before.now) self.old) }
-        ensures syntax { IfErr result (λ e. e.kind ≡ Syntax → (t : TaskLine) (rest : List Token) → self.old.words ≡ task_words t ++ rest → 0 < t.interval → ⊥) }
+        ensures stuck { IfErr result (GetsStuck (Key key.Task ∷ task_rest) self.old) }
         ensures value { IfErr result IsGrammarFault }
     {
         self.keyword(Keyword::Task)?;
@@ -189,6 +192,7 @@ impl<'a> Reader<'a> {
         ensures kind { (kind : Kind) → IfOk result (HasFieldKind kind) }
         ensures other { IfErr result (λ e. e.kind ≢ Memory → (r i o : List ℕ) (rest : List Token) → self.old.words ≡ source_words (source.Output r i o) ++ rest → ⊥) }
         ensures tells { IfErr result (λ e. TellsOfName e.kind ⊥ ⊥) }
+        ensures stuck { IfErr result (GetsStuck (AName ∷ Mark mark.Dot ∷ AName ∷ Mark mark.Dot ∷ AName ∷ []) self.old) }
         ensures value { IfErr result IsGrammarFault }
     {
         let resource = self.name(alloc)?;
@@ -212,7 +216,7 @@ impl<'a> Reader<'a> {
         ensures other { IfErr result (λ e. e.kind ≢ Memory → (s : SourceName) (rest : List Token) → self.old.words ≡ source_words s ++ rest → HasFieldKind kind s → ⊥) }
         ensures tells { IfErr result (TellsOfAddress kind self.old.words) }
         ensures line { IfErr result (IsAtNext self.old) }
-        ensures syntax { IfErr result (λ e. e.kind ≡ Syntax → (s : SourceName) (rest : List Token) → self.old.words ≡ source_words s ++ rest → ⊥) }
+        ensures stuck { IfErr result (GetsStuck (ASource ∷ []) self.old) }
         ensures value { IfErr result IsGrammarFault }
     {
         if self.sees_address() {
@@ -239,7 +243,7 @@ impl<'a> Reader<'a> {
         ensures other { IfErr result (λ e. e.kind ≢ Memory → (name : List ℕ) (k : Kind) (rest : List Token) → self.old.words ≡ token.Name name ∷ rest → input_kind_of (variables program.now.program) name ≡ Some k → IsNew (λ b. b.input) before.now name → tally.old.binds < 4096 → ⊥) }
         ensures tells { IfErr result (TellsOfInput tally.old.binds (variables program.now.program) before.now self.old.words) }
         ensures line { IfErr result (IsAtNext self.old) }
-        ensures syntax { IfErr result (λ e. e.kind ≡ Syntax → IsNoneNext token.Name self.old.words) }
+        ensures stuck { IfErr result (GetsStuck (AName ∷ []) self.old) }
         ensures value { IfErr result IsGrammarFault }
     {
         let line = self.line();
@@ -255,7 +259,7 @@ impl<'a> Reader<'a> {
     }
 
     /// A bind of an instance of a type, behind these. The lines of its source are added to `lines`.
-    #[tactic(auto, using(crate::proofs::RefusedNames::no_name, crate::proofs::RefusedNames::memory_no_name, crate::proofs::MissingWords::memory_no_syntax), unfolding(crate::specs::Grammar::bind_words))]
+    #[tactic(auto, using(crate::proofs::RefusedNames::no_name, crate::proofs::RefusedNames::memory_no_name, crate::proofs::UnexpectedWords::memory_no_syntax), unfolding(crate::specs::Grammar::bind_words))]
     fn bind(
         &mut self,
         alloc: Global,
@@ -272,7 +276,7 @@ impl<'a> Reader<'a> {
         ensures tally { OnOk result (tally.new ≡ with_binds tally.old 1) }
         ensures other { IfErr result (λ e. e.kind ≢ Memory → (b : Bind) (rest : List Token) → self.old.words ≡ bind_words b ++ rest → IsOfInputKind (variables program.now.program) b → IsNew (λ b. b.input) before.now b.input → tally.old.binds < 4096 → ⊥) }
         ensures names { IfErr result (BeginRefused (RefusesOneBind tally.old.binds (variables program.now.program) before.now) self.old) }
-        ensures syntax { IfErr result (λ e. e.kind ≡ Syntax → (b : Bind) (rest : List Token) → self.old.words ≡ bind_words b ++ rest → ⊥) }
+        ensures stuck { IfErr result (GetsStuck (AName ∷ bind_rest) self.old) }
         ensures value { IfErr result IsGrammarFault }
     {
         let (input, kind) = self.bound_input(alloc, program, before, tally)?;
@@ -284,7 +288,7 @@ impl<'a> Reader<'a> {
     }
 
     /// The binds of an instance of a type, up to the parenthesis that closes them. The lines of their sources are left in `lines`.
-    #[tactic(auto, using(crate::proofs::RefusedNames::no_name, crate::proofs::RefusedNames::memory_no_name, crate::proofs::MissingWords::memory_no_syntax))]
+    #[tactic(auto, using(crate::proofs::RefusedNames::no_name, crate::proofs::RefusedNames::memory_no_name, crate::proofs::UnexpectedWords::memory_no_syntax))]
     fn binds(
         &mut self,
         alloc: Global,
@@ -297,11 +301,11 @@ impl<'a> Reader<'a> {
         ensures left { OnOk result (KeepsLines self.old self.new) }
         ensures apart { IfOk result (λ binds. AreNamesApart (map (λ b. b.input) binds.items)) }
         ensures kinds { IfOk result (λ binds. All (IsOfInputKind (variables program.now.program)) binds.items) }
-        ensures lined { IfOk result (λ binds. AreKeptLines self.old binds.items (mark_word Close ∷ self.new.words) lines.new.items) }
+        ensures lined { IfOk result (λ binds. AreKeptLines self.old binds.items (mark_word mark.Close ∷ self.new.words) lines.new.items) }
         ensures tally { IfOk result (λ binds. tally.new ≡ with_binds tally.old (length binds.items)) }
         ensures other { IfErr result (λ e. e.kind ≢ Memory → (bs : List Bind) (rest : List Token) → EndWithBinds bs self.old.words rest → AreNamesApart (map (λ b. b.input) bs) → All (IsOfInputKind (variables program.now.program)) bs → tally.old.binds + length bs ≤ 4096 → ⊥) }
         ensures names { IfErr result (BeginRefused (λ k. RefusesBind k tally.old.binds (variables program.now.program)) self.old) }
-        ensures syntax { IfErr result (λ e. e.kind ≡ Syntax → (bs : List Bind) (rest : List Token) → EndWithBinds bs self.old.words rest → ⊥) }
+        ensures stuck { IfErr result (GetsStuck (FirstBind ∷ []) self.old) }
         ensures value { IfErr result IsGrammarFault }
     {
         let mut binds = Vec::new(alloc);
@@ -317,7 +321,7 @@ impl<'a> Reader<'a> {
     }
 
     /// The binds of an instance of a type. There may be no parentheses. The lines of their sources are left in `lines`.
-    #[tactic(auto, using(crate::proofs::RefusedNames::no_name, crate::proofs::RefusedNames::memory_no_name, crate::proofs::MissingWords::memory_no_syntax))]
+    #[tactic(auto, using(crate::proofs::RefusedNames::no_name, crate::proofs::RefusedNames::memory_no_name))]
     fn some_binds(
         &mut self,
         alloc: Global,
@@ -328,14 +332,15 @@ impl<'a> Reader<'a> {
         requires { lines.old.items ≡ [] }
         ensures ok { IfOk result (λ binds. self.old.words ≡ binds_words (binds_listed binds) ++ self.new.words) }
         ensures left { OnOk result (KeepsLines self.old self.new) }
+        ensures whole { IfOk result (λ binds. binds_listed binds ≡ None → IsNotNext (mark_word mark.Open) self.new.words) }
         ensures apart { IfOk result (λ binds. AreNamesApart (map (λ b. b.input) (bound_in binds))) }
         ensures kinds { IfOk result (λ binds. All (IsOfInputKind (variables program.now.program)) (bound_in binds)) }
-        ensures lined { IfOk result (λ binds. AreKeptLines self.old (bound_in binds) (mark_word Close ∷ self.new.words) lines.new.items) }
+        ensures lined { IfOk result (λ binds. AreKeptLines self.old (bound_in binds) (mark_word mark.Close ∷ self.new.words) lines.new.items) }
         ensures tally { IfOk result (λ binds. tally.new ≡ with_binds tally.old (length (bound_in binds))) }
-        ensures other { IfErr result (λ e. e.kind ≢ Memory → (bs : Option (List Bind)) (rest : List Token) → self.old.words ≡ binds_words bs ++ mark_word Semicolon ∷ rest → AreNamesApart (map (λ b. b.input) (items_or_none bs)) → All (IsOfInputKind (variables program.now.program)) (items_or_none bs) → tally.old.binds + length (items_or_none bs) ≤ 4096 → ⊥) }
-        ensures only { OnOk result ((bs : Option (List Bind)) (rest : List Token) → self.old.words ≡ binds_words bs ++ mark_word Semicolon ∷ rest → self.new.words ≡ mark_word Semicolon ∷ rest) }
+        ensures other { IfErr result (λ e. e.kind ≢ Memory → (bs : Option (List Bind)) (rest : List Token) → self.old.words ≡ binds_words bs ++ mark_word mark.Semicolon ∷ rest → AreNamesApart (map (λ b. b.input) (items_or_none bs)) → All (IsOfInputKind (variables program.now.program)) (items_or_none bs) → tally.old.binds + length (items_or_none bs) ≤ 4096 → ⊥) }
+        ensures only { OnOk result ((bs : Option (List Bind)) (rest : List Token) → self.old.words ≡ binds_words bs ++ mark_word mark.Semicolon ∷ rest → self.new.words ≡ mark_word mark.Semicolon ∷ rest) }
         ensures names { IfErr result (BeginRefused (RefusesInParentheses tally.old.binds (variables program.now.program)) self.old) }
-        ensures syntax { IfErr result (λ e. e.kind ≡ Syntax → (bs : Option (List Bind)) (rest : List Token) → self.old.words ≡ binds_words bs ++ mark_word Semicolon ∷ rest → ⊥) }
+        ensures stuck { IfErr result (GetsStuck (MayHaveBinds ∷ []) self.old) }
         ensures value { IfErr result IsGrammarFault }
     {
         if self.sees_punctuation(Punctuation::Open) {
@@ -361,7 +366,7 @@ impl<'a> Reader<'a> {
         ensures other { IfErr result (λ e. e.kind ≢ Memory → (name : List ℕ) (rest : List Token) → self.old.words ≡ token.Name name ∷ rest → IsNew (λ u. u.instance) (flat_map use_of before.now) name → tally.old.instances < 64 → ⊥) }
         ensures tells { IfErr result (TellsOfInstance before.now tally.old.instances self.old.words) }
         ensures line { IfErr result (IsAtNext self.old) }
-        ensures syntax { IfErr result (λ e. e.kind ≡ Syntax → IsNoneNext token.Name self.old.words) }
+        ensures stuck { IfErr result (GetsStuck (AName ∷ []) self.old) }
         ensures value { IfErr result IsGrammarFault }
     {
         let line = self.line();
@@ -380,7 +385,7 @@ impl<'a> Reader<'a> {
         ensures other { IfErr result (λ e. e.kind ≢ Memory → (name : List ℕ) (rest : List Token) → self.old.words ≡ token.Name name ∷ rest → Any (λ t. IsTrue (is_named name t.name)) (flat_map task_of before.now) → ⊥) }
         ensures tells { IfErr result (TellsOfMissing (λ t. t.name) (flat_map task_of before.now) self.old.words) }
         ensures line { IfErr result (IsAtNext self.old) }
-        ensures syntax { IfErr result (λ e. e.kind ≡ Syntax → IsNoneNext token.Name self.old.words) }
+        ensures stuck { IfErr result (GetsStuck (AName ∷ []) self.old) }
         ensures value { IfErr result IsGrammarFault }
     {
         let line = self.line();
@@ -400,13 +405,13 @@ impl<'a> Reader<'a> {
         before: &[Item],
         tally: &mut Tally,
     ) -> Result<Name, GrammarFault>
-        ensures ok { IfOk result (λ name. self.old.words ≡ key_word Program ∷ token.Name name ∷ self.new.words) }
+        ensures ok { IfOk result (λ name. self.old.words ≡ key_word key.Program ∷ token.Name name ∷ self.new.words) }
         ensures left { OnOk result (KeepsLines self.old self.new) }
         ensures new { IfOk result (λ name. IsNew (λ u. u.instance) (flat_map use_of before.now) name) }
         ensures tally { OnOk result (tally.new ≡ with_instance tally.old) }
-        ensures other { IfErr result (λ e. e.kind ≢ Memory → (name : List ℕ) (rest : List Token) → self.old.words ≡ key_word Program ∷ token.Name name ∷ rest → IsNew (λ u. u.instance) (flat_map use_of before.now) name → tally.old.instances < 64 → ⊥) }
+        ensures other { IfErr result (λ e. e.kind ≢ Memory → (name : List ℕ) (rest : List Token) → self.old.words ≡ key_word key.Program ∷ token.Name name ∷ rest → IsNew (λ u. u.instance) (flat_map use_of before.now) name → tally.old.instances < 64 → ⊥) }
         ensures names { (programs : List ProgramTree) → IfErr result (BeginRefused (RefusesFurtherInstance tally.old programs before.now) self.old) }
-        ensures syntax { IfErr result (λ e. e.kind ≡ Syntax → (name : List ℕ) (rest : List Token) → self.old.words ≡ key_word Program ∷ token.Name name ∷ rest → ⊥) }
+        ensures stuck { IfErr result (GetsStuck (Key key.Program ∷ AName ∷ []) self.old) }
         ensures value { IfErr result IsGrammarFault }
     {
         self.keyword(Keyword::Program)?;
@@ -416,12 +421,12 @@ impl<'a> Reader<'a> {
     /// WITH and the name of a task of these lines.
     #[tactic(auto, using(crate::proofs::RefusedNames::no_name))]
     fn task_of_instance(&mut self, alloc: Global, before: &[Item]) -> Result<Name, GrammarFault>
-        ensures ok { IfOk result (λ name. self.old.words ≡ key_word With ∷ token.Name name ∷ self.new.words) }
+        ensures ok { IfOk result (λ name. self.old.words ≡ key_word key.With ∷ token.Name name ∷ self.new.words) }
         ensures left { OnOk result (KeepsLines self.old self.new) }
         ensures known { IfOk result (λ name. Any (λ t. IsTrue (is_named name t.name)) (flat_map task_of before.now)) }
-        ensures other { IfErr result (λ e. e.kind ≢ Memory → (name : List ℕ) (rest : List Token) → self.old.words ≡ key_word With ∷ token.Name name ∷ rest → Any (λ t. IsTrue (is_named name t.name)) (flat_map task_of before.now) → ⊥) }
-        ensures names { IfErr result (BeginRefused (λ k. IsAfter (key_word With) (IsUnknown k (λ t. t.name) (flat_map task_of before.now))) self.old) }
-        ensures syntax { IfErr result (λ e. e.kind ≡ Syntax → (name : List ℕ) (rest : List Token) → self.old.words ≡ key_word With ∷ token.Name name ∷ rest → ⊥) }
+        ensures other { IfErr result (λ e. e.kind ≢ Memory → (name : List ℕ) (rest : List Token) → self.old.words ≡ key_word key.With ∷ token.Name name ∷ rest → Any (λ t. IsTrue (is_named name t.name)) (flat_map task_of before.now) → ⊥) }
+        ensures names { IfErr result (BeginRefused (λ k. IsAfter (key_word key.With) (IsUnknown k (λ t. t.name) (flat_map task_of before.now))) self.old) }
+        ensures stuck { IfErr result (GetsStuck (Key key.With ∷ AName ∷ []) self.old) }
         ensures value { IfErr result IsGrammarFault }
     {
         self.keyword(Keyword::With)?;
@@ -435,12 +440,12 @@ impl<'a> Reader<'a> {
         alloc: Global,
         types: &'t [ProgramText],
     ) -> Result<(Name, &'t ProgramText), GrammarFault>
-        ensures ok { IfOk result (λ p. self.old.words ≡ mark_word Colon ∷ token.Name p.0 ∷ self.new.words) }
+        ensures ok { IfOk result (λ p. self.old.words ≡ mark_word mark.Colon ∷ token.Name p.0 ∷ self.new.words) }
         ensures left { OnOk result (KeepsLines self.old self.new) }
         ensures found { IfOk result (λ p. find (λ t. is_named p.0 t.program.name) types.now ≡ Some p.1.now) }
-        ensures other { IfErr result (λ e. e.kind ≢ Memory → (name : List ℕ) (rest : List Token) → self.old.words ≡ mark_word Colon ∷ token.Name name ∷ rest → find (λ t. is_named name t.program.name) types.now ≢ None → ⊥) }
-        ensures names { IfErr result (BeginRefused (λ k. IsAfter (mark_word Colon) (IsUnknown k (λ p. p.name) (programs_of types.now))) self.old) }
-        ensures syntax { IfErr result (λ e. e.kind ≡ Syntax → (name : List ℕ) (rest : List Token) → self.old.words ≡ mark_word Colon ∷ token.Name name ∷ rest → ⊥) }
+        ensures other { IfErr result (λ e. e.kind ≢ Memory → (name : List ℕ) (rest : List Token) → self.old.words ≡ mark_word mark.Colon ∷ token.Name name ∷ rest → find (λ t. is_named name t.program.name) types.now ≢ None → ⊥) }
+        ensures names { IfErr result (BeginRefused (λ k. IsAfter (mark_word mark.Colon) (IsUnknown k (λ p. p.name) (programs_of types.now))) self.old) }
+        ensures stuck { IfErr result (GetsStuck (Mark mark.Colon ∷ AName ∷ []) self.old) }
         ensures value { IfErr result IsGrammarFault }
     {
         self.punctuation(Punctuation::Colon)?;
@@ -453,7 +458,7 @@ impl<'a> Reader<'a> {
     }
 
     /// A program instance, behind these lines of its resource.
-    #[tactic(auto, using(crate::proofs::RefusedNames::no_name, crate::proofs::RefusedNames::memory_no_name, crate::proofs::MissingWords::memory_no_syntax), unfolding(crate::specs::Grammar::use_words))]
+    #[tactic(auto, using(crate::proofs::RefusedNames::no_name, crate::proofs::RefusedNames::memory_no_name), unfolding(crate::specs::Grammar::use_words))]
     fn instance(
         &mut self,
         alloc: Global,
@@ -469,7 +474,7 @@ impl<'a> Reader<'a> {
         ensures tally { IfOk result (λ u. tally.new ≡ tally_with tally.old (u ∷ [])) }
         ensures other { IfErr result (λ e. e.kind ≢ Memory → (u : Use) (rest : List Token) → self.old.words ≡ use_words u ++ rest → AreTypesApart types.now → IsNew (λ u. u.instance) (flat_map use_of before.now) u.instance → IsUseLawful (types_alone types.now) before.now u → HasRoomFor tally.old (u ∷ []) → ⊥) }
         ensures names { IfErr result (BeginRefused (RefusesFurtherInstance tally.old (programs_of types.now) before.now) self.old) }
-        ensures syntax { IfErr result (λ e. e.kind ≡ Syntax → (u : Use) (rest : List Token) → self.old.words ≡ use_words u ++ rest → ⊥) }
+        ensures stuck { IfErr result (GetsStuck (Key key.Program ∷ instance_rest) self.old) }
         ensures value { IfErr result IsGrammarFault }
     {
         let instance = self.instance_start(alloc, before, tally)?;
@@ -488,7 +493,7 @@ impl<'a> Reader<'a> {
     }
 
     /// A line of a resource, behind these.
-    #[tactic(auto, using(crate::proofs::RefusedNames::no_name, crate::proofs::RefusedNames::memory_no_name, crate::proofs::MissingWords::memory_no_syntax))]
+    #[tactic(auto, using(crate::proofs::RefusedNames::no_name, crate::proofs::RefusedNames::memory_no_name))]
     fn item(
         &mut self,
         alloc: Global,
@@ -503,7 +508,7 @@ impl<'a> Reader<'a> {
         ensures tally { IfOk result (λ x. tally.new ≡ tally_with tally.old (use_of x)) }
         ensures other { IfErr result (λ e. e.kind ≢ Memory → (x : Item) (rest : List Token) → self.old.words ≡ item_words x ++ rest → AreTypesApart types.now → MayFollow (types_alone types.now) before.now x → HasRoomFor tally.old (use_of x) → ⊥) }
         ensures names { IfErr result (BeginRefused (RefusesItem tally.old (programs_of types.now) before.now) self.old) }
-        ensures syntax { IfErr result (λ e. e.kind ≡ Syntax → (x : Item) (rest : List Token) → self.old.words ≡ item_words x ++ rest → All (λ t. 0 < t.interval) (task_of x) → ⊥) }
+        ensures stuck { IfErr result (GetsStuck (AnItem ∷ []) self.old) }
         ensures value { IfErr result IsGrammarFault }
     {
         if self.sees_keyword(Keyword::Task) {
@@ -514,7 +519,7 @@ impl<'a> Reader<'a> {
     }
 
     /// The lines of a resource, up to its end.
-    #[tactic(auto, using(crate::proofs::RefusedNames::no_name, crate::proofs::RefusedNames::memory_no_name, crate::proofs::MissingWords::memory_no_syntax, crate::proofs::WordLists::item_has_words, crate::proofs::ResourceLines::no_items))]
+    #[tactic(auto, using(crate::proofs::RefusedNames::no_name, crate::proofs::RefusedNames::memory_no_name, crate::proofs::UnexpectedWords::memory_no_syntax, crate::proofs::WordLists::item_has_words, crate::proofs::ResourceLines::no_items))]
     fn items(
         &mut self,
         alloc: Global,
@@ -524,11 +529,11 @@ impl<'a> Reader<'a> {
         ensures ok { IfOk result (λ xs. self.old.words ≡ items_words xs.items ++ self.new.words) }
         ensures left { OnOk result (KeepsLines self.old self.new) }
         ensures lawful { IfOk result (λ xs. AreItemsLawful (types_alone types.now) xs.items) }
-        ensures lined { IfOk result (λ xs. (all : List ℕ) → HasLinesOf all self.old → EachBefore item_words (IsItemOn all) xs.items (key_word EndResource ∷ self.new.words)) }
+        ensures lined { IfOk result (λ xs. (all : List ℕ) → HasLinesOf all self.old → EachBefore item_words (IsItemOn all) xs.items (key_word key.EndResource ∷ self.new.words)) }
         ensures tally { IfOk result (λ xs. tally.new ≡ tally_with tally.old (flat_map use_of xs.items)) }
         ensures other { IfErr result (λ e. e.kind ≢ Memory → (xs : List Item) (rest : List Token) → self.old.words ≡ items_words xs ++ rest → AreTypesApart types.now → AreItemsLawful (types_alone types.now) xs → HasRoomFor tally.old (flat_map use_of xs) → ⊥) }
         ensures names { IfErr result (BeginRefused (RefusesFurtherItems tally.old (programs_of types.now)) self.old) }
-        ensures syntax { IfErr result (λ e. e.kind ≡ Syntax → (xs : List Item) (rest : List Token) → self.old.words ≡ items_words xs ++ rest → AreIntervalsPositive xs → ⊥) }
+        ensures stuck { IfErr result (GetsStuck (MoreItems ∷ []) self.old) }
         ensures value { IfErr result IsGrammarFault }
     {
         let mut items = Vec::new(alloc);
@@ -550,7 +555,7 @@ impl<'a> Reader<'a> {
         ensures other { IfErr result (λ e. e.kind ≢ Memory → (name : List ℕ) (rest : List Token) → self.old.words ≡ token.Name name ∷ rest → IsNew (λ r. r.name) before.now name → length before.now < 16 → ⊥) }
         ensures tells { IfErr result (TellsOfResource before.now self.old.words) }
         ensures line { IfErr result (IsAtNext self.old) }
-        ensures syntax { IfErr result (λ e. e.kind ≡ Syntax → IsNoneNext token.Name self.old.words) }
+        ensures stuck { IfErr result (GetsStuck (AName ∷ []) self.old) }
         ensures value { IfErr result IsGrammarFault }
     {
         let line = self.line();
@@ -564,7 +569,7 @@ impl<'a> Reader<'a> {
     }
 
     /// A resource, behind these.
-    #[tactic(auto, unfolding(crate::specs::Grammar::resource_words), using(crate::proofs::RefusedNames::no_name, crate::proofs::RefusedNames::memory_no_name, crate::proofs::MissingWords::memory_no_syntax, crate::proofs::ResourceLines::resource_is_lawful))]
+    #[tactic(auto, unfolding(crate::specs::Grammar::resource_words), using(crate::proofs::RefusedNames::no_name, crate::proofs::RefusedNames::memory_no_name, crate::proofs::ResourceLines::resource_is_lawful))]
     fn resource(
         &mut self,
         alloc: Global,
@@ -581,7 +586,7 @@ impl<'a> Reader<'a> {
         ensures tally { IfOk result (λ r. tally.new ≡ tally_with tally.old (uses_of r)) }
         ensures other { IfErr result (λ e. e.kind ≢ Memory → (r : Resource) (rest : List Token) → self.old.words ≡ resource_words r ++ rest → AreTypesApart types.now → IsNew (λ r. r.name) before.now r.name → length before.now < 16 → IsResourceLawful (types_alone types.now) r → HasRoomFor tally.old (uses_of r) → ⊥) }
         ensures names { IfErr result (BeginRefused (RefusesFurtherResource tally.old (programs_of types.now) before.now) self.old) }
-        ensures syntax { IfErr result (λ e. e.kind ≡ Syntax → (r : Resource) (rest : List Token) → self.old.words ≡ resource_words r ++ rest → IsResourceWellFormed r → ⊥) }
+        ensures stuck { IfErr result (GetsStuck (Key key.Resource ∷ resource_rest) self.old) }
         ensures value { IfErr result IsGrammarFault }
     {
         self.keyword(Keyword::Resource)?;
@@ -593,7 +598,7 @@ impl<'a> Reader<'a> {
     }
 
     /// The resources, one at least, up to the end of the configuration.
-    #[tactic(auto, using(crate::proofs::RefusedNames::no_name, crate::proofs::RefusedNames::memory_no_name, crate::proofs::MissingWords::memory_no_syntax, crate::proofs::WordLists::resource_has_words, crate::proofs::ResourceLines::no_resources))]
+    #[tactic(auto, using(crate::proofs::RefusedNames::no_name, crate::proofs::RefusedNames::memory_no_name, crate::proofs::UnexpectedWords::memory_no_syntax, crate::proofs::WordLists::resource_has_words, crate::proofs::ResourceLines::no_resources))]
     pub fn resources(
         &mut self,
         alloc: Global,
@@ -608,7 +613,7 @@ impl<'a> Reader<'a> {
         ensures tally { IfOk result (λ rs. tally.new ≡ tally_with tally.old (flat_map uses_of rs.items)) }
         ensures other { IfErr result (λ e. e.kind ≢ Memory → (rs : List Resource) (rest : List Token) → self.old.words ≡ resources_words rs ++ rest → 0 < length rs → AreTypesApart types.now → AreResourcesLawful (types_alone types.now) rs → HasRoomFor tally.old (flat_map uses_of rs) → ⊥) }
         ensures names { IfErr result (BeginRefused (RefusesFurtherResources tally.old (programs_of types.now)) self.old) }
-        ensures syntax { IfErr result (λ e. e.kind ≡ Syntax → (rs : List Resource) (rest : List Token) → self.old.words ≡ resources_words rs ++ rest → 0 < length rs → All IsResourceWellFormed rs → ⊥) }
+        ensures stuck { IfErr result (GetsStuck (Key key.Resource ∷ resource_rest ++ MoreResources ∷ []) self.old) }
         ensures value { IfErr result IsGrammarFault }
     {
         let mut resources = Vec::new(alloc);

@@ -1,5 +1,5 @@
 -- What the lexer asks of a text, and promises of one word.
-use Rattle.std.specs.Prelude.{ℕ, ◌+◌, ◌-◌, ◌≤◌, min, take, length, slice_index_or, if◌then◌else◌, MatchOption, ◌≡◌, ◌≢◌, ◌==◌, ◌&&◌, ◌||◌, not, map, Bool, true, false, List, [], ◌∷◌, ◌++◌, Option, Some, None, take_while}
+use Rattle.std.specs.Prelude.{ℕ, ◌+◌, ◌-◌, ◌≤◌, min, take, length, slice_index_or, MatchOption, ◌≡◌, ◌≢◌, ◌⊎◌, ◌==◌, ◌&&◌, ◌||◌, not, map, Bool, true, false, List, [], ◌∷◌, ◌++◌, Option, Some, None, take_while}
 use Rattle.std.specs.Str.{IsUtf8}
 use Rattle.plant_text.specs.declared.token.Token.{Token}
 use Rattle.plant_text.specs.declared.token.Token.TheVariants as token
@@ -7,25 +7,15 @@ use Rattle.plant_text.specs.declared.token.Keyword.{Keyword}
 use Rattle.plant_text.specs.declared.token.Keyword.TheVariants as key
 use Rattle.plant_text.specs.declared.lexer.Stage.{Stage}
 use Rattle.plant_text.specs.declared.lexer.Stage.TheVariants as stage
-use Rattle.plant_text.specs.Words.{is_name_char, word_of}
-use Rattle.plant_text.specs.Spelling.{is_parted, IsGap, IsLineEnd, IsBody, is_one_line, first_line, IsEndLine, feeds, Spells, BeginsWith}
-use Rattle.plant_text.specs.Lines.{WordValue}
-
--- a character of a word that begins with a letter or a digit; `#` stands in durations
-abbrev pub is_run_char : ℕ → Bool
-is_run_char c = is_name_char c || c == 35
+use Rattle.plant_text.specs.Words.{front_len, is_name_char, word_of}
+use Rattle.plant_text.specs.Spelling.{is_parted, IsGap, IsBody, IsBlankLine, IsBodyThen, first_line, IsEndLine, feeds, Spells, BeginsWithThen}
+use Rattle.plant_text.specs.Places.{stage_after}
+pub use Rattle.plant_text.specs.Places.{stage_behind, is_due}
+use Rattle.plant_text.specs.Lines.{WordValue, body_line, IsUnknownWord, OpensComment, HasNoWord}
 
 -- the letters, digits and underscores that a text begins with
 abbrev pub letters : List ℕ → List ℕ
 letters text = take_while is_name_char text
-
--- how long the word is that a text begins with: letters, digits, `_` and `#`, also behind `%`; or `:=`; or one character
-abbrev pub front_len : List ℕ → ℕ
-front_len [] = 0
-front_len (c ∷ more) =
-    if c == 58 && slice_index_or more 0 32 == 61 then 2
-    else (if c == 37 then 1 + length (take_while is_run_char more)
-    else (if is_run_char c then length (take_while is_run_char (c ∷ more)) else 1))
 
 -- the keywords that begin a block of variables
 abbrev pub begins_block : Option Keyword → Bool
@@ -39,12 +29,6 @@ abbrev pub may_run_on : List ℕ → Bool
 may_run_on [] = true
 may_run_on (c ∷ []) = c == 13
 may_run_on (c ∷ e ∷ more) = c == 40 && e == 42
-
--- The text is a gap on one line, the line's end, and the rest.
-abbrev pub IsBlankLine : List ℕ → List ℕ → Type 0
-IsBlankLine text rest =
-    (gap line_end : List ℕ) × (text ≡ gap ++ line_end ++ rest)
-    × IsGap gap × (is_one_line gap ≡ true) × IsLineEnd line_end
 
 -- The text begins with no blank line.
 abbrev pub HasNoBlankLine : List ℕ → Type 0
@@ -74,17 +58,11 @@ part_before text rest = take (length text - length rest) text
 abbrev pub IsPart : List ℕ → Option (List ℕ) → Type 0
 IsPart part body = MatchOption body (IsUtf8 part → ⊥) (λ b. b ≡ part)
 
--- The rest of a line is blank, and then comes this body, before a line of END_PROGRAM.
-abbrev pub IsBodyThen : List ℕ → List ℕ → List ℕ → Type 0
-IsBodyThen text body rest = IsBlankLine text (body ++ rest) × IsBody body × IsEndLine (first_line rest)
-
--- No body that is UTF-8 comes behind a rest of a line that is blank.
-abbrev pub HasNoBodyThen : List ℕ → Type 0
-HasNoBodyThen text = (body rest : List ℕ) → IsBodyThen text body rest → IsUtf8 body → ⊥
-
 -- The text is a word, and the rest behind it.
 abbrev pub IsWordThen : List ℕ → Token → List ℕ → Type 0
-IsWordThen text t rest = (word : List ℕ) × (text ≡ word ++ rest) × (word_of word ≡ t) × (is_parted word rest ≡ true)
+IsWordThen text t rest =
+    (word : List ℕ) × (text ≡ word ++ rest) × (word_of word ≡ t) × (is_parted word rest ≡ true)
+    × (length word ≡ front_len text)
 
 -- The text is a word, if it is a known one, and the rest behind it.
 abbrev pub IsKnownThen : List ℕ → Token → List ℕ → Type 0
@@ -110,34 +88,35 @@ pub record LexerValue : Type 0 where
 abbrev pub line_behind : LexerValue → List ℕ → ℕ
 line_behind l rest = min (l.line + feeds (part_before l.text rest)) 18446744073709551615
 
--- If this is a word, the text begins with it, and then with what the rest begins with. Lines are counted on.
+-- This is left of a text, and begins on a line of this number.
+abbrev pub IsLeft : ℕ → List ℕ → ℕ → List ℕ → Type 0
+IsLeft n left line rest = (line ≡ n) × (rest ≡ left)
+
+-- If this is a word, the text begins with it, on its line, and then the rest is left. Lines are counted on.
 abbrev pub StandsFirst : LexerValue → WordValue → LexerValue → Type 0
 StandsFirst old w new = w.token ≢ token.Unknown → (n : ℕ) → old.line ≡ min n 18446744073709551615
     → (m : ℕ) × (new.line ≡ min m 18446744073709551615)
-    × ((more : List Token) (lines : List ℕ) → BeginsWith m new.text more lines
-    → BeginsWith n old.text (w.token ∷ more) (w.line ∷ lines))
+    × BeginsWithThen (IsLeft m new.text) n old.text (w.token ∷ []) (w.line ∷ [])
 
--- where the word behind this one stands
-abbrev pub stage_behind : Token → Stage → Stage
-stage_behind (token.Keyword key.Program) stage.Outside = stage.Heading
-stage_behind (token.Keyword key.Configuration) stage.Outside = stage.Configuration
-stage_behind t stage.Outside = stage.Outside
-stage_behind (token.Name n) stage.Heading = stage.BodyDue
-stage_behind t stage.Heading = stage.Blocks
-stage_behind t stage.BodyDue = stage.Blocks
-stage_behind (token.Keyword key.EndVar) stage.Blocks = stage.BodyDue
-stage_behind t stage.Blocks = stage.Blocks
-stage_behind t stage.Configuration = stage.Configuration
+-- If this is a word, the next one stands where one does behind it, and no body but itself is counted.
+abbrev pub GoesOn : LexerValue → WordValue → LexerValue → Type 0
+GoesOn old w new = w.token ≢ token.Unknown
+    → (new.stage ≡ stage_after old.stage w.token) × (new.bodies ≤ old.bodies + length (body_line w))
+
+-- If this is unknown, what stands behind the text's gap is no word, or a comment that doesn't end.
+abbrev pub FindsNoWord : LexerValue → WordValue → Type 0
+FindsNoWord old w = w.token ≡ token.Unknown → (n : ℕ) → old.line ≡ min n 18446744073709551615
+    → IsUnknownWord n old.text w.line ⊎ OpensComment old.text
+
+-- If this is unknown, no word stands in front of the text.
+abbrev pub StopsAt : LexerValue → WordValue → Type 0
+StopsAt old w = w.token ≡ token.Unknown → (n : ℕ) → old.line ≡ min n 18446744073709551615
+    → HasNoWord (is_due old.stage) old.bodies n old.text w.line
 
 -- VAR, VAR_INPUT or VAR_OUTPUT
 abbrev pub is_section : Token → Bool
 is_section (token.Keyword k) = begins_block (Some k)
 is_section _ = false
-
--- where a body is due
-abbrev pub is_due : Stage → Bool
-is_due stage.BodyDue = true
-is_due _ = false
 
 -- what may follow a word without a gap: `#` and `=` don't, since they would be part of it, nor does `*`
 abbrev pub may_follow : List ℕ → Bool

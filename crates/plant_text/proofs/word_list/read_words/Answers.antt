@@ -6,6 +6,7 @@ use Rattle.plant_text.specs.Steps.Lexing.{LexerValue}
 use Rattle.plant_text.proofs.SpelledWords.{IsReadTo, read_first, read_next, read_all}
 use Rattle.plant_text.proofs.LineCounts.{counted_first, counted_next, begun_first, begun_next}
 use Rattle.plant_text.proofs.ReadWords.{up_to_first, up_to_next, up_to_end}
+use Rattle.plant_text.proofs.UnknownWords.{placed_first, placed_next, open_first, open_next, known_before_next, stopped_first, stopped_next, known_first, known_next}
 use Rattle.plant_text.proofs.BodyTexts.{texts_of}
 use Rattle.plant_text.proofs.word_list.read_words.Goals as goal
 
@@ -18,6 +19,10 @@ words-init c =
       counted = rw none (counted_first text c.new-lexer.result c.new-lexer.ensures);
       every = rw none (up_to_first text c.new-lexer.result c.new-lexer.ensures);
       begun = rw none (begun_first text);
+      placed = rw none (placed_first text c.new-lexer.result c.new-lexer.ensures);
+      open_at = rw none (open_first c.new-lexer.result);
+      stopped = rw none (stopped_first text);
+      known = rw none known_first;
     }
 
 pub words-preserved : goal.words-preserved
@@ -25,6 +30,7 @@ words-preserved c =
     let text = without_last 13 c.args.text.now in
     let token_of : WordValue → _ = λ w. w.token in
     let word = c.in-Some.word in
+    let known = known_before_next c.words.words.items c.words.lexer word c.words.invariant.open_at (rw c.in-Some.is at c.in_ok-word.ensures.ended) in
     let counted = counted_next text c.words.words.items c.push.new.self.items word c.words.lexer c.next.new.self c.in_ok-push.ensures.items c.words.invariant.counted (rw c.in-Some.is at c.in_ok-word.ensures.first) in
     record {
       spelled = read_next text (map token_of c.words.words.items) (map token_of c.push.new.self.items) word.token c.words.lexer.text c.next.new.self.text
@@ -33,6 +39,10 @@ words-preserved c =
       every = up_to_next text (map token_of c.words.words.items) (map token_of c.push.new.self.items) word c.words.lexer c.next.new.self
           (ap (map token_of) c.in_ok-push.ensures.items ∙ map-append token_of c.words.words.items (word ∷ [])) c.words.invariant.every (rw c.in-Some.is at c.in_ok-word.ensures.every) (rw c.in-Some.is at c.in_ok-word.ensures.none);
       begun = begun_next text c.words.words.items c.push.new.self.items word c.next.new.self c.in_ok-push.ensures.items c.words.invariant.begun counted;
+      placed = placed_next c.words.words.items c.push.new.self.items word c.words.lexer c.next.new.self c.in_ok-push.ensures.items c.words.invariant.placed (rw c.in-Some.is at c.in_ok-word.ensures.goes_on);
+      open_at = open_next c.words.words.items c.push.new.self.items word c.next.new.self c.in_ok-push.ensures.items known (rw c.in-Some.is at c.in_ok-word.ensures.last);
+      stopped = stopped_next text c.words.words.items c.push.new.self.items word c.words.lexer c.in_ok-push.ensures.items known c.words.invariant.counted c.words.invariant.placed (rw c.in-Some.is at c.in_ok-word.ensures.stops);
+      known = known_next c.words.words.items c.push.new.self.items word c.in_ok-push.ensures.items known;
     }
 
 pub returns-clause-spelled : goal.returns-clause-spelled

@@ -1,4 +1,4 @@
-use Rattle.std.proofs.Common.{ℕ, ◌≡◌, ◌≢◌, inl, inr, List, [], ◌++◌, All, map, ap, refl, sym, subst, ◌∙◌}
+use Rattle.std.proofs.Common.{ℕ, ◌≡◌, ◌≢◌, ◌<◌, ◌^◌, inl, inr, List, [], ◌++◌, All, length, map, ap, refl, sym, subst, ◌∙◌}
 use Rattle.std.proofs.lemmas.List.{append-nil, append_cancel_right, map-append, length-map}
 use Rattle.words.specs.Lines.{without_last}
 use Rattle.plant_text.specs.declared.token.Token.{Token}
@@ -8,7 +8,9 @@ use Rattle.plant_text.specs.Lines.{WordValue, body_lines}
 use Rattle.plant_grammar.specs.Grammar.{Tree, words_of}
 use Rattle.plant_grammar.specs.NameFaults as names
 use Rattle.plant_grammar.specs.Lawful.{all_uses, IsTreeLawful}
+use Rattle.plant_grammar.specs.declared.grammar_fault.GrammarFault.{GrammarFault}
 use Rattle.plant_grammar.specs.Steps.Lines.{ReaderValue, HasLinesOf}
+use Rattle.plant_grammar.specs.Steps.Expected.{MeetsMisplaced}
 use Rattle.plant_grammar.specs.Steps.Reading.{tree_written}
 use Rattle.lists.proofs.Results.{kept_fault}
 use Rattle.plant.specs.Faults.{IsPlantFault, IsOfBody, IsOfDeclaredName, kind_of_word, fault_of_word}
@@ -18,7 +20,7 @@ use Rattle.plant.specs.Faultless.{AreBindsFed, IsTreeFaultless}
 use Rattle.plant.specs.SourceFaults.{HasFirstSourceFault}
 use Rattle.plant.specs.declared.plant_fault.PlantFaultKind.TheVariants.{Memory, Syntax}
 use Rattle.plant_grammar.specs.Steps.Reading.{programs_of}
-use Rattle.plant.specs.PlantText.{IsNoPlant, HasFaultlessWords, IsNotOfGrammar, IsBodyFaultIn, IsNameFaultIn}
+use Rattle.plant.specs.PlantText.{IsNoPlant, HasFaultlessWords, IsSyntaxIn, IsBodyFaultIn, IsNameFaultIn}
 use Rattle.plant.proofs.SameTrees.{ladders_same, sources_same}
 use Rattle.plant.specs.StandsFor.{IsPlantOf}
 use Rattle.plant.specs.Steps.Reading.{ReadingValue, tree_of}
@@ -26,6 +28,7 @@ use Rattle.plant.proofs.BodyCounts.{begun_by_programs}
 use Rattle.plant.proofs.DrawnTrees.{drawn_tree, drawn_have_ladders}
 use Rattle.plant.proofs.WordFaults.{plant_of_word, no_body, of_name, no_name, memory_no_body, memory_no_name, body_no_name, syntax_no_memory, body_no_syntax, of_syntax, source_no_syntax}
 use Rattle.plant.proofs.KnownWords.{words_known}
+use Rattle.plant.proofs.MisplacedWords.{syntax_first}
 use Rattle.plant_grammar.specs.SourceLines.{AreSourcesOn}
 use Rattle.plant.proofs.CutSources.{sources_cut}
 use Rattle.plant.proofs.RefusedKnown.{begun_by_front, begun_by_refused, own_lines}
@@ -51,7 +54,7 @@ returns-clause-ok c =
     let same = ap (tree_of read.name) c.new-reading.ensures ∙ drawn_tree read.name texts types rs drawn in
     let spelled = map (λ (w : WordValue). w.token) c.in_ok-words.words in
     let words : spelled ≡ words_of tree =
-    ap (λ (ws : List WordValue). map (λ (w : WordValue). w.token) ws) (sym c.words-2.ensures) ∙ ap (λ (r : ReaderValue). r.words) (sym c.new-reader.ensures) ∙ read.written ∙ ap (λ (rest : List Token). words_of tree ++ rest) c.in_ok-end.ensures.ok ∙ append-nil (words_of tree) in
+    ap (λ (ws : List WordValue). map (λ (w : WordValue). w.token) ws) (sym c.words-2.ensures.value) ∙ ap (λ (r : ReaderValue). r.words) (sym c.new-reader.ensures) ∙ read.written ∙ ap (λ (rest : List Token). words_of tree ++ rest) c.in_ok-end.ensures.ok ∙ append-nil (words_of tree) in
     let known : All (λ w. w ≢ token.Unknown) spelled = subst (λ (ws : List Token). All (λ w. w ≢ token.Unknown) ws) (sym words) (words_known tree) in
     record {
       tree = tree;
@@ -68,8 +71,8 @@ pub returns-in_err-types-clause-body : goal.returns-in_err-types-clause-body
 returns-in_err-types-clause-body c =
     let fault = c.in_err-types.field-0.0 in
     let ws = c.in_ok-words.words in
-    let words : map (λ (w : WordValue). w.token) ws ≡ c.new-reader.result.words = ap (λ (ws : List WordValue). map (λ (w : WordValue). w.token) ws) (sym c.words-2.ensures) ∙ ap (λ (r : ReaderValue). r.words) (sym c.new-reader.ensures) in
-    let bodies : body_lines ws ≡ c.new-reader.result.bodies = ap (λ (ws : List WordValue). body_lines ws) (sym c.words-2.ensures) ∙ ap (λ (r : ReaderValue). r.bodies) (sym c.new-reader.ensures) in
+    let words : map (λ (w : WordValue). w.token) ws ≡ c.new-reader.result.words = ap (λ (ws : List WordValue). map (λ (w : WordValue). w.token) ws) (sym c.words-2.ensures.value) ∙ ap (λ (r : ReaderValue). r.words) (sym c.new-reader.ensures) in
+    let bodies : body_lines ws ≡ c.new-reader.result.bodies = ap (λ (ws : List WordValue). body_lines ws) (sym c.words-2.ensures.value) ∙ ap (λ (r : ReaderValue). r.bodies) (sym c.new-reader.ensures) in
     let texts = c.read_tree-tree.new.texts.items in
     let met = c.read_tree-tree.ensures.texts in
     kept_fault fault (λ f. IsOfBody f.kind → IsBodyFaultIn c.args.text.now f) c.from_residual-in_err-types.result c.from_residual-in_err-types.ensures.1
@@ -105,12 +108,12 @@ pub returns-in_err-resources-clause-name : goal.returns-in_err-resources-clause-
 returns-in_err-resources-clause-name c =
     let word = c.in_err-resources.field-0.0 in
     let ws = c.in_ok-words.words in
-    let words : map (λ (w : WordValue). w.token) ws ≡ c.new-reader.result.words = ap (λ (ws : List WordValue). map (λ (w : WordValue). w.token) ws) (sym c.words-2.ensures) ∙ ap (λ (r : ReaderValue). r.words) (sym c.new-reader.ensures) in
+    let words : map (λ (w : WordValue). w.token) ws ≡ c.new-reader.result.words = ap (λ (ws : List WordValue). map (λ (w : WordValue). w.token) ws) (sym c.words-2.ensures.value) ∙ ap (λ (r : ReaderValue). r.words) (sym c.new-reader.ensures) in
     kept_fault (fault_of_word word) (λ f. IsOfDeclaredName f.kind → IsNameFaultIn c.args.text.now f) c.from_residual-in_err-resources.result c.from_residual-in_err-resources.ensures.1
     (λ of.
     let us = c.words-2.result.now in
     let own = subst (HasLinesOf (map (λ (w : WordValue). w.line) us)) (sym c.new-reader.ensures) (own_lines us _) in
-    let left = subst (λ (vs : List WordValue). HasLinesOf (map (λ (w : WordValue). w.line) vs) c.new-reader.result) c.words-2.ensures own in
+    let left = subst (λ (vs : List WordValue). HasLinesOf (map (λ (w : WordValue). w.line) vs) c.new-reader.result) c.words-2.ensures.value own in
     let met = c.in_err-resources.ensures.name (map (λ (w : WordValue). w.line) ws) left (of_name word.kind of) in
     let texts = c.read_tree-tree.new.texts.items in
     let begun = begun_by_refused (without_last 13 c.args.text.now) (programs_of texts) ws word.kind word.line c.new-reader.result.words c.in_ok-words.ensures.begun words met in
@@ -153,12 +156,12 @@ returns-in_err-plant-clause-name c =
     let tree = tree_written read.name texts rs in
     let same = ap (tree_of read.name) c.new-reading.ensures ∙ drawn_tree read.name texts c.in_ok-types.types.items rs c.in_ok-types.ensures.ok in
     let ws = c.in_ok-words.words in
-    let words : map (λ (w : WordValue). w.token) ws ≡ c.new-reader.result.words = ap (λ (ws : List WordValue). map (λ (w : WordValue). w.token) ws) (sym c.words-2.ensures) ∙ ap (λ (r : ReaderValue). r.words) (sym c.new-reader.ensures) in
+    let words : map (λ (w : WordValue). w.token) ws ≡ c.new-reader.result.words = ap (λ (ws : List WordValue). map (λ (w : WordValue). w.token) ws) (sym c.words-2.ensures.value) ∙ ap (λ (r : ReaderValue). r.words) (sym c.new-reader.ensures) in
     let begun = begun_by_front (without_last 13 c.args.text.now) ws c.new-reader.result.words (words_of tree) c.read_tree-tree.new.reader.words c.in_ok-words.ensures.begun words read.written (words_known tree) in
     let us = c.words-2.result.now in
     let line_of : WordValue → ℕ = λ (w : WordValue). w.line in
     let own = subst (HasLinesOf (map line_of us)) (sym c.new-reader.ensures) (own_lines us _) in
-    let left = subst (λ (vs : List WordValue). HasLinesOf (map line_of vs) c.new-reader.result) c.words-2.ensures own in
+    let left = subst (λ (vs : List WordValue). HasLinesOf (map line_of vs) c.new-reader.result) c.words-2.ensures.value own in
     let parts : map line_of ws ≡ map line_of begun.0 ++ map line_of begun.3 = ap (map line_of) begun.4 ∙ map-append line_of begun.0 begun.3 in
     let lined = sources_cut (map line_of begun.0) (map line_of begun.3) c.read_tree-tree.new.reader.words (length-map begun.3 line_of ∙ begun.5) rs (subst (λ (all : List ℕ). AreSourcesOn all rs c.read_tree-tree.new.reader.words) parts (c.in_ok-resources.ensures.lined (map line_of ws) left)) in
     inr (record {
@@ -196,7 +199,7 @@ pub returns-in_err-types-clause-refused : goal.returns-in_err-types-clause-refus
 returns-in_err-types-clause-refused c =
     let fault = c.in_err-types.field-0.0 in
     let ws = c.in_ok-words.words in
-    let words : map (λ (w : WordValue). w.token) ws ≡ c.new-reader.result.words = ap (λ (ws : List WordValue). map (λ (w : WordValue). w.token) ws) (sym c.words-2.ensures) ∙ ap (λ (r : ReaderValue). r.words) (sym c.new-reader.ensures) in
+    let words : map (λ (w : WordValue). w.token) ws ≡ c.new-reader.result.words = ap (λ (ws : List WordValue). map (λ (w : WordValue). w.token) ws) (sym c.words-2.ensures.value) ∙ ap (λ (r : ReaderValue). r.words) (sym c.new-reader.ensures) in
     let texts = c.read_tree-tree.new.texts.items in
     let met = c.read_tree-tree.ensures.texts in
     kept_fault fault (λ f. f.kind ≢ Memory → IsNoPlant c.args.text.now) c.from_residual-in_err-types.result c.from_residual-in_err-types.ensures.1
@@ -209,7 +212,7 @@ pub returns-in_err-resources-clause-refused : goal.returns-in_err-resources-clau
 returns-in_err-resources-clause-refused c =
     let word = c.in_err-resources.field-0.0 in
     let ws = c.in_ok-words.words in
-    let words : map (λ (w : WordValue). w.token) ws ≡ c.new-reader.result.words = ap (λ (ws : List WordValue). map (λ (w : WordValue). w.token) ws) (sym c.words-2.ensures) ∙ ap (λ (r : ReaderValue). r.words) (sym c.new-reader.ensures) in
+    let words : map (λ (w : WordValue). w.token) ws ≡ c.new-reader.result.words = ap (λ (ws : List WordValue). map (λ (w : WordValue). w.token) ws) (sym c.words-2.ensures.value) ∙ ap (λ (r : ReaderValue). r.words) (sym c.new-reader.ensures) in
     kept_fault (fault_of_word word) (λ f. f.kind ≢ Memory → IsNoPlant c.args.text.now) c.from_residual-in_err-resources.result c.from_residual-in_err-resources.ensures.1
     (λ other tree spelled faultless.
     let start : c.new-reader.result.words ≡ words_of tree ++ [] = sym words ∙ c.in_ok-words.ensures.every (words_of tree) (c.words_are_in_place.ensures tree faultless.lawful.few_types) spelled ∙ sym (append-nil (words_of tree)) in
@@ -219,7 +222,7 @@ pub returns-in_err-plant-clause-refused : goal.returns-in_err-plant-clause-refus
 returns-in_err-plant-clause-refused c =
     let word = c.in_err-plant.field-0.0 in
     let ws = c.in_ok-words.words in
-    let words : map (λ (w : WordValue). w.token) ws ≡ c.new-reader.result.words = ap (λ (ws : List WordValue). map (λ (w : WordValue). w.token) ws) (sym c.words-2.ensures) ∙ ap (λ (r : ReaderValue). r.words) (sym c.new-reader.ensures) in
+    let words : map (λ (w : WordValue). w.token) ws ≡ c.new-reader.result.words = ap (λ (ws : List WordValue). map (λ (w : WordValue). w.token) ws) (sym c.words-2.ensures.value) ∙ ap (λ (r : ReaderValue). r.words) (sym c.new-reader.ensures) in
     let texts = c.read_tree-tree.new.texts.items in
     let types = c.in_ok-types.types.items in
     let rs = c.in_ok-resources.resources.items in
@@ -235,7 +238,7 @@ pub returns-in_err-end-clause-refused : goal.returns-in_err-end-clause-refused
 returns-in_err-end-clause-refused c =
     let word = c.in_err-end.field-0.0 in
     let ws = c.in_ok-words.words in
-    let words : map (λ (w : WordValue). w.token) ws ≡ c.new-reader.result.words = ap (λ (ws : List WordValue). map (λ (w : WordValue). w.token) ws) (sym c.words-2.ensures) ∙ ap (λ (r : ReaderValue). r.words) (sym c.new-reader.ensures) in
+    let words : map (λ (w : WordValue). w.token) ws ≡ c.new-reader.result.words = ap (λ (ws : List WordValue). map (λ (w : WordValue). w.token) ws) (sym c.words-2.ensures.value) ∙ ap (λ (r : ReaderValue). r.words) (sym c.new-reader.ensures) in
     kept_fault (fault_of_word word) (λ f. f.kind ≢ Memory → IsNoPlant c.args.text.now) c.from_residual-in_err-end.result c.from_residual-in_err-end.ensures.1
     (λ other tree spelled faultless.
     let start : c.new-reader.result.words ≡ words_of tree ++ [] = sym words ∙ c.in_ok-words.ensures.every (words_of tree) (c.words_are_in_place.ensures tree faultless.lawful.few_types) spelled ∙ sym (append-nil (words_of tree)) in
@@ -244,30 +247,37 @@ returns-in_err-end-clause-refused c =
 pub returns-in_err-types-clause-syntax : goal.returns-in_err-types-clause-syntax
 returns-in_err-types-clause-syntax c =
     let fault = c.in_err-types.field-0.0 in
-    kept_fault fault (λ f. f.kind ≡ Syntax → IsNotOfGrammar c.args.text.now) c.from_residual-in_err-types.result c.from_residual-in_err-types.ensures.1
+    kept_fault fault (λ f. f.kind ≡ Syntax → IsSyntaxIn c.args.text.now f) c.from_residual-in_err-types.result c.from_residual-in_err-types.ensures.1
     (λ syntax. let is = (c.in_err-types.ensures.fault (syntax_no_memory fault syntax)).fault_is in absurd (body_no_syntax fault.kind is.why is.kind_is syntax))
 
 pub returns-in_err-resources-clause-syntax : goal.returns-in_err-resources-clause-syntax
 returns-in_err-resources-clause-syntax c =
     let word = c.in_err-resources.field-0.0 in
     let ws = c.in_ok-words.words in
-    let words : map (λ (w : WordValue). w.token) ws ≡ c.new-reader.result.words = ap (λ (ws : List WordValue). map (λ (w : WordValue). w.token) ws) (sym c.words-2.ensures) ∙ ap (λ (r : ReaderValue). r.words) (sym c.new-reader.ensures) in
-    kept_fault (fault_of_word word) (λ f. f.kind ≡ Syntax → IsNotOfGrammar c.args.text.now) c.from_residual-in_err-resources.result c.from_residual-in_err-resources.ensures.1
-    (λ syntax tree more few formed plain spelled.
-    let start : c.new-reader.result.words ≡ words_of tree ++ more = sym words ∙ c.in_ok-words.ensures.every (words_of tree ++ more) (c.words_behind_are_in_place.ensures tree more few plain) spelled in
-    absurd (c.in_err-resources.ensures.syntax (of_syntax word.kind syntax) tree more start formed))
+    let words : map (λ (w : WordValue). w.token) ws ≡ c.new-reader.result.words = ap (λ (ws : List WordValue). map (λ (w : WordValue). w.token) ws) (sym c.words-2.ensures.value) ∙ ap (λ (r : ReaderValue). r.words) (sym c.new-reader.ensures) in
+    let us = c.words-2.result.now in
+    let own = subst (HasLinesOf (map (λ (w : WordValue). w.line) us)) (sym c.new-reader.ensures) (own_lines us _) in
+    let left = subst (λ (vs : List WordValue). HasLinesOf (map (λ (w : WordValue). w.line) vs) c.new-reader.result) c.words-2.ensures.value own in
+    kept_fault (fault_of_word word) (λ f. f.kind ≡ Syntax → IsSyntaxIn c.args.text.now f) c.from_residual-in_err-resources.result c.from_residual-in_err-resources.ensures.1
+    (λ syntax. record {
+      no_plant = λ tree more few formed plain spelled.
+          let start : c.new-reader.result.words ≡ words_of tree ++ more = sym words ∙ c.in_ok-words.ensures.every (words_of tree ++ more) (c.words_behind_are_in_place.ensures tree more few plain) spelled in
+          absurd (c.in_err-resources.ensures.syntax (of_syntax word.kind syntax) tree more start formed);
+      first = syntax_first c.args.text.now ws c.new-reader.result word.line words left c.in_ok-words.ensures.spelled c.in_ok-words.ensures.begun c.in_ok-words.ensures.stops c.in_ok-words.ensures.known
+          (c.in_err-resources.ensures.misplaced (of_syntax word.kind syntax) (subst (λ (r : ReaderValue). length r.words < 2 ^ 63) (sym c.new-reader.ensures) (subst (λ n. n < 2 ^ 63) (sym (length-map c.words-2.result.now (λ (w : WordValue). w.token))) c.words-2.ensures.few)));
+    })
 
 pub returns-in_err-plant-clause-syntax : goal.returns-in_err-plant-clause-syntax
 returns-in_err-plant-clause-syntax c =
     let word = c.in_err-plant.field-0.0 in
-    kept_fault (fault_of_word word) (λ f. f.kind ≡ Syntax → IsNotOfGrammar c.args.text.now) c.from_residual-in_err-plant.result c.from_residual-in_err-plant.ensures.1
+    kept_fault (fault_of_word word) (λ f. f.kind ≡ Syntax → IsSyntaxIn c.args.text.now f) c.from_residual-in_err-plant.result c.from_residual-in_err-plant.ensures.1
     (λ syntax. absurd (source_no_syntax word.kind c.in_err-plant.ensures.tells syntax))
 
 pub returns-in_err-end-clause-syntax : goal.returns-in_err-end-clause-syntax
 returns-in_err-end-clause-syntax c =
     let word = c.in_err-end.field-0.0 in
     let ws = c.in_ok-words.words in
-    let words : map (λ (w : WordValue). w.token) ws ≡ c.new-reader.result.words = ap (λ (ws : List WordValue). map (λ (w : WordValue). w.token) ws) (sym c.words-2.ensures) ∙ ap (λ (r : ReaderValue). r.words) (sym c.new-reader.ensures) in
+    let words : map (λ (w : WordValue). w.token) ws ≡ c.new-reader.result.words = ap (λ (ws : List WordValue). map (λ (w : WordValue). w.token) ws) (sym c.words-2.ensures.value) ∙ ap (λ (r : ReaderValue). r.words) (sym c.new-reader.ensures) in
     let read = c.in_ok-resources.ensures.ok in
     let texts = c.read_tree-tree.new.texts.items in
     let types = c.in_ok-types.types.items in
@@ -275,15 +285,22 @@ returns-in_err-end-clause-syntax c =
     let drawn = c.in_ok-types.ensures.ok in
     let found = tree_written read.name texts rs in
     let same = ap (tree_of read.name) c.new-reading.ensures ∙ drawn_tree read.name texts types rs drawn in
-    kept_fault (fault_of_word word) (λ f. f.kind ≡ Syntax → IsNotOfGrammar c.args.text.now) c.from_residual-in_err-end.result c.from_residual-in_err-end.ensures.1
-    (λ syntax tree more few formed plain spelled.
-    let start : c.new-reader.result.words ≡ words_of tree ++ more = sym words ∙ c.in_ok-words.ensures.every (words_of tree ++ more) (c.words_behind_are_in_place.ensures tree more few plain) spelled in
-    let left = (c.in_ok-resources.ensures.only tree more start).0 in
-    let both : words_of found ++ more ≡ words_of tree ++ more = ap (λ (rest : List Token). words_of found ++ rest) (sym left) ∙ sym read.written ∙ start in
-    let faultless : IsTreeFaultless found = record {
-      lawful = read.lawful;
-      drawn = drawn_have_ladders texts types drawn;
-      sources = subst (λ (t : Tree). All (AreBindsFed t) (all_uses t)) same (c.in_ok-plant.ensures.sources read.name);
-    } in
-    let of_faultless : HasFaultlessWords tree = (found, append_cancel_right (words_of found) (words_of tree) more both, faultless) in
-    ((λ none. c.in_err-end.ensures.err.1 (left ∙ none)), of_faultless))
+    let us = c.words-2.result.now in
+    let own = subst (HasLinesOf (map (λ (w : WordValue). w.line) us)) (sym c.new-reader.ensures) (own_lines us _) in
+    let left = subst (λ (vs : List WordValue). HasLinesOf (map (λ (w : WordValue). w.line) vs) c.new-reader.result) c.words-2.ensures.value own in
+    kept_fault (fault_of_word word) (λ f. f.kind ≡ Syntax → IsSyntaxIn c.args.text.now f) c.from_residual-in_err-end.result c.from_residual-in_err-end.ensures.1
+    (λ syntax. record {
+      no_plant = λ tree more few formed plain spelled.
+          let start : c.new-reader.result.words ≡ words_of tree ++ more = sym words ∙ c.in_ok-words.ensures.every (words_of tree ++ more) (c.words_behind_are_in_place.ensures tree more few plain) spelled in
+          let left = (c.in_ok-resources.ensures.only tree more start).0 in
+          let both : words_of found ++ more ≡ words_of tree ++ more = ap (λ (rest : List Token). words_of found ++ rest) (sym left) ∙ sym read.written ∙ start in
+          let faultless : IsTreeFaultless found = record {
+            lawful = read.lawful;
+            drawn = drawn_have_ladders texts types drawn;
+            sources = subst (λ (t : Tree). All (AreBindsFed t) (all_uses t)) same (c.in_ok-plant.ensures.sources read.name);
+          } in
+          let of_faultless : HasFaultlessWords tree = (found, append_cancel_right (words_of found) (words_of tree) more both, faultless) in
+          ((λ none. c.in_err-end.ensures.err.1 (left ∙ none)), of_faultless);
+      first = syntax_first c.args.text.now ws c.new-reader.result word.line words left c.in_ok-words.ensures.spelled c.in_ok-words.ensures.begun c.in_ok-words.ensures.stops c.in_ok-words.ensures.known
+          (subst (λ n. MeetsMisplaced c.new-reader.result n) (sym (ap (λ (f : GrammarFault). f.line) c.in_err-end.ensures.err.0)) (c.in_ok-resources.ensures.behind c.in_err-end.ensures.err.1));
+    })

@@ -1,4 +1,4 @@
-use Rattle.std.proofs.Common.{◌≡◌, ◌≢◌, ◌++◌, List, ◌∙◌, ap, subst}
+use Rattle.std.proofs.Common.{◌≡◌, ◌≢◌, ◌<◌, ◌^◌, ◌++◌, List, length, ◌∙◌, ap, subst}
 use Rattle.std.specs.List.{flat_map}
 use Rattle.lists.proofs.Results.{kept_fault}
 use Rattle.plant_grammar.specs.Grammar.{Tree, TextValue, words_of}
@@ -6,15 +6,19 @@ use Rattle.plant_grammar.specs.Lawful.{uses_of}
 use Rattle.plant_grammar.specs.NameFaults.{RefusesResources}
 use Rattle.plant_grammar.specs.Steps.Declaring.{BeginWith, BeginRefused, IsLineBefore, RefusesFurtherProgram, RefusesPlantWords}
 use Rattle.plant_grammar.specs.Steps.ReadParts.{tally_with, types_alone, AreResourcesLawful}
-use Rattle.plant_grammar.specs.Steps.Reading.{programs_of, all_words}
+use Rattle.plant_grammar.specs.Steps.Reading.{programs_of, all_words, tree_written}
 use Rattle.plant_grammar.proofs.RefusedPlaces.{further_program, in_configuration}
 use Rattle.plant_grammar.proofs.WholeTrees.{tree_is, begun_words, begin_with_texts}
 use Rattle.plant_text.specs.declared.token.Token.{Token}
 use Rattle.plant_grammar.specs.declared.grammar_fault.GrammarFaultKind.TheVariants.{Memory, Syntax}
 use Rattle.plant_grammar.specs.Lawful.{IsTreeLawful}
 use Rattle.plant_grammar.proofs.LawfulTrees.{programs_allowed, behind_programs, behind_name, name_follows, resources_allowed, read_alone}
-use Rattle.plant_grammar.proofs.MissingWords.{syntax_no_memory, programs_missing}
+use Rattle.plant_grammar.specs.Steps.Expected.{MeetsMisplaced}
+use Rattle.plant_text.specs.declared.token.Keyword.TheVariants as key
+use Rattle.plant_grammar.proofs.UnexpectedWords.{key_stuck, name_stuck}
+use Rattle.plant_grammar.proofs.MisplacedWords.{resources_expected, name_expected, configuration_expected, stuck_behind_read, meets_misplaced, stuck_no_plant, misplaced_behind}
 use Rattle.plant_grammar.specs.WellFormed.{IsTreeWellFormed}
+use Rattle.plant_grammar.proofs.StuckBehind.{stuck_after_key, stuck_after_name}
 use Rattle.plant_grammar.proofs.grammar.read_tree.read_tree.Goals as goal
 
 pub returns-clause-ok : goal.returns-clause-ok
@@ -100,32 +104,79 @@ pub returns-in_err-programs-clause-syntax : goal.returns-in_err-programs-clause-
 returns-in_err-programs-clause-syntax c =
     let fault = c.in_err-programs.field-0.0 in
     kept_fault fault (λ f. f.kind ≡ Syntax → (tree : Tree) (rest : List Token) → c.args.reader.now.words ≡ words_of tree ++ rest → IsTreeWellFormed tree → ⊥) c.from_residual.result c.from_residual.ensures.1
-    (λ syntax tree rest e formed. programs_missing c.args.texts.now.items tree c.args.reader.now.words rest c.requires e formed (c.in_err-programs.ensures.syntax syntax))
+    (λ syntax. stuck_no_plant c.args.reader.now fault.line (c.in_err-programs.ensures.stuck syntax configuration_expected))
 
 pub returns-in_err-keyword-clause-syntax : goal.returns-in_err-keyword-clause-syntax
 returns-in_err-keyword-clause-syntax c =
     let fault = c.in_err-keyword.field-0.0 in
     kept_fault fault (λ f. f.kind ≡ Syntax → (tree : Tree) (rest : List Token) → c.args.reader.now.words ≡ words_of tree ++ rest → IsTreeWellFormed tree → ⊥) c.from_residual-in_err-keyword.result c.from_residual-in_err-keyword.ensures.1
-    (λ syntax tree rest e formed.
-    let one = behind_programs c.args.texts.now.items c.programs.new.texts.items tree c.args.reader.now.words c.programs.new.self.words rest c.requires c.in_ok-programs.ensures.ok c.in_ok-programs.ensures.none e in
-    c.in_err-keyword.ensures.other _ one.1)
+    (λ syntax. stuck_no_plant c.args.reader.now fault.line
+    (stuck_behind_read (programs_of c.programs.new.texts.items) c.args.reader.now c.programs.new.self fault
+    (begun_words c.args.texts.now.items c.programs.new.texts.items c.args.reader.now.words c.programs.new.self.words c.requires c.in_ok-programs.ensures.ok) c.in_ok-programs.ensures.left c.programs.ensures.declared.declared c.in_ok-programs.ensures.none
+    (key_stuck key.Configuration name_expected c.programs.new.self fault c.in_err-keyword.ensures.err.0 c.in_err-keyword.ensures.other) syntax))
 
 pub returns-in_err-_name-clause-syntax : goal.returns-in_err-_name-clause-syntax
 returns-in_err-_name-clause-syntax c =
     let fault = c.in_err-_name.field-0.0 in
     kept_fault fault (λ f. f.kind ≡ Syntax → (tree : Tree) (rest : List Token) → c.args.reader.now.words ≡ words_of tree ++ rest → IsTreeWellFormed tree → ⊥) c.from_residual-in_err-_name.result c.from_residual-in_err-_name.ensures.1
-    (λ syntax tree rest e formed.
-    let one = behind_programs c.args.texts.now.items c.programs.new.texts.items tree c.args.reader.now.words c.programs.new.self.words rest c.requires c.in_ok-programs.ensures.ok c.in_ok-programs.ensures.none e in
-    c.in_err-_name.ensures.other (syntax_no_memory fault syntax) tree.name _ (name_follows tree c.programs.new.self.words c.keyword.new.self.words rest one.1 c.in_ok-keyword.ensures.ok))
+    (λ syntax. stuck_no_plant c.args.reader.now fault.line
+    (stuck_behind_read (programs_of c.programs.new.texts.items) c.args.reader.now c.programs.new.self fault
+    (begun_words c.args.texts.now.items c.programs.new.texts.items c.args.reader.now.words c.programs.new.self.words c.requires c.in_ok-programs.ensures.ok) c.in_ok-programs.ensures.left c.programs.ensures.declared.declared c.in_ok-programs.ensures.none
+    (stuck_after_key key.Configuration name_expected c.programs.new.self c.keyword.new.self fault c.in_ok-keyword.ensures.ok c.in_ok-keyword.ensures.left
+    (name_stuck resources_expected c.keyword.new.self fault c.in_err-_name.ensures.err c.in_err-_name.ensures.other)) syntax))
 
 pub returns-in_err-resources-clause-syntax : goal.returns-in_err-resources-clause-syntax
 returns-in_err-resources-clause-syntax c =
     let fault = c.in_err-resources.field-0.0 in
     kept_fault fault (λ f. f.kind ≡ Syntax → (tree : Tree) (rest : List Token) → c.args.reader.now.words ≡ words_of tree ++ rest → IsTreeWellFormed tree → ⊥) c.from_residual-in_err-resources.result c.from_residual-in_err-resources.ensures.1
-    (λ syntax tree rest e formed.
-    let one = behind_programs c.args.texts.now.items c.programs.new.texts.items tree c.args.reader.now.words c.programs.new.self.words rest c.requires c.in_ok-programs.ensures.ok c.in_ok-programs.ensures.none e in
-    c.in_err-resources.ensures.syntax syntax tree.resources rest
-    (behind_name tree c.in_ok-_name._name c.programs.new.self.words c.keyword.new.self.words c.name.new.self.words rest one.1 c.in_ok-keyword.ensures.ok c.in_ok-_name.ensures.ok) formed.some_resource formed.resources)
+    (λ syntax. stuck_no_plant c.args.reader.now fault.line
+    (stuck_behind_read (programs_of c.programs.new.texts.items) c.args.reader.now c.programs.new.self fault
+    (begun_words c.args.texts.now.items c.programs.new.texts.items c.args.reader.now.words c.programs.new.self.words c.requires c.in_ok-programs.ensures.ok) c.in_ok-programs.ensures.left c.programs.ensures.declared.declared c.in_ok-programs.ensures.none
+    (stuck_after_key key.Configuration name_expected c.programs.new.self c.keyword.new.self fault c.in_ok-keyword.ensures.ok c.in_ok-keyword.ensures.left
+    (stuck_after_name c.in_ok-_name._name resources_expected c.keyword.new.self c.name.new.self fault c.in_ok-_name.ensures.ok c.in_ok-_name.ensures.left
+    c.in_err-resources.ensures.stuck)) syntax))
+
+pub returns-in_err-programs-clause-misplaced : goal.returns-in_err-programs-clause-misplaced
+returns-in_err-programs-clause-misplaced c =
+    let fault = c.in_err-programs.field-0.0 in
+    kept_fault fault (λ f. f.kind ≡ Syntax → length c.args.reader.now.words < 2 ^ 63 → MeetsMisplaced c.args.reader.now f.line) c.from_residual.result c.from_residual.ensures.1
+    (λ syntax few. meets_misplaced c.args.reader.now fault.line few (c.in_err-programs.ensures.stuck syntax configuration_expected))
+
+pub returns-in_err-keyword-clause-misplaced : goal.returns-in_err-keyword-clause-misplaced
+returns-in_err-keyword-clause-misplaced c =
+    let fault = c.in_err-keyword.field-0.0 in
+    kept_fault fault (λ f. f.kind ≡ Syntax → length c.args.reader.now.words < 2 ^ 63 → MeetsMisplaced c.args.reader.now f.line) c.from_residual-in_err-keyword.result c.from_residual-in_err-keyword.ensures.1
+    (λ syntax few. meets_misplaced c.args.reader.now fault.line few
+    (stuck_behind_read (programs_of c.programs.new.texts.items) c.args.reader.now c.programs.new.self fault
+    (begun_words c.args.texts.now.items c.programs.new.texts.items c.args.reader.now.words c.programs.new.self.words c.requires c.in_ok-programs.ensures.ok) c.in_ok-programs.ensures.left c.programs.ensures.declared.declared c.in_ok-programs.ensures.none
+    (key_stuck key.Configuration name_expected c.programs.new.self fault c.in_err-keyword.ensures.err.0 c.in_err-keyword.ensures.other) syntax))
+
+pub returns-in_err-_name-clause-misplaced : goal.returns-in_err-_name-clause-misplaced
+returns-in_err-_name-clause-misplaced c =
+    let fault = c.in_err-_name.field-0.0 in
+    kept_fault fault (λ f. f.kind ≡ Syntax → length c.args.reader.now.words < 2 ^ 63 → MeetsMisplaced c.args.reader.now f.line) c.from_residual-in_err-_name.result c.from_residual-in_err-_name.ensures.1
+    (λ syntax few. meets_misplaced c.args.reader.now fault.line few
+    (stuck_behind_read (programs_of c.programs.new.texts.items) c.args.reader.now c.programs.new.self fault
+    (begun_words c.args.texts.now.items c.programs.new.texts.items c.args.reader.now.words c.programs.new.self.words c.requires c.in_ok-programs.ensures.ok) c.in_ok-programs.ensures.left c.programs.ensures.declared.declared c.in_ok-programs.ensures.none
+    (stuck_after_key key.Configuration name_expected c.programs.new.self c.keyword.new.self fault c.in_ok-keyword.ensures.ok c.in_ok-keyword.ensures.left
+    (name_stuck resources_expected c.keyword.new.self fault c.in_err-_name.ensures.err c.in_err-_name.ensures.other)) syntax))
+
+pub returns-in_err-resources-clause-misplaced : goal.returns-in_err-resources-clause-misplaced
+returns-in_err-resources-clause-misplaced c =
+    let fault = c.in_err-resources.field-0.0 in
+    kept_fault fault (λ f. f.kind ≡ Syntax → length c.args.reader.now.words < 2 ^ 63 → MeetsMisplaced c.args.reader.now f.line) c.from_residual-in_err-resources.result c.from_residual-in_err-resources.ensures.1
+    (λ syntax few. meets_misplaced c.args.reader.now fault.line few
+    (stuck_behind_read (programs_of c.programs.new.texts.items) c.args.reader.now c.programs.new.self fault
+    (begun_words c.args.texts.now.items c.programs.new.texts.items c.args.reader.now.words c.programs.new.self.words c.requires c.in_ok-programs.ensures.ok) c.in_ok-programs.ensures.left c.programs.ensures.declared.declared c.in_ok-programs.ensures.none
+    (stuck_after_key key.Configuration name_expected c.programs.new.self c.keyword.new.self fault c.in_ok-keyword.ensures.ok c.in_ok-keyword.ensures.left
+    (stuck_after_name c.in_ok-_name._name resources_expected c.keyword.new.self c.name.new.self fault c.in_ok-_name.ensures.ok c.in_ok-_name.ensures.left
+    c.in_err-resources.ensures.stuck)) syntax))
 
 pub returns-clause-lined : goal.returns-clause-lined
 returns-clause-lined c = λ all h. c.in_ok-resources.ensures.lined all (c.in_ok-_name.ensures.left all (c.in_ok-keyword.ensures.left all (c.in_ok-programs.ensures.left all h)))
+
+pub returns-clause-behind : goal.returns-clause-behind
+returns-clause-behind c =
+    let read = returns-clause-ok c in
+    misplaced_behind (tree_written read.name c.programs.new.texts.items c.in_ok-resources.resources.items) c.args.reader.now c.resources.new.self read.written
+    (λ all h. c.in_ok-resources.ensures.left all (c.in_ok-_name.ensures.left all (c.in_ok-keyword.ensures.left all (c.in_ok-programs.ensures.left all h)))) read.lawful

@@ -1,8 +1,10 @@
-use Rattle.std.proofs.Common.{◌≡◌, drop, arith, rules, tests}
+use Rattle.std.proofs.Common.{◌≡◌, take, drop, arith, rules, tests}
+use Rattle.plant_text.specs.Words.{front_len}
 use Rattle.plant_text.proofs.BodyLines.{empty_of_length}
 use Rattle.plant_text.proofs.ReadWords.{gap_read, nothing_left, comment_left, no_word_left, front_two, not_empty}
 use Rattle.plant_text.proofs.SpelledWords.{word_read}
 use Rattle.plant_text.proofs.LineCounts.{word_stands}
+use Rattle.plant_text.proofs.UnknownWords.{word_goes_on, no_word_found, open_found}
 use Rattle.plant_text.proofs.lexer.Lexer.word_behind_gap.Goals as goal
 
 pub returns-clause-word : goal.returns-clause-word
@@ -41,3 +43,18 @@ returns-clause-none c = λ gap.
     let same : c.args.self.now.text ≡ c.self.inside.rest.now = cc in
     let none = no_word_left c.args.self.now.text c.self.inside.rest.now c.behind_gap-rest.result.now same c.behind_gap-rest.ensures gap in
     absurd (not_empty c.behind_gap-rest.result.now c.is_empty.result c.is_empty.ensures c.if-is_empty.false none)
+
+pub returns-clause-goes_on : goal.returns-clause-goes_on
+returns-clause-goes_on c =
+    word_goes_on c.args.self.now c.advance.new.self c.word.new.self c.in_ok-word.field-0 (take (front_len c.advance.new.self.text) c.advance.new.self.text) c.advance.ensures.stage c.advance.ensures.counted c.in_ok-word.ensures.stage c.in_ok-word.ensures.counted c.in_ok-word.ensures.is
+
+pub returns-clause-stops : goal.returns-clause-stops
+returns-clause-stops c =
+    let same : c.args.self.now.text ≡ c.self.inside.rest.now = cc in
+    no_word_found c.args.self.now c.advance.new.self c.self.inside.rest.now c.behind_gap-rest.result.now c.in_ok-word.field-0 same c.behind_gap-rest.ensures (not_empty c.behind_gap-rest.result.now c.is_empty.result c.is_empty.ensures c.if-is_empty.false)
+    c.advance.ensures.text c.advance.ensures.line c.in_ok-word.ensures.begins c.in_ok-word.ensures.is
+
+pub returns-in-40-clause-stops : goal.returns-in-40-clause-stops
+returns-in-40-clause-stops c =
+    let same : c.args.self.now.text ≡ c.self.inside.rest.now = cc in
+    open_found c.args.self.now c.self.inside.rest.now c.behind_gap-rest.result.now (drop 2 c.behind_gap-rest.result.now) _ same c.behind_gap-rest.ensures (front_two c.behind_gap-rest.result.now c.in-40.len_at_least (search (rules, tests)) (search (rules, tests)))

@@ -1,4 +1,4 @@
-use Rattle.std.proofs.Common.{◌≡◌, ◌≢◌, ◌<◌, ◌++◌, List}
+use Rattle.std.proofs.Common.{◌≡◌, ◌≢◌, ◌<◌, ◌++◌, List, ◌∷◌, []}
 use Rattle.lists.proofs.Results.{kept_fault}
 use Rattle.plant_text.specs.declared.token.Token.{Token}
 use Rattle.plant_grammar.specs.declared.grammar_fault.GrammarFaultKind.TheVariants.{Memory}
@@ -13,6 +13,11 @@ use Rattle.plant_grammar.specs.Steps.Declaring.{BeginRefused}
 use Rattle.plant_grammar.proofs.ReadLines.{line_before}
 use Rattle.plant_grammar.proofs.RefusedPlaces.{input_refused, address_refused}
 use Rattle.plant_grammar.proofs.PlacedSources.{source_stands}
+use Rattle.plant_text.specs.declared.token.Punctuation.TheVariants as mark
+use Rattle.plant_grammar.specs.Steps.Expected.{Mark, AName, ASource, bind_rest, GetsStuck}
+use Rattle.plant_grammar.proofs.UnexpectedWords.{mark_stuck}
+use Rattle.plant_grammar.proofs.WalkedResources.{stuck_more}
+use Rattle.plant_grammar.proofs.StuckBehind.{stuck_after_mark, stuck_after_name}
 use Rattle.plant_grammar.proofs.grammar.reader.Reader.bind.Goals as goal
 
 pub returns-in_err-input-clause-other : goal.returns-in_err-input-clause-other
@@ -42,3 +47,30 @@ returns-clause-lined c = (
   c.in_ok-push.ensures.items,
   λ all h. source_stands all c.punctuation.new.self _ c.source.new.self.words c.source_lines-parts.result (c.in_ok-punctuation.ensures.left all (c.in_ok-input.ensures.left all h)) c.in_ok-source.ensures.ok c.source_lines-parts.ensures,
 )
+
+pub returns-in_err-input-clause-stuck : goal.returns-in_err-input-clause-stuck
+returns-in_err-input-clause-stuck c =
+    let fault = c.in_err-input.field-0.0 in
+    let start = c.args.self.now in
+    kept_fault fault (GetsStuck (AName ∷ bind_rest) start) c.from_residual.result c.from_residual.ensures.1
+    (stuck_more (AName ∷ []) (Mark mark.Assign ∷ ASource ∷ []) start fault c.in_err-input.ensures.stuck)
+
+pub returns-in_err-punctuation-clause-stuck : goal.returns-in_err-punctuation-clause-stuck
+returns-in_err-punctuation-clause-stuck c =
+    let fault = c.in_err-punctuation.field-0.0 in
+    let start = c.args.self.now in
+    let one = c.bound_input.new.self in
+    kept_fault fault (GetsStuck (AName ∷ bind_rest) start) c.from_residual-in_err-punctuation.result c.from_residual-in_err-punctuation.ensures.1
+    (stuck_after_name c.in_ok-input.input (Mark mark.Assign ∷ ASource ∷ []) start one fault c.in_ok-input.ensures.ok c.in_ok-input.ensures.left
+    (mark_stuck mark.Assign (ASource ∷ []) one fault c.in_err-punctuation.ensures.err.0 c.in_err-punctuation.ensures.other))
+
+pub returns-in_err-source-clause-stuck : goal.returns-in_err-source-clause-stuck
+returns-in_err-source-clause-stuck c =
+    let fault = c.in_err-source.field-0.0 in
+    let start = c.args.self.now in
+    let one = c.bound_input.new.self in
+    let two = c.punctuation.new.self in
+    kept_fault fault (GetsStuck (AName ∷ bind_rest) start) c.from_residual-in_err-source.result c.from_residual-in_err-source.ensures.1
+    (stuck_after_name c.in_ok-input.input (Mark mark.Assign ∷ ASource ∷ []) start one fault c.in_ok-input.ensures.ok c.in_ok-input.ensures.left
+    (stuck_after_mark mark.Assign (ASource ∷ []) one two fault c.in_ok-punctuation.ensures.ok c.in_ok-punctuation.ensures.left
+    (c.in_err-source.ensures.stuck)))

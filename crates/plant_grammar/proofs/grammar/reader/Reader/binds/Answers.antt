@@ -1,4 +1,4 @@
-use Rattle.std.proofs.Common.{◌≢◌, ◌+◌, ◌≤◌, List, length, map, refl, sym, ◌∙◌, arith, subst, ap, ◌≡◌}
+use Rattle.std.proofs.Common.{◌≢◌, ◌+◌, ◌≤◌, List, length, map, refl, sym, ◌∙◌, arith, subst, ap, ◌≡◌, ◌∷◌, []}
 use Rattle.plant_grammar.specs.declared.grammar.tree.Bind.{Bind}
 use Rattle.plant_grammar.specs.Steps.ReadParts.{IsNew, TallyValue, EndWithBinds}
 use Rattle.plant_grammar.proofs.Apart.{apart_more}
@@ -12,18 +12,19 @@ use Rattle.lists.proofs.Results.{kept_fault}
 use Rattle.plant_grammar.proofs.RefusedPlaces.{first_bind, next_bind}
 use Rattle.std.proofs.lemmas.List.Elements.{All-nil}
 use Rattle.plant_text.specs.declared.token.Token.{Token}
-use Rattle.plant_grammar.specs.declared.grammar_fault.GrammarFaultKind.TheVariants.{Memory, Syntax}
+use Rattle.plant_grammar.specs.declared.grammar_fault.GrammarFaultKind.TheVariants.{Memory}
 use Rattle.std.specs.Prelude.{All}
 use Rattle.std.specs.Global.{Vec}
 use Rattle.plant_grammar.specs.declared.grammar.tree.SourceLines.{SourceLines}
 use Rattle.plant_text.specs.declared.token.Punctuation.TheVariants.{Close}
 use Rattle.plant_grammar.specs.Grammar.{mark_word}
 use Rattle.plant_grammar.specs.Names.{AreNamesApart}
-use Rattle.plant_grammar.specs.Steps.Lines.{ReaderValue, IsNotNext}
+use Rattle.plant_grammar.specs.Steps.Lines.{ReaderValue, IsNotNext, syntax_at}
 use Rattle.plant_grammar.proofs.LawfulResources.{first_bind_allowed, next_bind_allowed, close_allowed}
-use Rattle.plant_grammar.proofs.MissingWords.{bind_missing, next_bind_missing}
 use Rattle.plant_grammar.specs.SourceLines.{AreBindsOn}
 use Rattle.plant_grammar.proofs.PlacedSources.{binds_pushed, no_binds_on}
+use Rattle.plant_grammar.specs.Steps.Expected.{FirstBind, GetsStuck}
+use Rattle.plant_grammar.proofs.WalkedResources.{stuck_in_first_bind, stuck_in_next_bind, stuck_behind_binds}
 use Rattle.plant_grammar.proofs.grammar.reader.Reader.binds.Goals as goal
 use Rattle.plant_grammar.proofs.grammar.reader.Reader.binds.Goals.{then-not-sees_punctuation+in_ok-bind+in_ok-push+else-binds-test, else-not-sees_punctuation}
 
@@ -91,31 +92,33 @@ returns-in_err-punctuation-2-clause-other c =
           (subst (λ (r : ReaderValue). IsNotNext (mark_word Close) r.words) w.self-is c.in_err-punctuation-2.ensures.other) next.0 next.1
     ])
 
-pub returns-in_err-bind-clause-syntax : goal.returns-in_err-bind-clause-syntax
-returns-in_err-bind-clause-syntax c =
-    let fault = c.in_err-bind.field-0.0 in
-    kept_fault fault (λ f. f.kind ≡ Syntax → (bs : List Bind) (rest : List Token) → EndWithBinds bs c.args.self.now.words rest → ⊥) c.from_residual.result c.from_residual.ensures.1
-    (λ syntax bs rest e. bind_missing bs c.args.self.now.words rest e (c.if-not-sees_punctuation.ensures.no refl) (c.in_err-bind.ensures.syntax syntax))
-
-pub returns-in_err-bind-2-clause-syntax : goal.returns-in_err-bind-2-clause-syntax
-returns-in_err-bind-2-clause-syntax c =
-    let fault = c.in_err-bind-2.field-0.0 in
-    kept_fault fault (λ f. f.kind ≡ Syntax → (bs : List Bind) (rest : List Token) → EndWithBinds bs c.args.self.now.words rest → ⊥) c.from_residual-in_err-bind-2.result c.from_residual-in_err-bind-2.ensures.1
-    (λ syntax bs rest e. next_bind_missing c.binds.binds.items bs c.args.self.now.words c.binds.self.words c.punctuation.new.self.words rest c.binds.invariant.some c.binds.invariant.words c.in_ok-punctuation.ensures.ok e (c.in_err-bind-2.ensures.syntax syntax))
-
-pub returns-in_err-punctuation-2-clause-syntax : goal.returns-in_err-punctuation-2-clause-syntax
-returns-in_err-punctuation-2-clause-syntax c =
-    let fault = c.in_err-punctuation-2.field-0.0 in
-    kept_fault fault (λ f. f.kind ≡ Syntax → (bs : List Bind) (rest : List Token) → EndWithBinds bs c.args.self.now.words rest → ⊥) c.from_residual-in_err-punctuation-2.result c.from_residual-in_err-punctuation-2.ensures.1
-    (λ syntax bs rest e. elim c.if-not-sees_punctuation.branch [
-      | then-not-sees_punctuation+in_ok-bind+in_ok-push+else-binds-test w ↦ close_allowed w.binds.binds.items bs c.args.self.now.words w.binds.self.words rest w.binds.invariant.some w.binds.invariant.words (w.binds-test.ensures.no refl) e
-          (subst (λ (r : ReaderValue). IsNotNext (mark_word Close) r.words) w.self-is c.in_err-punctuation-2.ensures.other)
-      | else-not-sees_punctuation w ↦ let next = w.if-not-sees_punctuation.ensures.yes refl in
-          (subst (λ (r : ReaderValue). IsNotNext (mark_word Close) r.words) w.self-is c.in_err-punctuation-2.ensures.other) next.0 next.1
-    ])
-
 pub returns-clause-lined : goal.returns-clause-lined
 returns-clause-lined c = λ all h. elim c.if-not-sees_punctuation.branch [
   | then-not-sees_punctuation+in_ok-bind+in_ok-push+else-binds-test w ↦ subst (AreBindsOn all _ _) (ap (λ (r : ReaderValue). r.words) (sym w.self-is) ∙ c.in_ok-punctuation-2.ensures.ok) (rw (w.binds-is, w.lines-is) (w.binds.invariant.lined all h))
   | else-not-sees_punctuation w ↦ no_binds_on all _ _ _ (ap (λ (v : Vec Bind). v.items) w.binds-is ∙ c.new-binds.ensures.items) (ap (λ (v : Vec SourceLines). v.items) w.lines-is ∙ c.requires)
 ]
+
+pub returns-in_err-bind-clause-stuck : goal.returns-in_err-bind-clause-stuck
+returns-in_err-bind-clause-stuck c =
+    let fault = c.in_err-bind.field-0.0 in
+    kept_fault fault (GetsStuck (FirstBind ∷ []) c.args.self.now) c.from_residual.result c.from_residual.ensures.1
+    (stuck_in_first_bind c.args.self.now fault (c.if-not-sees_punctuation.ensures.no refl) c.in_err-bind.ensures.stuck)
+
+pub returns-in_err-bind-2-clause-stuck : goal.returns-in_err-bind-2-clause-stuck
+returns-in_err-bind-2-clause-stuck c =
+    let fault = c.in_err-bind-2.field-0.0 in
+    kept_fault fault (GetsStuck (FirstBind ∷ []) c.args.self.now) c.from_residual-in_err-bind-2.result c.from_residual-in_err-bind-2.ensures.1
+    (stuck_in_next_bind c.binds.binds.items c.args.self.now c.binds.self c.punctuation.new.self fault c.binds.invariant.some c.binds.invariant.words c.binds.invariant.left
+    c.in_ok-punctuation.ensures.ok c.in_ok-punctuation.ensures.left c.in_err-bind-2.ensures.stuck)
+
+pub returns-in_err-punctuation-2-clause-stuck : goal.returns-in_err-punctuation-2-clause-stuck
+returns-in_err-punctuation-2-clause-stuck c =
+    let fault = c.in_err-punctuation-2.field-0.0 in
+    kept_fault fault (GetsStuck (FirstBind ∷ []) c.args.self.now) c.from_residual-in_err-punctuation-2.result c.from_residual-in_err-punctuation-2.ensures.1
+    (elim c.if-not-sees_punctuation.branch [
+      | then-not-sees_punctuation+in_ok-bind+in_ok-push+else-binds-test w ↦ stuck_behind_binds w.binds.binds.items c.args.self.now w.binds.self fault w.binds.invariant.some w.binds.invariant.words w.binds.invariant.left
+          (subst (λ (r : ReaderValue). fault ≡ syntax_at r) w.self-is c.in_err-punctuation-2.ensures.err.0) (w.binds-test.ensures.no refl)
+          (subst (λ (r : ReaderValue). IsNotNext (mark_word Close) r.words) w.self-is c.in_err-punctuation-2.ensures.other)
+      | else-not-sees_punctuation w ↦ let next = w.if-not-sees_punctuation.ensures.yes refl in
+          absurd ((subst (λ (r : ReaderValue). IsNotNext (mark_word Close) r.words) w.self-is c.in_err-punctuation-2.ensures.other) next.0 next.1)
+    ])

@@ -1,6 +1,6 @@
-use Rattle.std.proofs.Common.{◌≡◌, ◌≢◌, ◌++◌, ◌∙◌, List, All}
+use Rattle.std.proofs.Common.{◌≡◌, ◌≢◌, ◌++◌, ◌∙◌, [], ◌∷◌, List, All}
 use Rattle.plant_text.specs.declared.token.Token.{Token}
-use Rattle.plant_grammar.specs.declared.grammar_fault.GrammarFaultKind.TheVariants.{Memory, Syntax}
+use Rattle.plant_grammar.specs.declared.grammar_fault.GrammarFaultKind.TheVariants.{Memory}
 use Rattle.plant_grammar.specs.declared.grammar.tree.Section.{Section}
 use Rattle.plant_grammar.specs.declared.grammar.tree.NameList.{NameList}
 use Rattle.plant_grammar.specs.Grammar.{section_words, lists_words}
@@ -12,8 +12,8 @@ use Rattle.lists.proofs.Results.{kept_fault}
 use Rattle.plant_grammar.proofs.RefusedPlaces.{in_block}
 use Rattle.plant_grammar.proofs.OneTree.{section_starts}
 use Rattle.plant_grammar.proofs.LawfulPrograms.{lists_allowed}
-use Rattle.plant_grammar.proofs.MissingWords.{lists_missing}
-use Rattle.plant_grammar.specs.WellFormed.{HasNames}
+use Rattle.plant_grammar.specs.Steps.Expected.{ASection, MoreLists, GetsStuck}
+use Rattle.plant_grammar.proofs.WalkedPrograms.{stuck_after_section}
 use Rattle.plant_grammar.proofs.grammar.reader.Reader.block.Goals as goal
 
 pub returns-in_err-lists-clause-names : goal.returns-in_err-lists-clause-names
@@ -36,14 +36,14 @@ returns-in_err-lists-clause-other c =
     kept_fault fault (λ f. f.kind ≢ Memory → (s : Section) (ls : List NameList) (rest : List Token) → words ≡ section_words s ++ (lists_words ls ++ rest) → All (IsListLawful s) ls → AreVariables (c.args.variables.now ++ lists_variables s ls) → ⊥) c.from_residual-in_err-lists.result c.from_residual-in_err-lists.ensures.1
     (λ known s ls rest e lawful are. lists_allowed c.in_ok-section.section s c.args.variables.now ls words c.section.new.self.words rest c.in_ok-section.ensures.ok c.in_ok-section.ensures.whole e lawful are (c.in_err-lists.ensures.other known))
 
-pub returns-in_err-section-clause-syntax : goal.returns-in_err-section-clause-syntax
-returns-in_err-section-clause-syntax c =
+pub returns-in_err-section-clause-stuck : goal.returns-in_err-section-clause-stuck
+returns-in_err-section-clause-stuck c =
     let fault = c.in_err-section.field-0.0 in
-    kept_fault fault (λ f. f.kind ≡ Syntax → (s : Section) (ls : List NameList) (rest : List Token) → c.args.self.now.words ≡ section_words s ++ (lists_words ls ++ rest) → All HasNames ls → ⊥) c.from_residual.result c.from_residual.ensures.1
-    (λ syntax s ls rest e named. let first = section_starts s (lists_words ls ++ rest) in c.in_err-section.ensures.other s first.0 (e ∙ first.1))
+    kept_fault fault (GetsStuck (ASection ∷ MoreLists ∷ []) c.args.self.now) c.from_residual.result c.from_residual.ensures.1
+    (λ syntax behind. c.in_err-section.ensures.stuck syntax (MoreLists ∷ behind))
 
-pub returns-in_err-lists-clause-syntax : goal.returns-in_err-lists-clause-syntax
-returns-in_err-lists-clause-syntax c =
+pub returns-in_err-lists-clause-stuck : goal.returns-in_err-lists-clause-stuck
+returns-in_err-lists-clause-stuck c =
     let fault = c.in_err-lists.field-0.0 in
-    kept_fault fault (λ f. f.kind ≡ Syntax → (s : Section) (ls : List NameList) (rest : List Token) → c.args.self.now.words ≡ section_words s ++ (lists_words ls ++ rest) → All HasNames ls → ⊥) c.from_residual-in_err-lists.result c.from_residual-in_err-lists.ensures.1
-    (λ syntax s ls rest e named. lists_missing c.in_ok-section.section s ls c.args.self.now.words c.section.new.self.words rest c.in_ok-section.ensures.ok c.in_ok-section.ensures.whole e named (c.in_err-lists.ensures.syntax syntax))
+    kept_fault fault (GetsStuck (ASection ∷ MoreLists ∷ []) c.args.self.now) c.from_residual-in_err-lists.result c.from_residual-in_err-lists.ensures.1
+    (stuck_after_section c.in_ok-section.section (MoreLists ∷ []) c.args.self.now c.section.new.self fault c.in_ok-section.ensures.ok c.in_ok-section.ensures.left c.in_ok-section.ensures.whole c.in_err-lists.ensures.stuck)

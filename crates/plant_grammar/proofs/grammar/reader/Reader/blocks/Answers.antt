@@ -1,4 +1,4 @@
-use Rattle.std.proofs.Common.{◌≡◌, ◌≢◌, ◌++◌, List, All, refl, ◌∙◌}
+use Rattle.std.proofs.Common.{◌≡◌, ◌≢◌, ◌++◌, [], ◌∷◌, List, All, refl, ◌∙◌}
 use Rattle.plant_grammar.specs.Lawful.{block_variables, IsBlockLawful}
 use Rattle.plant_grammar.specs.Grammar.{block_words}
 use Rattle.plant_grammar.proofs.WordLists.{words_more, declared_more, all_more}
@@ -7,14 +7,15 @@ use Rattle.plant_grammar.specs.Steps.Declaring.{BeginRefused}
 use Rattle.lists.proofs.Results.{kept_fault}
 use Rattle.plant_grammar.proofs.RefusedPlaces.{block_refused}
 use Rattle.plant_text.specs.declared.token.Token.{Token}
-use Rattle.plant_grammar.specs.declared.grammar_fault.GrammarFaultKind.TheVariants.{Memory, Syntax}
+use Rattle.plant_grammar.specs.declared.grammar_fault.GrammarFaultKind.TheVariants.{Memory}
 use Rattle.std.specs.List.{flat_map}
 use Rattle.plant_grammar.specs.declared.grammar.tree.VarBlock.{VarBlock}
 use Rattle.plant_grammar.specs.Steps.Lines.{IsNoneNext}
 use Rattle.plant_grammar.specs.Steps.ReadParts.{section_start, AreVariables}
 use Rattle.plant_grammar.proofs.LawfulPrograms.{block_allowed}
-use Rattle.plant_grammar.proofs.MissingWords.{block_missing}
-use Rattle.plant_grammar.specs.WellFormed.{IsBlockWellFormed}
+use Rattle.plant_grammar.specs.Steps.Expected.{MoreBlocks, GetsStuck}
+use Rattle.plant_grammar.proofs.WalkedPrograms.{blocks_walked, stuck_in_block, lawful_blocks_formed}
+use Rattle.plant_grammar.proofs.StuckBehind.{stuck_after}
 use Rattle.plant_grammar.proofs.grammar.reader.Reader.blocks.Goals as goal
 
 pub sections-preserved : goal.sections-preserved
@@ -39,8 +40,10 @@ returns-in_err-block-clause-other c =
     (λ known bs rest e none lawful are. block_allowed c.args.variables.now c.sections.variables c.sections.blocks.items bs c.args.self.now.words c.sections.self.words rest c.sections.invariant.words c.sections.invariant.declared (c.sections-test.ensures.yes refl) e none lawful are
     (c.in_err-block.ensures.other known))
 
-pub returns-in_err-block-clause-syntax : goal.returns-in_err-block-clause-syntax
-returns-in_err-block-clause-syntax c =
+pub returns-in_err-block-clause-stuck : goal.returns-in_err-block-clause-stuck
+returns-in_err-block-clause-stuck c =
     let fault = c.in_err-block.field-0.0 in
-    kept_fault fault (λ f. f.kind ≡ Syntax → (bs : List VarBlock) (rest : List Token) → c.args.self.now.words ≡ flat_map block_words bs ++ rest → IsNoneNext section_start rest → All IsBlockWellFormed bs → ⊥) c.from_residual.result c.from_residual.ensures.1
-    (λ syntax bs rest e none formed. block_missing c.sections.blocks.items bs c.args.self.now.words c.sections.self.words rest c.sections.invariant.words (c.sections-test.ensures.yes refl) e none formed (c.in_err-block.ensures.syntax syntax))
+    kept_fault fault (GetsStuck (MoreBlocks ∷ []) c.args.self.now) c.from_residual.result c.from_residual.ensures.1
+    (stuck_after (MoreBlocks ∷ []) (MoreBlocks ∷ []) (flat_map block_words c.sections.blocks.items) c.args.self.now c.sections.self fault c.sections.invariant.words c.sections.invariant.left
+    (λ behind. blocks_walked c.sections.blocks.items behind (lawful_blocks_formed c.sections.blocks.items c.sections.invariant.lawful))
+    (stuck_in_block c.sections.self fault (c.sections-test.ensures.yes refl) c.in_err-block.ensures.stuck))

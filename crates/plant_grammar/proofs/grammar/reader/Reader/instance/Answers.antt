@@ -10,7 +10,7 @@ use Rattle.lists.proofs.Results.{kept_fault}
 use Rattle.plant_grammar.specs.Steps.Reading.{programs_of}
 use Rattle.plant_grammar.proofs.RefusedPlaces.{in_instance, task_unknown, type_unknown, binds_of_type}
 use Rattle.plant_text.specs.declared.token.Token.{Token}
-use Rattle.plant_grammar.specs.declared.grammar_fault.GrammarFaultKind.TheVariants.{Memory, Syntax}
+use Rattle.plant_grammar.specs.declared.grammar_fault.GrammarFaultKind.TheVariants.{Memory}
 use Rattle.plant_grammar.specs.declared.grammar.tree.Program.{Program}
 use Rattle.plant_grammar.specs.declared.grammar.tree.Use.{Use}
 use Rattle.std.specs.List.{flat_map}
@@ -19,6 +19,11 @@ use Rattle.plant_grammar.specs.Steps.Refusing.{HasRoomFor, AreTypesApart}
 use Rattle.plant_grammar.proofs.LawfulResources.{some_type, use_started, use_tasked, use_typed, room_for_binds, kinds_of_type}
 use Rattle.plant_text.specs.declared.token.Punctuation.TheVariants.{Close}
 use Rattle.plant_grammar.specs.SourceLines.{AreBindsOn}
+use Rattle.plant_text.specs.declared.token.Keyword.TheVariants as key
+use Rattle.plant_text.specs.declared.token.Punctuation.TheVariants as mark
+use Rattle.plant_grammar.specs.Steps.Expected.{Key, Mark, AName, MayHaveBinds, instance_rest, GetsStuck}
+use Rattle.plant_grammar.proofs.WalkedResources.{stuck_more, semicolon_stuck}
+use Rattle.plant_grammar.proofs.StuckBehind.{stuck_after_key_and_name, stuck_after_mark_and_name}
 use Rattle.plant_grammar.proofs.grammar.reader.Reader.instance.Goals as goal
 
 pub returns-clause-lawful : goal.returns-clause-lawful
@@ -87,22 +92,6 @@ returns-in_err-punctuation-clause-other c =
     let typed = use_typed u c.in_ok-instance.instance c.in_ok-task.task _ c.args.self.now.words c.instance_start.new.self.words c.task_of_instance.new.self.words c.type_of_instance.new.self.words rest c.in_ok-instance.ensures.ok c.in_ok-task.ensures.ok c.in_ok-program.ensures.ok e in
     c.in_err-punctuation.ensures.other rest (c.in_ok-binds.ensures.only (binds_listed u.binds) rest typed.1))
 
-pub returns-in_err-binds-clause-syntax : goal.returns-in_err-binds-clause-syntax
-returns-in_err-binds-clause-syntax c =
-    let fault = c.in_err-binds.field-0.0 in
-    kept_fault fault (λ f. f.kind ≡ Syntax → (u : Use) (rest : List Token) → c.args.self.now.words ≡ use_words u ++ rest → ⊥) c.from_residual-in_err-binds.result c.from_residual-in_err-binds.ensures.1
-    (λ syntax u rest e.
-    let typed = use_typed u c.in_ok-instance.instance c.in_ok-task.task _ c.args.self.now.words c.instance_start.new.self.words c.task_of_instance.new.self.words c.type_of_instance.new.self.words rest c.in_ok-instance.ensures.ok c.in_ok-task.ensures.ok c.in_ok-program.ensures.ok e in
-    c.in_err-binds.ensures.syntax syntax (binds_listed u.binds) rest typed.1)
-
-pub returns-in_err-punctuation-clause-syntax : goal.returns-in_err-punctuation-clause-syntax
-returns-in_err-punctuation-clause-syntax c =
-    let fault = c.in_err-punctuation.field-0.0 in
-    kept_fault fault (λ f. f.kind ≡ Syntax → (u : Use) (rest : List Token) → c.args.self.now.words ≡ use_words u ++ rest → ⊥) c.from_residual-in_err-punctuation.result c.from_residual-in_err-punctuation.ensures.1
-    (λ syntax u rest e.
-    let typed = use_typed u c.in_ok-instance.instance c.in_ok-task.task _ c.args.self.now.words c.instance_start.new.self.words c.task_of_instance.new.self.words c.type_of_instance.new.self.words rest c.in_ok-instance.ensures.ok c.in_ok-task.ensures.ok c.in_ok-program.ensures.ok e in
-    c.in_err-punctuation.ensures.other rest (c.in_ok-binds.ensures.only (binds_listed u.binds) rest typed.1))
-
 pub returns-clause-lined : goal.returns-clause-lined
 returns-clause-lined c = λ all h.
     subst (λ (rest : List Token). AreBindsOn all (bound_in c.in_ok-binds.binds) c.some_binds.new.lines.items (mark_word Close ∷ rest)) c.in_ok-punctuation.ensures.ok
@@ -114,3 +103,57 @@ returns-in_err-task-clause-other c =
     kept_fault fault (λ f. f.kind ≢ Memory → (u : Use) (rest : List Token) → c.args.self.now.words ≡ use_words u ++ rest → AreTypesApart c.args.types.now → IsNew (λ (u : Use). u.instance) (flat_map use_of c.args.before.now) u.instance → IsUseLawful (types_alone c.args.types.now) c.args.before.now u → HasRoomFor c.args.tally.now (u ∷ []) → ⊥) c.from_residual-in_err-task.result c.from_residual-in_err-task.ensures.1
     (λ known u rest e apart new lawful room.
     c.in_err-task.ensures.other known u.task _ (use_started u c.in_ok-instance.instance c.args.self.now.words c.instance_start.new.self.words rest c.in_ok-instance.ensures.ok e) lawful.task_is)
+
+pub returns-in_err-instance-clause-stuck : goal.returns-in_err-instance-clause-stuck
+returns-in_err-instance-clause-stuck c =
+    let fault = c.in_err-instance.field-0.0 in
+    let start = c.args.self.now in
+    kept_fault fault (GetsStuck (Key key.Program ∷ instance_rest) c.args.self.now) c.from_residual.result c.from_residual.ensures.1
+    (stuck_more (Key key.Program ∷ AName ∷ []) (Key key.With ∷ AName ∷ Mark mark.Colon ∷ AName ∷ MayHaveBinds ∷ Mark mark.Semicolon ∷ []) start fault c.in_err-instance.ensures.stuck)
+
+pub returns-in_err-task-clause-stuck : goal.returns-in_err-task-clause-stuck
+returns-in_err-task-clause-stuck c =
+    let fault = c.in_err-task.field-0.0 in
+    let start = c.args.self.now in
+    let one = c.instance_start.new.self in
+    kept_fault fault (GetsStuck (Key key.Program ∷ instance_rest) c.args.self.now) c.from_residual-in_err-task.result c.from_residual-in_err-task.ensures.1
+    (stuck_after_key_and_name key.Program c.in_ok-instance.instance (Key key.With ∷ AName ∷ Mark mark.Colon ∷ AName ∷ MayHaveBinds ∷ Mark mark.Semicolon ∷ []) start one fault c.in_ok-instance.ensures.ok c.in_ok-instance.ensures.left
+    (stuck_more (Key key.With ∷ AName ∷ []) (Mark mark.Colon ∷ AName ∷ MayHaveBinds ∷ Mark mark.Semicolon ∷ []) one fault c.in_err-task.ensures.stuck))
+
+pub returns-in_err-program-clause-stuck : goal.returns-in_err-program-clause-stuck
+returns-in_err-program-clause-stuck c =
+    let fault = c.in_err-program.field-0.0 in
+    let start = c.args.self.now in
+    let one = c.instance_start.new.self in
+    let two = c.task_of_instance.new.self in
+    kept_fault fault (GetsStuck (Key key.Program ∷ instance_rest) c.args.self.now) c.from_residual-in_err-program.result c.from_residual-in_err-program.ensures.1
+    (stuck_after_key_and_name key.Program c.in_ok-instance.instance (Key key.With ∷ AName ∷ Mark mark.Colon ∷ AName ∷ MayHaveBinds ∷ Mark mark.Semicolon ∷ []) start one fault c.in_ok-instance.ensures.ok c.in_ok-instance.ensures.left
+    (stuck_after_key_and_name key.With c.in_ok-task.task (Mark mark.Colon ∷ AName ∷ MayHaveBinds ∷ Mark mark.Semicolon ∷ []) one two fault c.in_ok-task.ensures.ok c.in_ok-task.ensures.left
+    (stuck_more (Mark mark.Colon ∷ AName ∷ []) (MayHaveBinds ∷ Mark mark.Semicolon ∷ []) two fault c.in_err-program.ensures.stuck)))
+
+pub returns-in_err-binds-clause-stuck : goal.returns-in_err-binds-clause-stuck
+returns-in_err-binds-clause-stuck c =
+    let fault = c.in_err-binds.field-0.0 in
+    let start = c.args.self.now in
+    let one = c.instance_start.new.self in
+    let two = c.task_of_instance.new.self in
+    let three = c.type_of_instance.new.self in
+    kept_fault fault (GetsStuck (Key key.Program ∷ instance_rest) c.args.self.now) c.from_residual-in_err-binds.result c.from_residual-in_err-binds.ensures.1
+    (stuck_after_key_and_name key.Program c.in_ok-instance.instance (Key key.With ∷ AName ∷ Mark mark.Colon ∷ AName ∷ MayHaveBinds ∷ Mark mark.Semicolon ∷ []) start one fault c.in_ok-instance.ensures.ok c.in_ok-instance.ensures.left
+    (stuck_after_key_and_name key.With c.in_ok-task.task (Mark mark.Colon ∷ AName ∷ MayHaveBinds ∷ Mark mark.Semicolon ∷ []) one two fault c.in_ok-task.ensures.ok c.in_ok-task.ensures.left
+    (stuck_after_mark_and_name mark.Colon c.in_ok-program.program (MayHaveBinds ∷ Mark mark.Semicolon ∷ []) two three fault c.in_ok-program.ensures.ok c.in_ok-program.ensures.left
+    (stuck_more (MayHaveBinds ∷ []) (Mark mark.Semicolon ∷ []) three fault c.in_err-binds.ensures.stuck))))
+
+pub returns-in_err-punctuation-clause-stuck : goal.returns-in_err-punctuation-clause-stuck
+returns-in_err-punctuation-clause-stuck c =
+    let fault = c.in_err-punctuation.field-0.0 in
+    let start = c.args.self.now in
+    let one = c.instance_start.new.self in
+    let two = c.task_of_instance.new.self in
+    let three = c.type_of_instance.new.self in
+    let four = c.some_binds.new.self in
+    kept_fault fault (GetsStuck (Key key.Program ∷ instance_rest) c.args.self.now) c.from_residual-in_err-punctuation.result c.from_residual-in_err-punctuation.ensures.1
+    (stuck_after_key_and_name key.Program c.in_ok-instance.instance (Key key.With ∷ AName ∷ Mark mark.Colon ∷ AName ∷ MayHaveBinds ∷ Mark mark.Semicolon ∷ []) start one fault c.in_ok-instance.ensures.ok c.in_ok-instance.ensures.left
+    (stuck_after_key_and_name key.With c.in_ok-task.task (Mark mark.Colon ∷ AName ∷ MayHaveBinds ∷ Mark mark.Semicolon ∷ []) one two fault c.in_ok-task.ensures.ok c.in_ok-task.ensures.left
+    (stuck_after_mark_and_name mark.Colon c.in_ok-program.program (MayHaveBinds ∷ Mark mark.Semicolon ∷ []) two three fault c.in_ok-program.ensures.ok c.in_ok-program.ensures.left
+    (semicolon_stuck (binds_listed c.in_ok-binds.binds) three four fault c.in_ok-binds.ensures.ok c.in_ok-binds.ensures.left c.in_ok-binds.ensures.whole c.in_err-punctuation.ensures.err.0 c.in_err-punctuation.ensures.other))))

@@ -1,15 +1,15 @@
-use Rattle.std.proofs.Common.{◌≡◌, ◌≢◌, ◌++◌, List, refl, All, ◌<◌}
+use Rattle.std.proofs.Common.{◌≡◌, ◌≢◌, ◌++◌, List, refl, ◌∷◌, []}
 use Rattle.plant_text.specs.declared.token.Token.{Token}
-use Rattle.plant_grammar.specs.declared.grammar_fault.GrammarFaultKind.TheVariants.{Memory, Syntax}
+use Rattle.plant_grammar.specs.declared.grammar_fault.GrammarFaultKind.TheVariants.{Memory}
 use Rattle.lists.proofs.Results.{kept_fault}
 use Rattle.plant_grammar.specs.declared.grammar.tree.Item.{Item}
 use Rattle.plant_grammar.specs.Grammar.{item_words}
-use Rattle.plant_grammar.specs.Lawful.{use_of, task_of}
+use Rattle.plant_grammar.specs.Lawful.{use_of}
 use Rattle.plant_grammar.specs.Steps.ReadParts.{types_alone, MayFollow}
 use Rattle.plant_grammar.specs.Steps.Refusing.{HasRoomFor, AreTypesApart}
 use Rattle.plant_grammar.proofs.LawfulResources.{task_allowed, use_allowed}
-use Rattle.plant_grammar.proofs.MissingWords.{task_missing, use_missing}
-use Rattle.plant_grammar.specs.declared.grammar.tree.TaskLine.{TaskLine}
+use Rattle.plant_grammar.specs.Steps.Expected.{AnItem, GetsStuck}
+use Rattle.plant_grammar.proofs.WalkedResources.{stuck_in_task_line, stuck_in_use_line}
 use Rattle.plant_grammar.proofs.grammar.reader.Reader.item.Goals as goal
 
 pub returns-in_err-task-clause-other : goal.returns-in_err-task-clause-other
@@ -25,14 +25,14 @@ returns-in_err-instance-clause-other c =
     (λ known x rest e apart may room. use_allowed (types_alone c.args.types.now) c.args.before.now c.args.tally.now x c.args.self.now.words rest e (c.if-sees_keyword.ensures.no refl) may room
     (λ u after h new lawful left. c.in_err-instance.ensures.other known u after h apart new lawful left))
 
-pub returns-in_err-task-clause-syntax : goal.returns-in_err-task-clause-syntax
-returns-in_err-task-clause-syntax c =
+pub returns-in_err-task-clause-stuck : goal.returns-in_err-task-clause-stuck
+returns-in_err-task-clause-stuck c =
     let fault = c.in_err-task.field-0.0 in
-    kept_fault fault (λ f. f.kind ≡ Syntax → (x : Item) (rest : List Token) → c.args.self.now.words ≡ item_words x ++ rest → All (λ (t : TaskLine). 0 < t.interval) (task_of x) → ⊥) c.from_residual.result c.from_residual.ensures.1
-    (λ syntax x rest e positive. task_missing x c.args.self.now.words rest e (c.if-sees_keyword.ensures.yes refl) positive (c.in_err-task.ensures.syntax syntax))
+    kept_fault fault (GetsStuck (AnItem ∷ []) c.args.self.now) c.from_residual.result c.from_residual.ensures.1
+    (stuck_in_task_line c.args.self.now fault (c.if-sees_keyword.ensures.yes refl) c.in_err-task.ensures.stuck)
 
-pub returns-in_err-instance-clause-syntax : goal.returns-in_err-instance-clause-syntax
-returns-in_err-instance-clause-syntax c =
+pub returns-in_err-instance-clause-stuck : goal.returns-in_err-instance-clause-stuck
+returns-in_err-instance-clause-stuck c =
     let fault = c.in_err-instance.field-0.0 in
-    kept_fault fault (λ f. f.kind ≡ Syntax → (x : Item) (rest : List Token) → c.args.self.now.words ≡ item_words x ++ rest → All (λ (t : TaskLine). 0 < t.interval) (task_of x) → ⊥) c.from_residual-in_err-instance.result c.from_residual-in_err-instance.ensures.1
-    (λ syntax x rest e positive. use_missing x c.args.self.now.words rest e (c.if-sees_keyword.ensures.no refl) (c.in_err-instance.ensures.syntax syntax))
+    kept_fault fault (GetsStuck (AnItem ∷ []) c.args.self.now) c.from_residual-in_err-instance.result c.from_residual-in_err-instance.ensures.1
+    (stuck_in_use_line c.args.self.now fault (c.if-sees_keyword.ensures.no refl) c.in_err-instance.ensures.stuck)

@@ -1,4 +1,4 @@
-use Rattle.std.proofs.Common.{◌≡◌, ◌≢◌, ◌++◌, List, refl, sym, subst}
+use Rattle.std.proofs.Common.{◌≡◌, ◌≢◌, ◌++◌, List, refl, sym, subst, ◌∷◌, []}
 use Rattle.plant_grammar.specs.Lawful.{use_of}
 use Rattle.plant_grammar.specs.Grammar.{item_words, items_words}
 use Rattle.plant_grammar.specs.Steps.ReadParts.{types_alone, MayFollow, AreItemsLawful}
@@ -11,14 +11,14 @@ use Rattle.plant_grammar.specs.Steps.Reading.{programs_of}
 use Rattle.lists.proofs.Results.{kept_fault}
 use Rattle.plant_grammar.proofs.RefusedPlaces.{item_refused}
 use Rattle.plant_text.specs.declared.token.Token.{Token}
-use Rattle.plant_grammar.specs.declared.grammar_fault.GrammarFaultKind.TheVariants.{Memory, Syntax}
+use Rattle.plant_grammar.specs.declared.grammar_fault.GrammarFaultKind.TheVariants.{Memory}
 use Rattle.std.specs.List.{flat_map}
 use Rattle.plant_grammar.specs.Steps.Refusing.{HasRoomFor, AreTypesApart}
 use Rattle.plant_grammar.proofs.LawfulResources.{item_allowed}
-use Rattle.plant_grammar.proofs.MissingWords.{item_missing}
-use Rattle.plant_grammar.specs.WellFormed.{AreIntervalsPositive}
 use Rattle.plant_grammar.specs.SourceLines.{IsItemOn, EachBefore}
 use Rattle.plant_grammar.proofs.PlacedSources.{each_more}
+use Rattle.plant_grammar.specs.Steps.Expected.{MoreItems, GetsStuck}
+use Rattle.plant_grammar.proofs.WalkedResources.{stuck_in_line}
 use Rattle.plant_grammar.proofs.grammar.reader.Reader.items.Goals as goal
 
 pub items-preserved : goal.items-preserved
@@ -40,7 +40,7 @@ returns c = record {
   tally = c.items.invariant.tally;
   other = tt;
   names = tt;
-  syntax = tt;
+  stuck = tt;
   value = tt;
 }
 
@@ -58,8 +58,8 @@ returns-in_err-item-clause-other c =
     (λ known xs rest e apart lawful room. item_allowed (types_alone c.args.types.now) c.args.tally.now c.items.tally c.items.items.items xs c.args.self.now.words c.items.self.words rest c.items.invariant.words c.items.invariant.tally (c.items-test.ensures.no refl) e lawful room
     (λ x after h may left. c.in_err-item.ensures.other known x after h apart (subst (λ (ys : List Item). MayFollow (types_alone c.args.types.now) ys x) (sym c.deref.ensures.value) may) left))
 
-pub returns-in_err-item-clause-syntax : goal.returns-in_err-item-clause-syntax
-returns-in_err-item-clause-syntax c =
+pub returns-in_err-item-clause-stuck : goal.returns-in_err-item-clause-stuck
+returns-in_err-item-clause-stuck c =
     let fault = c.in_err-item.field-0.0 in
-    kept_fault fault (λ f. f.kind ≡ Syntax → (xs : List Item) (rest : List Token) → c.args.self.now.words ≡ items_words xs ++ rest → AreIntervalsPositive xs → ⊥) c.from_residual.result c.from_residual.ensures.1
-    (λ syntax xs rest e positive. item_missing c.items.items.items xs c.args.self.now.words c.items.self.words rest c.items.invariant.words (c.items-test.ensures.no refl) e positive (c.in_err-item.ensures.syntax syntax))
+    kept_fault fault (GetsStuck (MoreItems ∷ []) c.args.self.now) c.from_residual.result c.from_residual.ensures.1
+    (stuck_in_line c.items.items.items c.args.self.now c.items.self fault c.items.invariant.words c.items.invariant.left c.items.invariant.lawful.intervals (c.items-test.ensures.no refl) c.in_err-item.ensures.stuck)

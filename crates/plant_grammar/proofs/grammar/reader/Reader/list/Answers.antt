@@ -1,9 +1,15 @@
+use Rattle.std.proofs.Common.{[], ◌∷◌}
 use Rattle.plant_grammar.specs.NameFaults.{RefusesOneList}
 use Rattle.plant_grammar.specs.Steps.Declaring.{BeginRefused}
+use Rattle.plant_text.specs.declared.token.Punctuation.TheVariants.{Colon, Semicolon}
+use Rattle.plant_grammar.specs.Steps.Expected.{Mark, AName, AType, list_rest, GetsStuck}
+use Rattle.plant_grammar.proofs.UnexpectedWords.{mark_stuck}
+use Rattle.plant_grammar.proofs.WalkedPrograms.{stuck_after_names, stuck_after_type}
 use Rattle.lists.proofs.Results.{kept_fault}
 use Rattle.plant_grammar.proofs.RefusedNames.{memory_no_name}
 use Rattle.plant_grammar.proofs.ReadLines.{line_before}
 use Rattle.plant_grammar.proofs.RefusedPlaces.{name_of_list, type_of_list}
+use Rattle.plant_grammar.proofs.StuckBehind.{stuck_after_mark}
 use Rattle.plant_grammar.proofs.grammar.reader.Reader.list.Goals as goal
 
 pub returns-in_err-add_list-clause-names : goal.returns-in_err-add_list-clause-names
@@ -23,3 +29,42 @@ returns-in_err-type_name-clause-names c =
     let fault = c.in_err-type_name.field-0.0 in
     kept_fault fault (BeginRefused (λ k. RefusesOneList c.args.section c.args.variables.now k) c.args.self.now) c.from_residual-in_err-type_name.result c.from_residual-in_err-type_name.ensures.1
     (λ all h of. type_of_list fault.kind c.args.section c.args.variables.now c.in_ok-names.names.items c.args.self.now.words c.names.new.self.words c.punctuation.new.self.words (line_before all c.punctuation.new.self fault.line (c.in_ok-punctuation.ensures.left all (c.in_ok-names.ensures.left all h)) (c.in_err-type_name.ensures.line of)) c.in_ok-names.ensures.ok c.in_ok-punctuation.ensures.ok c.in_err-type_name.ensures.tells of)
+
+pub returns-in_err-names-clause-stuck : goal.returns-in_err-names-clause-stuck
+returns-in_err-names-clause-stuck c =
+    let fault = c.in_err-names.field-0.0 in
+    kept_fault fault (GetsStuck (AName ∷ list_rest) c.args.self.now) c.from_residual.result c.from_residual.ensures.1
+    (λ syntax behind. c.in_err-names.ensures.stuck syntax (Mark Colon ∷ AType ∷ Mark Semicolon ∷ behind))
+
+pub returns-in_err-punctuation-clause-stuck : goal.returns-in_err-punctuation-clause-stuck
+returns-in_err-punctuation-clause-stuck c =
+    let fault = c.in_err-punctuation.field-0.0 in
+    let names = c.in_ok-names.ensures in
+    kept_fault fault (GetsStuck (AName ∷ list_rest) c.args.self.now) c.from_residual-in_err-punctuation.result c.from_residual-in_err-punctuation.ensures.1
+    (stuck_after_names c.in_ok-names.names.items (Mark Colon ∷ AType ∷ Mark Semicolon ∷ []) c.args.self.now c.names.new.self fault names.some names.ok names.left names.none
+    (mark_stuck Colon (AType ∷ Mark Semicolon ∷ []) c.names.new.self fault c.in_err-punctuation.ensures.err.0 c.in_err-punctuation.ensures.other))
+
+pub returns-in_err-type_name-clause-stuck : goal.returns-in_err-type_name-clause-stuck
+returns-in_err-type_name-clause-stuck c =
+    let fault = c.in_err-type_name.field-0.0 in
+    let names = c.in_ok-names.ensures in
+    kept_fault fault (GetsStuck (AName ∷ list_rest) c.args.self.now) c.from_residual-in_err-type_name.result c.from_residual-in_err-type_name.ensures.1
+    (stuck_after_names c.in_ok-names.names.items (Mark Colon ∷ AType ∷ Mark Semicolon ∷ []) c.args.self.now c.names.new.self fault names.some names.ok names.left names.none
+    (stuck_after_mark Colon (AType ∷ Mark Semicolon ∷ []) c.names.new.self c.punctuation.new.self fault c.in_ok-punctuation.ensures.ok c.in_ok-punctuation.ensures.left
+    (λ syntax behind. c.in_err-type_name.ensures.stuck syntax (Mark Semicolon ∷ behind))))
+
+pub returns-in_err-punctuation-2-clause-stuck : goal.returns-in_err-punctuation-2-clause-stuck
+returns-in_err-punctuation-2-clause-stuck c =
+    let fault = c.in_err-punctuation-2.field-0.0 in
+    let names = c.in_ok-names.ensures in
+    kept_fault fault (GetsStuck (AName ∷ list_rest) c.args.self.now) c.from_residual-in_err-punctuation-2.result c.from_residual-in_err-punctuation-2.ensures.1
+    (stuck_after_names c.in_ok-names.names.items (Mark Colon ∷ AType ∷ Mark Semicolon ∷ []) c.args.self.now c.names.new.self fault names.some names.ok names.left names.none
+    (stuck_after_mark Colon (AType ∷ Mark Semicolon ∷ []) c.names.new.self c.punctuation.new.self fault c.in_ok-punctuation.ensures.ok c.in_ok-punctuation.ensures.left
+    (stuck_after_type c.in_ok-type_name.type_name (Mark Semicolon ∷ []) c.punctuation.new.self c.type_name.new.self fault c.in_ok-type_name.ensures.ok c.in_ok-type_name.ensures.left
+    (mark_stuck Semicolon [] c.type_name.new.self fault c.in_err-punctuation-2.ensures.err.0 c.in_err-punctuation-2.ensures.other))))
+
+pub returns-in_err-add_list-clause-stuck : goal.returns-in_err-add_list-clause-stuck
+returns-in_err-add_list-clause-stuck c =
+    let fault = c.in_err-add_list.field-0.0 in
+    kept_fault fault (GetsStuck (AName ∷ list_rest) c.args.self.now) c.from_residual-in_err-add_list.result c.from_residual-in_err-add_list.ensures.1
+    (λ syntax behind. absurd (c.in_err-add_list.ensures.named syntax))

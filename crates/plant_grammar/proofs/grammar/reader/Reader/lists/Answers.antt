@@ -1,4 +1,4 @@
-use Rattle.std.proofs.Common.{◌≡◌, ◌≢◌, ◌++◌, List, All, refl, ◌∙◌}
+use Rattle.std.proofs.Common.{◌≡◌, ◌≢◌, ◌++◌, [], ◌∷◌, List, All, refl, ◌∙◌}
 use Rattle.plant_grammar.specs.Lawful.{list_variables, lists_variables, IsListLawful}
 use Rattle.plant_grammar.specs.Grammar.{list_words, lists_words}
 use Rattle.plant_grammar.proofs.WordLists.{words_more, declared_more, all_more, lists_done}
@@ -7,12 +7,14 @@ use Rattle.plant_grammar.specs.Steps.Declaring.{BeginRefused}
 use Rattle.lists.proofs.Results.{kept_fault}
 use Rattle.plant_grammar.proofs.RefusedPlaces.{list_refused}
 use Rattle.plant_text.specs.declared.token.Token.{Token}
-use Rattle.plant_grammar.specs.declared.grammar_fault.GrammarFaultKind.TheVariants.{Memory, Syntax}
+use Rattle.plant_grammar.specs.declared.grammar_fault.GrammarFaultKind.TheVariants.{Memory}
 use Rattle.plant_grammar.specs.declared.grammar.tree.NameList.{NameList}
 use Rattle.plant_grammar.specs.Steps.ReadParts.{AreVariables}
 use Rattle.plant_grammar.proofs.LawfulPrograms.{list_allowed}
-use Rattle.plant_grammar.proofs.MissingWords.{list_missing}
-use Rattle.plant_grammar.specs.WellFormed.{HasNames}
+use Rattle.std.specs.List.{flat_map}
+use Rattle.plant_grammar.specs.Steps.Expected.{MoreLists, GetsStuck}
+use Rattle.plant_grammar.proofs.WalkedPrograms.{lists_walked, stuck_in_list, lawful_lists_named}
+use Rattle.plant_grammar.proofs.StuckBehind.{stuck_after}
 use Rattle.plant_grammar.proofs.grammar.reader.Reader.lists.Goals as goal
 
 pub lists-preserved : goal.lists-preserved
@@ -33,7 +35,7 @@ returns c = record {
   lawful = c.lists.invariant.lawful;
   other = tt;
   names = tt;
-  syntax = tt;
+  stuck = tt;
   value = tt;
 }
 
@@ -50,8 +52,10 @@ returns-in_err-list-clause-other c =
     (λ known ls rest e lawful are. list_allowed c.args.section c.args.variables.now c.lists.variables c.lists.lists.items ls c.args.self.now.words c.lists.self.words rest c.lists.invariant.words c.lists.invariant.declared (c.lists-test.ensures.no refl) e lawful are
     (c.in_err-list.ensures.other known))
 
-pub returns-in_err-list-clause-syntax : goal.returns-in_err-list-clause-syntax
-returns-in_err-list-clause-syntax c =
+pub returns-in_err-list-clause-stuck : goal.returns-in_err-list-clause-stuck
+returns-in_err-list-clause-stuck c =
     let fault = c.in_err-list.field-0.0 in
-    kept_fault fault (λ f. f.kind ≡ Syntax → (ls : List NameList) (rest : List Token) → c.args.self.now.words ≡ lists_words ls ++ rest → All HasNames ls → ⊥) c.from_residual.result c.from_residual.ensures.1
-    (λ syntax ls rest e named. list_missing c.args.section c.lists.lists.items ls c.args.self.now.words c.lists.self.words rest c.lists.invariant.words (c.lists-test.ensures.no refl) e named (c.in_err-list.ensures.syntax syntax))
+    kept_fault fault (GetsStuck (MoreLists ∷ []) c.args.self.now) c.from_residual.result c.from_residual.ensures.1
+    (stuck_after (MoreLists ∷ []) (MoreLists ∷ []) (flat_map list_words c.lists.lists.items) c.args.self.now c.lists.self fault c.lists.invariant.words c.lists.invariant.left
+    (λ behind. lists_walked c.lists.lists.items behind (lawful_lists_named c.args.section c.lists.lists.items c.lists.invariant.lawful))
+    (stuck_in_list c.lists.self fault (c.lists-test.ensures.no refl) c.in_err-list.ensures.stuck))

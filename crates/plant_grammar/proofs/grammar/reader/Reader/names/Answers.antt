@@ -1,7 +1,7 @@
-use Rattle.std.proofs.Common.{rules, sym, subst, ◌+◌, ◌≡◌, ◌≢◌, refl, ◌∙◌, ◌++◌, ◌∷◌, ◌<◌, ℕ, List, length, arith}
+use Rattle.std.proofs.Common.{rules, sym, subst, ◌+◌, ◌≡◌, ◌≢◌, refl, ◌∙◌, ◌++◌, [], ◌∷◌, ◌<◌, ℕ, List, length, arith}
 use Rattle.plant_text.specs.declared.token.Token.{Token}
-use Rattle.plant_text.specs.declared.token.Punctuation.TheVariants.{Colon}
-use Rattle.plant_grammar.specs.declared.grammar_fault.GrammarFaultKind.TheVariants.{Memory, Syntax}
+use Rattle.plant_text.specs.declared.token.Punctuation.TheVariants.{Colon, Comma}
+use Rattle.plant_grammar.specs.declared.grammar_fault.GrammarFaultKind.TheVariants.{Memory}
 use Rattle.plant_grammar.specs.Grammar.{mark_word, name_words}
 use Rattle.plant_grammar.specs.Steps.Refusing.{MayBeDeclared}
 use Rattle.plant_grammar.specs.Steps.ReadParts.{IsNew}
@@ -13,7 +13,9 @@ use Rattle.plant_grammar.specs.Steps.Declaring.{BeginRefused}
 use Rattle.lists.proofs.Results.{kept_fault}
 use Rattle.plant_grammar.proofs.ReadLines.{line_before}
 use Rattle.plant_grammar.proofs.RefusedPlaces.{first_variable, next_variable}
-use Rattle.plant_grammar.proofs.MissingWords.{name_missing, next_missing}
+use Rattle.plant_grammar.specs.Steps.Expected.{AName, MoreNames, GetsStuck}
+use Rattle.plant_grammar.proofs.WalkedPrograms.{names_walked, comma_walked}
+use Rattle.plant_grammar.proofs.StuckBehind.{stuck_after}
 use Rattle.plant_grammar.proofs.grammar.reader.Reader.names.Goals as goal
 
 pub names-init : goal.names-init
@@ -71,14 +73,16 @@ pub returns-clause-only : goal.returns-clause-only
 returns-clause-only c = λ ns rest e some.
     all_names c.names.names.items ns c.args.self.now.words c.names.self.words rest c.names.invariant.some some c.names.invariant.words e (λ mid f. c.names-test.ensures.no refl mid f)
 
-pub returns-in_err-variable-clause-syntax : goal.returns-in_err-variable-clause-syntax
-returns-in_err-variable-clause-syntax c =
+pub returns-in_err-variable-clause-stuck : goal.returns-in_err-variable-clause-stuck
+returns-in_err-variable-clause-stuck c =
     let fault = c.in_err-variable.field-0.0 in
-    kept_fault fault (λ f. f.kind ≡ Syntax → (ns : List (List ℕ)) (rest : List Token) → c.args.self.now.words ≡ name_words ns ++ mark_word Colon ∷ rest → 0 < length ns → ⊥) c.from_residual.result c.from_residual.ensures.1
-    (λ syntax ns rest e some. name_missing ns c.args.self.now.words rest some e (c.in_err-variable.ensures.syntax syntax))
+    kept_fault fault (GetsStuck (AName ∷ MoreNames ∷ []) c.args.self.now) c.from_residual.result c.from_residual.ensures.1
+    (λ syntax behind. c.in_err-variable.ensures.stuck syntax (MoreNames ∷ behind))
 
-pub returns-in_err-variable-2-clause-syntax : goal.returns-in_err-variable-2-clause-syntax
-returns-in_err-variable-2-clause-syntax c =
+pub returns-in_err-variable-2-clause-stuck : goal.returns-in_err-variable-2-clause-stuck
+returns-in_err-variable-2-clause-stuck c =
     let fault = c.in_err-variable-2.field-0.0 in
-    kept_fault fault (λ f. f.kind ≡ Syntax → (ns : List (List ℕ)) (rest : List Token) → c.args.self.now.words ≡ name_words ns ++ mark_word Colon ∷ rest → 0 < length ns → ⊥) c.from_residual-in_err-variable-2.result c.from_residual-in_err-variable-2.ensures.1
-    (λ syntax ns rest e some. next_missing c.names.names.items ns c.args.self.now.words c.names.self.words c.punctuation.new.self.words rest c.names.invariant.some some c.names.invariant.words c.in_ok-punctuation.ensures.ok e (c.in_err-variable-2.ensures.syntax syntax))
+    kept_fault fault (GetsStuck (AName ∷ MoreNames ∷ []) c.args.self.now) c.from_residual-in_err-variable-2.result c.from_residual-in_err-variable-2.ensures.1
+    (stuck_after (AName ∷ MoreNames ∷ []) (MoreNames ∷ []) (name_words c.names.names.items) c.args.self.now c.names.self fault c.names.invariant.words c.names.invariant.left (λ behind. names_walked c.names.names.items behind c.names.invariant.some)
+    (stuck_after (MoreNames ∷ []) (AName ∷ MoreNames ∷ []) (mark_word Comma ∷ []) c.names.self c.punctuation.new.self fault c.in_ok-punctuation.ensures.ok c.in_ok-punctuation.ensures.left comma_walked
+    (λ syntax behind. c.in_err-variable-2.ensures.stuck syntax (MoreNames ∷ behind))))

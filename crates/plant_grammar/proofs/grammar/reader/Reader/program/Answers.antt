@@ -1,4 +1,4 @@
-use Rattle.std.proofs.Common.{◌≡◌, ◌≢◌, ◌<◌, ◌++◌, List, length, subst, sym}
+use Rattle.std.proofs.Common.{◌≡◌, ◌≢◌, ◌<◌, ◌++◌, [], ◌∷◌, List, length, subst, sym}
 use Rattle.plant_grammar.specs.Grammar.{TextValue}
 use Rattle.plant_grammar.specs.declared.grammar.tree.Program.{Program}
 use Rattle.plant_grammar.specs.Steps.ReadParts.{IsNew}
@@ -8,12 +8,15 @@ use Rattle.plant_grammar.specs.Steps.Declaring.{BeginRefused}
 use Rattle.lists.proofs.Results.{kept_fault}
 use Rattle.plant_grammar.proofs.RefusedPlaces.{in_program}
 use Rattle.plant_text.specs.declared.token.Token.{Token}
-use Rattle.plant_grammar.specs.declared.grammar_fault.GrammarFaultKind.TheVariants.{Memory, Syntax}
-use Rattle.plant_grammar.specs.Grammar.{program_words}
+use Rattle.plant_grammar.specs.declared.grammar_fault.GrammarFaultKind.TheVariants.{Memory}
+use Rattle.plant_grammar.specs.Grammar.{block_words, program_words}
 use Rattle.plant_grammar.specs.Lawful.{IsProgramLawful}
 use Rattle.plant_grammar.proofs.LawfulPrograms.{blocks_allowed, end_allowed}
-use Rattle.plant_grammar.proofs.MissingWords.{syntax_no_memory, blocks_missing}
-use Rattle.plant_grammar.specs.WellFormed.{IsProgramWellFormed}
+use Rattle.std.specs.List.{flat_map}
+use Rattle.plant_text.specs.declared.token.Keyword.TheVariants as key
+use Rattle.plant_grammar.specs.Steps.Expected.{Expected, Key, ABody, MoreBlocks, program_rest, GetsStuck}
+use Rattle.plant_grammar.proofs.WalkedPrograms.{stuck_after_start, blocks_walked, stuck_behind_blocks, lawful_blocks_formed}
+use Rattle.plant_grammar.proofs.StuckBehind.{stuck_after}
 use Rattle.plant_grammar.proofs.grammar.reader.Reader.program.Goals as goal
 
 pub returns-clause-new : goal.returns-clause-new
@@ -39,15 +42,26 @@ returns-in_err-body-clause-other c =
     (λ known p rest e new few lawful. end_allowed p c.in_ok-name.name c.in_ok-blocks.blocks.items c.args.self.now.words c.program_start.new.self.words c.blocks-2.new.self.words rest c.in_ok-name.ensures.ok c.in_ok-blocks.ensures.ok c.in_ok-blocks.ensures.none e
     (c.in_err-body.ensures.other known))
 
-pub returns-in_err-blocks-clause-syntax : goal.returns-in_err-blocks-clause-syntax
-returns-in_err-blocks-clause-syntax c =
-    let fault = c.in_err-blocks.field-0.0 in
-    kept_fault fault (λ f. f.kind ≡ Syntax → (p : Program) (rest : List Token) → c.args.self.now.words ≡ program_words p ++ rest → IsProgramWellFormed p → ⊥) c.from_residual-in_err-blocks.result c.from_residual-in_err-blocks.ensures.1
-    (λ syntax p rest e formed. blocks_missing p c.in_ok-name.name c.args.self.now.words c.program_start.new.self.words rest c.in_ok-name.ensures.ok e formed (c.in_err-blocks.ensures.syntax syntax))
+pub returns-in_err-name-clause-stuck : goal.returns-in_err-name-clause-stuck
+returns-in_err-name-clause-stuck c =
+    let fault = c.in_err-name.field-0.0 in
+    kept_fault fault (GetsStuck (Key key.Program ∷ program_rest) c.args.self.now) c.from_residual.result c.from_residual.ensures.1
+    (λ syntax behind. c.in_err-name.ensures.stuck syntax (MoreBlocks ∷ ABody ∷ Key key.EndProgram ∷ behind))
 
-pub returns-in_err-body-clause-syntax : goal.returns-in_err-body-clause-syntax
-returns-in_err-body-clause-syntax c =
+pub returns-in_err-blocks-clause-stuck : goal.returns-in_err-blocks-clause-stuck
+returns-in_err-blocks-clause-stuck c =
+    let fault = c.in_err-blocks.field-0.0 in
+    kept_fault fault (GetsStuck (Key key.Program ∷ program_rest) c.args.self.now) c.from_residual-in_err-blocks.result c.from_residual-in_err-blocks.ensures.1
+    (stuck_after_start c.in_ok-name.name (MoreBlocks ∷ ABody ∷ Key key.EndProgram ∷ []) c.args.self.now c.program_start.new.self fault c.in_ok-name.ensures.ok c.in_ok-name.ensures.left
+    (λ syntax behind. c.in_err-blocks.ensures.stuck syntax (ABody ∷ Key key.EndProgram ∷ behind)))
+
+pub returns-in_err-body-clause-stuck : goal.returns-in_err-body-clause-stuck
+returns-in_err-body-clause-stuck c =
     let fault = c.in_err-body.field-0.0 in
-    kept_fault fault (λ f. f.kind ≡ Syntax → (p : Program) (rest : List Token) → c.args.self.now.words ≡ program_words p ++ rest → IsProgramWellFormed p → ⊥) c.from_residual-in_err-body.result c.from_residual-in_err-body.ensures.1
-    (λ syntax p rest e formed. end_allowed p c.in_ok-name.name c.in_ok-blocks.blocks.items c.args.self.now.words c.program_start.new.self.words c.blocks-2.new.self.words rest c.in_ok-name.ensures.ok c.in_ok-blocks.ensures.ok c.in_ok-blocks.ensures.none e
-    (c.in_err-body.ensures.other (syntax_no_memory fault syntax)))
+    let end : List Expected = ABody ∷ Key key.EndProgram ∷ [] in
+    let blocks = c.in_ok-blocks.blocks.items in
+    kept_fault fault (GetsStuck (Key key.Program ∷ program_rest) c.args.self.now) c.from_residual-in_err-body.result c.from_residual-in_err-body.ensures.1
+    (stuck_after_start c.in_ok-name.name (MoreBlocks ∷ end) c.args.self.now c.program_start.new.self fault c.in_ok-name.ensures.ok c.in_ok-name.ensures.left
+    (stuck_after (MoreBlocks ∷ end) (MoreBlocks ∷ end) (flat_map block_words blocks) c.program_start.new.self c.blocks-2.new.self fault c.in_ok-blocks.ensures.ok c.in_ok-blocks.ensures.left
+    (λ behind. blocks_walked blocks (end ++ behind) (lawful_blocks_formed blocks c.in_ok-blocks.ensures.lawful))
+    (stuck_behind_blocks end c.blocks-2.new.self fault c.in_ok-blocks.ensures.none c.in_err-body.ensures.stuck)))

@@ -1,12 +1,18 @@
-use Rattle.std.proofs.Common.{◌≤◌, length, arith}
+use Rattle.std.proofs.Common.{◌≤◌, [], ◌∷◌, length, arith}
 use Rattle.std.proofs.lemmas.List.{length-map}
+use Rattle.std.proofs.lemmas.Result.{IfErr-weaker}
 use Rattle.plant_grammar.specs.Grammar.{TextValue}
 use Rattle.plant_grammar.specs.declared.grammar.tree.Program.{Program}
 use Rattle.plant_grammar.specs.Steps.Reading.{programs_of}
 use Rattle.plant_grammar.specs.Steps.Declaring.{RepeatsName, IsNameNext}
+use Rattle.lists.proofs.Results.{kept_fault}
+use Rattle.plant_text.specs.declared.token.Keyword.TheVariants as key
+use Rattle.plant_grammar.specs.Steps.Expected.{Key, AName, GetsStuck}
+use Rattle.plant_grammar.proofs.UnexpectedWords.{key_stuck}
 use Rattle.plant_grammar.proofs.RefusedNames.{tells_with, both_told}
 use Rattle.plant_grammar.proofs.ReadLines.{line_before}
 use Rattle.plant_grammar.proofs.RefusedPlaces.{program_named}
+use Rattle.plant_grammar.proofs.StuckBehind.{stuck_after_key}
 use Rattle.plant_grammar.proofs.grammar.reader.Reader.program_start.Goals as goal
 
 pub returns-clause-names : goal.returns-clause-names
@@ -19,3 +25,13 @@ returns-clause-names c =
     (tells_with fault.kind repeats (IsNameNext words × (64 ≤ length c.args.before.now)) repeats (IsNameNext words × (64 ≤ length before)) (λ twice. twice)
     (λ full. (full.0, omega (arith, full.1, length-map c.args.before.now (λ (t : TextValue). t.program)))) tells) of)
     c.new_type.ensures.tells c.new_type.ensures.line
+
+pub returns-in_err-keyword-clause-stuck : goal.returns-in_err-keyword-clause-stuck
+returns-in_err-keyword-clause-stuck c =
+    let fault = c.in_err-keyword.field-0.0 in
+    kept_fault fault (GetsStuck (Key key.Program ∷ AName ∷ []) c.args.self.now) c.from_residual.result c.from_residual.ensures.1
+    (key_stuck key.Program (AName ∷ []) c.args.self.now fault c.in_err-keyword.ensures.err.0 c.in_err-keyword.ensures.other)
+
+pub returns-clause-stuck : goal.returns-clause-stuck
+returns-clause-stuck c =
+    IfErr-weaker c.new_type.result _ _ (λ fault stuck. stuck_after_key key.Program (AName ∷ []) c.args.self.now c.keyword.new.self fault c.in_ok-keyword.ensures.ok c.in_ok-keyword.ensures.left stuck) c.new_type.ensures.stuck

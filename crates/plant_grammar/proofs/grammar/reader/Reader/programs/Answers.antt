@@ -1,4 +1,4 @@
-use Rattle.std.proofs.Common.{rules, ◌≡◌, ◌≢◌, refl, ◌++◌, ◌∷◌, [], ◌∙◌, ◌<◌, ℕ, List, append_assoc, length, ap, sym, subst, arith, All}
+use Rattle.std.proofs.Common.{rules, ◌≡◌, ◌≢◌, refl, ◌++◌, ◌∷◌, [], ◌∙◌, ◌<◌, ℕ, List, append_assoc, length, ap, sym, subst, arith}
 use Rattle.std.proofs.lemmas.List.{length-map}
 use Rattle.std.specs.List.{flat_map}
 use Rattle.plant_grammar.specs.Lawful.{AreProgramsDeclared}
@@ -14,13 +14,16 @@ use Rattle.plant_grammar.specs.Steps.Declaring.{BeginWith, BeginRefusedBehind, I
 use Rattle.lists.proofs.Results.{kept_fault}
 use Rattle.plant_grammar.proofs.RefusedPlaces.{program_refused}
 use Rattle.plant_grammar.proofs.RefusedNames.{memory_result, memory_excused}
-use Rattle.plant_grammar.specs.declared.grammar_fault.GrammarFaultKind.TheVariants.{Memory, Syntax}
+use Rattle.plant_grammar.specs.declared.grammar_fault.GrammarFaultKind.TheVariants.{Memory}
 use Rattle.plant_text.specs.declared.token.Keyword.TheVariants as key
 use Rattle.plant_grammar.specs.declared.grammar_fault.GrammarFault.{GrammarFault}
 use Rattle.plant_grammar.specs.Steps.Lines.{IsNotNext}
 use Rattle.plant_grammar.proofs.LawfulPrograms.{program_allowed}
-use Rattle.plant_grammar.proofs.MissingWords.{program_missing}
+use Rattle.std.proofs.lemmas.List.Elements.{All-push}
+use Rattle.plant_grammar.specs.Steps.Expected.{MorePrograms, GetsStuck}
+use Rattle.plant_grammar.proofs.WalkedPrograms.{programs_walked, stuck_in_program, lawful_program_formed}
 use Rattle.plant_grammar.specs.WellFormed.{IsProgramWellFormed}
+use Rattle.plant_grammar.proofs.StuckBehind.{stuck_after}
 use Rattle.plant_grammar.proofs.grammar.reader.Reader.programs.Goals as goal
 
 pub programs-preserved : goal.programs-preserved
@@ -38,6 +41,11 @@ programs-preserved c =
       declared = programs_more before after program longer c.programs.invariant.declared
           (subst (λ ts. IsNew (λ (p : Program). p.name) (programs_of ts) program.name) c.as_slice.ensures.value c.in_ok-text.ensures.new)
           (omega (arith, few, length-map c.programs.texts.items (λ (t : TextValue). t.program))) c.in_ok-text.ensures.declared;
+      read = (
+        c.programs.invariant.read.0 ++ program ∷ [],
+        words_more program_words c.programs.invariant.read.0 (c.programs.invariant.read.0 ++ program ∷ []) program c.args.self.now.words c.programs.self.words c.program.new.self.words refl c.programs.invariant.read.1 c.in_ok-text.ensures.ok,
+        All-push IsProgramWellFormed c.programs.invariant.read.0 program c.programs.invariant.read.2 (lawful_program_formed program c.in_ok-text.ensures.declared),
+      );
     }
 
 pub returns-in_err-push-clause-err : goal.returns-in_err-push-clause-err
@@ -80,8 +88,11 @@ pub returns-in_err-push-clause-other : goal.returns-in_err-push-clause-other
 returns-in_err-push-clause-other c =
     memory_excused (λ (f : GrammarFault). (ps : List Program) (rest : List Token) → all_words c.args.texts.now.items c.args.self.now.words ≡ flat_map program_words ps ++ rest → IsNotNext (key_word key.Program) rest → AreProgramsDeclared ps → ⊥) c.from_residual-in_err-push.result c.from_residual-in_err-push.ensures.1
 
-pub returns-in_err-text-clause-syntax : goal.returns-in_err-text-clause-syntax
-returns-in_err-text-clause-syntax c =
+pub returns-in_err-text-clause-stuck : goal.returns-in_err-text-clause-stuck
+returns-in_err-text-clause-stuck c =
     let fault = c.in_err-text.field-0.0 in
-    kept_fault fault (λ f. f.kind ≡ Syntax → (ps : List Program) (rest : List Token) → all_words c.args.texts.now.items c.args.self.now.words ≡ flat_map program_words ps ++ rest → IsNotNext (key_word key.Program) rest → All IsProgramWellFormed ps → ⊥) c.from_residual.result c.from_residual.ensures.1
-    (λ syntax ps rest e none formed. program_missing (programs_of c.programs.texts.items) ps (all_words c.args.texts.now.items c.args.self.now.words) c.programs.self.words rest c.programs.invariant.words (c.programs-test.ensures.yes refl) e none formed (c.in_err-text.ensures.syntax syntax))
+    let read = c.programs.invariant.read in
+    kept_fault fault (GetsStuck (MorePrograms ∷ []) c.args.self.now) c.from_residual.result c.from_residual.ensures.1
+    (stuck_after (MorePrograms ∷ []) (MorePrograms ∷ []) (flat_map program_words read.0) c.args.self.now c.programs.self fault read.1 c.programs.invariant.left
+    (λ behind. programs_walked read.0 behind read.2)
+    (stuck_in_program c.programs.self fault (c.programs-test.ensures.yes refl) c.in_err-text.ensures.stuck))

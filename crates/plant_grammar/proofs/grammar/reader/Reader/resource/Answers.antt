@@ -4,7 +4,7 @@ use Rattle.plant_grammar.specs.Steps.Reading.{programs_of}
 use Rattle.lists.proofs.Results.{kept_fault}
 use Rattle.plant_grammar.proofs.ReadLines.{line_before}
 use Rattle.plant_grammar.proofs.RefusedPlaces.{resource_named, in_resource}
-use Rattle.std.proofs.Common.{◌≡◌, ◌≢◌, ◌<◌, ◌++◌, List, length}
+use Rattle.std.proofs.Common.{◌≡◌, ◌≢◌, ◌<◌, ◌++◌, List, length, ◌∷◌, []}
 use Rattle.plant_text.specs.declared.token.Token.{Token}
 use Rattle.plant_grammar.specs.declared.grammar_fault.GrammarFaultKind.TheVariants.{Memory}
 use Rattle.plant_grammar.specs.declared.grammar.tree.Resource.{Resource}
@@ -13,6 +13,11 @@ use Rattle.plant_grammar.specs.Lawful.{uses_of, IsResourceLawful}
 use Rattle.plant_grammar.specs.Steps.ReadParts.{types_alone, IsNew}
 use Rattle.plant_grammar.specs.Steps.Refusing.{HasRoomFor, AreTypesApart}
 use Rattle.plant_grammar.proofs.LawfulResources.{items_of_resource, resource_started}
+use Rattle.plant_text.specs.declared.token.Keyword.TheVariants as key
+use Rattle.plant_grammar.specs.Steps.Expected.{Key, AName, MoreItems, resource_rest, GetsStuck}
+use Rattle.plant_grammar.proofs.UnexpectedWords.{key_stuck, name_stuck}
+use Rattle.plant_grammar.proofs.WalkedResources.{stuck_more}
+use Rattle.plant_grammar.proofs.StuckBehind.{stuck_after_key, stuck_after_name}
 use Rattle.plant_grammar.proofs.grammar.reader.Reader.resource.Goals as goal
 
 pub returns-in_err-name-clause-names : goal.returns-in_err-name-clause-names
@@ -43,3 +48,58 @@ returns-in_err-items-clause-other c =
 pub returns-clause-lined : goal.returns-clause-lined
 returns-clause-lined c = λ all h.
     c.in_ok-items.ensures.lined all (c.in_ok-node.ensures.left all (c.in_ok-keyword-2.ensures.left all (c.in_ok-name.ensures.left all (c.in_ok-keyword.ensures.left all h))))
+
+pub returns-in_err-keyword-clause-stuck : goal.returns-in_err-keyword-clause-stuck
+returns-in_err-keyword-clause-stuck c =
+    let fault = c.in_err-keyword.field-0.0 in
+    let start = c.args.self.now in
+    kept_fault fault (GetsStuck (Key key.Resource ∷ resource_rest) start) c.from_residual.result c.from_residual.ensures.1
+    (key_stuck key.Resource (AName ∷ Key key.On ∷ AName ∷ MoreItems ∷ []) start fault c.in_err-keyword.ensures.err.0 c.in_err-keyword.ensures.other)
+
+pub returns-in_err-name-clause-stuck : goal.returns-in_err-name-clause-stuck
+returns-in_err-name-clause-stuck c =
+    let fault = c.in_err-name.field-0.0 in
+    let start = c.args.self.now in
+    let one = c.keyword.new.self in
+    kept_fault fault (GetsStuck (Key key.Resource ∷ resource_rest) start) c.from_residual-in_err-name.result c.from_residual-in_err-name.ensures.1
+    (stuck_after_key key.Resource (AName ∷ Key key.On ∷ AName ∷ MoreItems ∷ []) start one fault c.in_ok-keyword.ensures.ok c.in_ok-keyword.ensures.left
+    (stuck_more (AName ∷ []) (Key key.On ∷ AName ∷ MoreItems ∷ []) one fault c.in_err-name.ensures.stuck))
+
+pub returns-in_err-keyword-2-clause-stuck : goal.returns-in_err-keyword-2-clause-stuck
+returns-in_err-keyword-2-clause-stuck c =
+    let fault = c.in_err-keyword-2.field-0.0 in
+    let start = c.args.self.now in
+    let one = c.keyword.new.self in
+    let two = c.resource_name.new.self in
+    kept_fault fault (GetsStuck (Key key.Resource ∷ resource_rest) start) c.from_residual-in_err-keyword-2.result c.from_residual-in_err-keyword-2.ensures.1
+    (stuck_after_key key.Resource (AName ∷ Key key.On ∷ AName ∷ MoreItems ∷ []) start one fault c.in_ok-keyword.ensures.ok c.in_ok-keyword.ensures.left
+    (stuck_after_name c.in_ok-name.name (Key key.On ∷ AName ∷ MoreItems ∷ []) one two fault c.in_ok-name.ensures.ok c.in_ok-name.ensures.left
+    (key_stuck key.On (AName ∷ MoreItems ∷ []) two fault c.in_err-keyword-2.ensures.err.0 c.in_err-keyword-2.ensures.other)))
+
+pub returns-in_err-node-clause-stuck : goal.returns-in_err-node-clause-stuck
+returns-in_err-node-clause-stuck c =
+    let fault = c.in_err-node.field-0.0 in
+    let start = c.args.self.now in
+    let one = c.keyword.new.self in
+    let two = c.resource_name.new.self in
+    let three = c.keyword-2.new.self in
+    kept_fault fault (GetsStuck (Key key.Resource ∷ resource_rest) start) c.from_residual-in_err-node.result c.from_residual-in_err-node.ensures.1
+    (stuck_after_key key.Resource (AName ∷ Key key.On ∷ AName ∷ MoreItems ∷ []) start one fault c.in_ok-keyword.ensures.ok c.in_ok-keyword.ensures.left
+    (stuck_after_name c.in_ok-name.name (Key key.On ∷ AName ∷ MoreItems ∷ []) one two fault c.in_ok-name.ensures.ok c.in_ok-name.ensures.left
+    (stuck_after_key key.On (AName ∷ MoreItems ∷ []) two three fault c.in_ok-keyword-2.ensures.ok c.in_ok-keyword-2.ensures.left
+    (name_stuck (MoreItems ∷ []) three fault c.in_err-node.ensures.err c.in_err-node.ensures.other))))
+
+pub returns-in_err-items-clause-stuck : goal.returns-in_err-items-clause-stuck
+returns-in_err-items-clause-stuck c =
+    let fault = c.in_err-items.field-0.0 in
+    let start = c.args.self.now in
+    let one = c.keyword.new.self in
+    let two = c.resource_name.new.self in
+    let three = c.keyword-2.new.self in
+    let four = c.name-2.new.self in
+    kept_fault fault (GetsStuck (Key key.Resource ∷ resource_rest) start) c.from_residual-in_err-items.result c.from_residual-in_err-items.ensures.1
+    (stuck_after_key key.Resource (AName ∷ Key key.On ∷ AName ∷ MoreItems ∷ []) start one fault c.in_ok-keyword.ensures.ok c.in_ok-keyword.ensures.left
+    (stuck_after_name c.in_ok-name.name (Key key.On ∷ AName ∷ MoreItems ∷ []) one two fault c.in_ok-name.ensures.ok c.in_ok-name.ensures.left
+    (stuck_after_key key.On (AName ∷ MoreItems ∷ []) two three fault c.in_ok-keyword-2.ensures.ok c.in_ok-keyword-2.ensures.left
+    (stuck_after_name c.in_ok-node.node (MoreItems ∷ []) three four fault c.in_ok-node.ensures.ok c.in_ok-node.ensures.left
+    (c.in_err-items.ensures.stuck)))))

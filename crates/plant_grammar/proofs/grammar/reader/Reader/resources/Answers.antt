@@ -1,4 +1,4 @@
-use Rattle.std.proofs.Common.{rules, ◌≡◌, ◌≢◌, ◌<◌, ◌++◌, length, refl, sym, subst, List, All}
+use Rattle.std.proofs.Common.{rules, ◌≡◌, ◌≢◌, ◌<◌, ◌++◌, length, refl, sym, subst, List, ◌∷◌, [], arith}
 use Rattle.plant_grammar.specs.declared.grammar.tree.Resource.{Resource}
 use Rattle.plant_grammar.specs.Lawful.{uses_of}
 use Rattle.plant_grammar.specs.Grammar.{resource_words, resources_words}
@@ -11,14 +11,15 @@ use Rattle.plant_grammar.specs.Steps.Reading.{programs_of}
 use Rattle.lists.proofs.Results.{kept_fault}
 use Rattle.plant_grammar.proofs.RefusedPlaces.{resource_refused}
 use Rattle.plant_text.specs.declared.token.Token.{Token}
-use Rattle.plant_grammar.specs.declared.grammar_fault.GrammarFaultKind.TheVariants.{Memory, Syntax}
+use Rattle.plant_grammar.specs.declared.grammar_fault.GrammarFaultKind.TheVariants.{Memory}
 use Rattle.std.specs.List.{flat_map}
 use Rattle.plant_grammar.specs.Steps.Refusing.{HasRoomFor, AreTypesApart}
 use Rattle.plant_grammar.proofs.LawfulResources.{resource_allowed, first_resource}
-use Rattle.plant_grammar.proofs.MissingWords.{resource_missing}
-use Rattle.plant_grammar.specs.WellFormed.{IsResourceWellFormed}
 use Rattle.plant_grammar.specs.SourceLines.{IsResourceOn, EachBefore}
 use Rattle.plant_grammar.proofs.PlacedSources.{each_more}
+use Rattle.plant_text.specs.declared.token.Keyword.TheVariants as key
+use Rattle.plant_grammar.specs.Steps.Expected.{Key, MoreResources, resource_rest, GetsStuck}
+use Rattle.plant_grammar.proofs.WalkedResources.{stuck_in_resource, formed_resources}
 use Rattle.plant_grammar.proofs.grammar.reader.Reader.resources.Goals as goal
 use Rattle.plant_grammar.proofs.grammar.reader.Reader.resources.Goals.{then-is_empty, else-is_empty+then-not-sees_keyword}
 
@@ -56,12 +57,13 @@ returns-in_err-resource-clause-other c =
     ]) e lawful room
     (λ r after h new few known_r left. c.in_err-resource.ensures.other known r after h apart (subst (λ (ys : List Resource). IsNew (λ (r : Resource). r.name) ys r.name) (sym c.deref.ensures.value) new) (subst (λ (ys : List Resource). length ys < 16) (sym c.deref.ensures.value) few) known_r left))
 
-pub returns-in_err-resource-clause-syntax : goal.returns-in_err-resource-clause-syntax
-returns-in_err-resource-clause-syntax c =
+pub returns-in_err-resource-clause-stuck : goal.returns-in_err-resource-clause-stuck
+returns-in_err-resource-clause-stuck c =
     let fault = c.in_err-resource.field-0.0 in
-    kept_fault fault (λ f. f.kind ≡ Syntax → (rs : List Resource) (rest : List Token) → c.args.self.now.words ≡ resources_words rs ++ rest → 0 < length rs → All IsResourceWellFormed rs → ⊥) c.from_residual.result c.from_residual.ensures.1
-    (λ syntax rs rest e some formed. resource_missing c.resources.resources.items rs c.args.self.now.words c.resources.self.words rest c.resources.invariant.words
-    (λ i. elim c.if-is_empty.branch [
-      | then-is_empty w ↦ first_resource rs c.resources.resources.items c.args.self.now.words c.resources.self.words rest rest some (search rules) c.resources.invariant.words e i
-      | else-is_empty+then-not-sees_keyword w ↦ w.if-not-sees_keyword.ensures.no refl rest i
-    ]) e formed (c.in_err-resource.ensures.syntax syntax))
+    kept_fault fault (GetsStuck (Key key.Resource ∷ resource_rest ++ MoreResources ∷ []) c.args.self.now) c.from_residual.result c.from_residual.ensures.1
+    (stuck_in_resource c.resources.resources.items c.args.self.now c.resources.self fault c.resources.invariant.words c.resources.invariant.left
+    (formed_resources (types_alone c.args.types.now) c.resources.resources.items c.resources.invariant.lawful.lawful)
+    (λ some. elim c.if-is_empty.branch [
+      | then-is_empty w ↦ let none : length c.resources.resources.items ≡ 0 = search rules in absurd (omega (arith, none, some))
+      | else-is_empty+then-not-sees_keyword w ↦ w.if-not-sees_keyword.ensures.no refl
+    ]) c.in_err-resource.ensures.stuck)

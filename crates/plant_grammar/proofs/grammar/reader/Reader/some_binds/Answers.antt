@@ -4,7 +4,7 @@ use Rattle.plant_grammar.specs.NameFaults.{IsAfter, RefusesBind}
 use Rattle.plant_grammar.specs.Steps.Declaring.{BeginRefused}
 use Rattle.lists.proofs.Results.{kept_fault}
 use Rattle.plant_grammar.proofs.RefusedPlaces.{in_binds}
-use Rattle.std.proofs.Common.{◌≡◌, ◌≢◌, ◌+◌, ◌≤◌, ◌++◌, ◌∷◌, List, Option, length, map}
+use Rattle.std.proofs.Common.{◌≡◌, ◌≢◌, ◌+◌, ◌≤◌, ◌++◌, ◌∷◌, List, Option, length, map, []}
 use Rattle.std.specs.Prelude.{All}
 use Rattle.plant_text.specs.declared.token.Token.{Token}
 use Rattle.plant_grammar.specs.declared.grammar_fault.GrammarFaultKind.TheVariants.{Memory}
@@ -14,6 +14,8 @@ use Rattle.lists.specs.Items.{items_or_none}
 use Rattle.plant_grammar.specs.Names.{AreNamesApart}
 use Rattle.plant_grammar.specs.Lawful.{variables}
 use Rattle.plant_grammar.proofs.LawfulResources.{listed_allowed, behind_binds}
+use Rattle.plant_grammar.specs.Steps.Expected.{MayHaveBinds, GetsStuck}
+use Rattle.plant_grammar.proofs.WalkedResources.{stuck_in_binds}
 use Rattle.plant_grammar.proofs.grammar.reader.Reader.some_binds.Goals as goal
 
 pub returns-in_err-binds-clause-names : goal.returns-in_err-binds-clause-names
@@ -32,3 +34,9 @@ returns-in_err-binds-clause-other c =
 pub returns-in_ok-binds-clause-only : goal.returns-in_ok-binds-clause-only
 returns-in_ok-binds-clause-only c = λ bs rest e.
     behind_binds bs c.in_ok-binds.field-0.items c.args.self.now.words c.punctuation.new.self.words c.binds.new.self.words rest c.in_ok-punctuation.ensures.ok c.in_ok-binds.ensures.ok e
+
+pub returns-in_err-binds-clause-stuck : goal.returns-in_err-binds-clause-stuck
+returns-in_err-binds-clause-stuck c =
+    let fault = c.in_err-binds.field-0.0 in
+    kept_fault fault (GetsStuck (MayHaveBinds ∷ []) c.args.self.now) c.from_residual-in_err-binds.result c.from_residual-in_err-binds.ensures.1
+    (stuck_in_binds c.args.self.now c.punctuation.new.self fault c.in_ok-punctuation.ensures.ok c.in_ok-punctuation.ensures.left c.in_err-binds.ensures.stuck)

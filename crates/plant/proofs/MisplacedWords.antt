@@ -1,0 +1,100 @@
+-- Where a Syntax stands.
+use Rattle.std.proofs.Common.{◌≡◌, ◌≢◌, ◌⊎◌, inl, inr, ℕ, List, [], ◌∷◌, ◌++◌, map, length, refl, sym, ap, subst, ◌∙◌, append_assoc, arith}
+use Rattle.std.proofs.lemmas.List.{length-append, map-append}
+use Rattle.std.proofs.lemmas.List.Elements.{All-head}
+use Rattle.lists.proofs.Members.{all_first, all_last}
+use Rattle.words.specs.Lines.{without_last}
+use Rattle.plant_text.specs.declared.token.Token.{Token}
+use Rattle.plant_text.specs.declared.token.Token.TheVariants as token
+use Rattle.plant_text.specs.Lines.{WordValue, IsSpelledBy, IsBegunBy, BeginsWithWordsThen, HasNoWordBehind, IsStoppedBy, AreWordsButLast}
+use Rattle.plant_grammar.specs.GoesOn.{GoesOn, IsLastMisplaced}
+use Rattle.plant_grammar.specs.Steps.Lines.{ReaderValue, HasLinesOf}
+use Rattle.plant_grammar.specs.Steps.Declaring.{BeginWith, IsLineBefore}
+use Rattle.plant_grammar.specs.Steps.Expected.{MeetsMisplaced}
+use Rattle.plant.specs.PlantText.{IsMisplacedIn, IsUnknownIn, EndsEarly}
+use Rattle.plant.proofs.KnownWords.{IsKnown, AreKnown, nothing, behind, both, words_known}
+use Rattle.plant.proofs.BodyCounts.{same_fronts}
+use Rattle.plant.proofs.RefusedKnown.{CutAtLine, cut_at_line}
+
+-- a word is unknown or known
+unknown_or_known : (t : Token) → (t ≡ token.Unknown) ⊎ (t ≢ token.Unknown)
+unknown_or_known (token.Keyword k) = inr (λ e. cc)
+unknown_or_known (token.Block b) = inr (λ e. cc)
+unknown_or_known (token.Punctuation p) = inr (λ e. cc)
+unknown_or_known (token.Name n) = inr (λ e. cc)
+unknown_or_known (token.Number n) = inr (λ e. cc)
+unknown_or_known (token.Duration n) = inr (λ e. cc)
+unknown_or_known (token.Address a) = inr (λ e. cc)
+unknown_or_known (token.Body b) = inr (λ e. cc)
+unknown_or_known token.Unknown = inl refl
+
+-- words from which a plant goes on are known
+goes_on_known : (ws : List Token) → GoesOn ws → AreKnown ws
+goes_on_known ws g = all_first IsKnown ws g.1 (subst AreKnown g.2 (words_known g.0))
+
+-- where words are followed by one, those and that one are known
+front_is : (xs ys : List Token) (x y : Token) → xs ++ x ∷ [] ≡ ys ++ y ∷ [] → xs ≡ ys
+front_is xs ys x y e =
+    let one = length-append xs (x ∷ []) in
+    let two = length-append ys (y ∷ []) in
+    let same = ap length e in
+    let many : length xs ≡ length ys = omega (arith, one, two, same) in
+    same_fronts xs (x ∷ []) ys (y ∷ []) e many
+
+-- a list has a last item
+last_of : {A : Type 0} (x : A) (xs : List A) → (front : List A) × (last : A) × (x ∷ xs ≡ front ++ last ∷ [])
+last_of x [] = ([], x, refl)
+last_of {A} x (y ∷ ys) = let l = last_of y ys in (x ∷ l.0, l.1, ap (λ (zs : List A). x ∷ zs) l.2)
+
+-- no word stands behind an unknown one
+unknown_last : (ws before back : List WordValue) (w : WordValue) → AreWordsButLast ws → ws ≡ before ++ w ∷ back → w.token ≡ token.Unknown → back ≡ []
+unknown_last ws before [] w words e unknown = refl
+unknown_last ws before (b ∷ back) w words e unknown =
+    let token_of : WordValue → Token = λ (w : WordValue). w.token in
+    let l = last_of b back in
+    let parts : ws ≡ (before ++ w ∷ l.0) ++ l.1 ∷ [] = e ∙ ap (λ (vs : List WordValue). before ++ w ∷ vs) l.2 ∙ sym (append_assoc before (w ∷ l.0) (l.1 ∷ [])) in
+    let known : AreKnown (map token_of before ++ w.token ∷ map token_of l.0) = subst AreKnown (map-append token_of before (w ∷ l.0)) (words (before ++ w ∷ l.0) l.1 parts) in
+    absurd (All-head IsKnown w.token (map token_of l.0) (all_last IsKnown (map token_of before) (w.token ∷ map token_of l.0) known) unknown)
+
+-- what is known of the words read says where the first misplaced one stands
+pub syntax_first : (text : List ℕ) (ws : List WordValue) (r : ReaderValue) (line : ℕ) → map (λ (w : WordValue). w.token) ws ≡ r.words → HasLinesOf (map (λ (w : WordValue). w.line) ws) r → IsSpelledBy (without_last 13 text) ws → IsBegunBy (without_last 13 text) ws → IsStoppedBy (without_last 13 text) ws → AreWordsButLast ws
+    → MeetsMisplaced r line → IsMisplacedIn text line ⊎ (IsUnknownIn text line ⊎ EndsEarly text)
+syntax_first text ws r line words lines spelled begun stopped last_one (inl g) =
+    let tokens = map (λ (w : WordValue). w.token) ws in
+    let here : GoesOn tokens = subst GoesOn (sym words) g in
+    inr (inr (tokens, spelled (goes_on_known tokens here), here))
+syntax_first text ws r line words lines spelled begun stopped last_one (inr b) =
+    let line_of : WordValue → ℕ = λ (w : WordValue). w.line in
+    let here : BeginWith (IsLineBefore (map line_of ws) line) IsLastMisplaced r.words =
+    record { front = b.front; rest = b.rest; parts = b.parts; holds = b.holds; behind = b.behind (map line_of ws) lines } in
+    of_cut (cut_at_line IsLastMisplaced ws line r.words words here)
+  where
+    is : (cut : CutAtLine IsLastMisplaced ws line) → GoesOn (map (λ (w : WordValue). w.token) cut.before) → (cut.word.token ≡ token.Unknown) ⊎ (cut.word.token ≢ token.Unknown) → IsMisplacedIn text line ⊎ (IsUnknownIn text line ⊎ EndsEarly text)
+    is cut goes_on (inr known) =
+        let token_of : WordValue → Token = λ (w : WordValue). w.token in
+        let words : AreKnown (map token_of (cut.before ++ cut.word ∷ [])) = subst AreKnown (sym (map-append token_of cut.before (cut.word ∷ []))) (both (map token_of cut.before) (cut.word.token ∷ []) (goes_on_known (map token_of cut.before) goes_on) (behind cut.word.token [] known nothing)) in
+        inl (record {
+          before = cut.before;
+          word = cut.word;
+          begun = begun (cut.before ++ cut.word ∷ []) cut.back cut.parts words;
+          known = known;
+          goes_on = goes_on;
+          misplaced = cut.holds.misplaced;
+          line_is = cut.line_is;
+        })
+    is cut goes_on (inl unknown) =
+        let parts : ws ≡ cut.before ++ cut.word ∷ cut.back = cut.parts ∙ append_assoc cut.before (cut.word ∷ []) cut.back in
+        let none = unknown_last ws cut.before cut.back cut.word last_one parts unknown in
+        let alone : ws ≡ cut.before ++ cut.word ∷ [] = parts ∙ ap (λ back. cut.before ++ cut.word ∷ back) none in
+        inr (inl (record {
+          before = cut.before;
+          goes_on = goes_on;
+          stopped = subst (λ line. BeginsWithWordsThen (λ n rest. HasNoWordBehind cut.before n rest line) (without_last 13 text) cut.before) (sym cut.line_is) (stopped cut.before cut.word alone unknown);
+        }))
+
+    of_cut : CutAtLine IsLastMisplaced ws line → IsMisplacedIn text line ⊎ (IsUnknownIn text line ⊎ EndsEarly text)
+    of_cut cut =
+        let token_of : WordValue → Token = λ (w : WordValue). w.token in
+        let before : map token_of cut.before ≡ cut.holds.before = front_is (map token_of cut.before) cut.holds.before cut.word.token cut.holds.word (sym (map-append token_of cut.before (cut.word ∷ [])) ∙ cut.holds.parts) in
+        let goes_on = subst GoesOn (sym before) cut.holds.goes_on in
+        is cut goes_on (unknown_or_known cut.word.token)

@@ -1,0 +1,124 @@
+-- What is expected behind words, and where one of them can't stand.
+use Rattle.std.proofs.Common.{◌≡◌, ◌≢◌, inl, inr, ℕ, List, [], ◌∷◌, ◌++◌, Option, Some, None, refl, sym, ap, ◌∙◌, append_assoc}
+use Rattle.plant_text.specs.declared.token.Token.{Token}
+use Rattle.plant_grammar.specs.Steps.Lines.{ReaderValue, KeepsLines, next_line}
+use Rattle.plant_grammar.specs.Steps.Declaring.{BeginWith}
+use Rattle.plant_grammar.specs.Steps.Expected.{Expected, and_then, step, walk, EndsUnexpected, IsUnended, IsOnLine, IsStuck}
+use Rattle.plant_grammar.proofs.ReadLines.{line_before}
+
+-- the step to the first of words
+abbrev pub StepsOn : List Expected → Token → List Token → Option (List Expected) → Type 0
+StepsOn es t more end = (new : List Expected) × (step es t ≡ Some new) × (walk new more ≡ end)
+
+-- from where a word is walked
+pub walked_first : (es : List Expected) (t : Token) (more : List Token) (fs : List Expected) → walk es (t ∷ more) ≡ Some fs → StepsOn es t more (Some fs)
+unfolding walk
+walked_first es t more fs e = go (step es t) refl e
+  where
+    go : (found : Option (List Expected)) → step es t ≡ found → and_then found (λ new. walk new more) ≡ Some fs → StepsOn es t more (Some fs)
+    go None is e = cc (e)
+    go (Some new) is e = (new, is, e)
+
+-- a word is walked from there
+pub walk_first : (es new : List Expected) (t : Token) (more : List Token) → step es t ≡ Some new → walk es (t ∷ more) ≡ walk new more
+unfolding walk
+walk_first es new t more is = ap (λ found. and_then found (λ gs. walk gs more)) is
+
+walk_nothing : (es : List Expected) → walk es [] ≡ Some es
+unfolding walk
+walk_nothing es = refl
+
+pub walk_none : (es fs : List Expected) → walk es [] ≡ Some fs → es ≡ fs
+unfolding walk
+walk_none es fs e = cc (e)
+
+-- words behind words
+pub walk_append : (es fs : List Expected) (read more : List Token) → walk es read ≡ Some fs → walk es (read ++ more) ≡ walk fs more
+walk_append es fs [] more e = ap (λ gs. walk gs more) (walk_none es fs e)
+walk_append es fs (t ∷ read) more e =
+    let s = walked_first es t read fs e in
+    walk_first es s.0 t (read ++ more) s.1 ∙ walk_append s.0 fs read more s.2
+
+-- where a word can't stand behind words that can
+pub unexpected_behind : (es fs : List Expected) (read words : List Token) → walk es read ≡ Some fs → EndsUnexpected fs words → EndsUnexpected es (read ++ words)
+unexpected_behind es fs read words e s = record {
+  before = read ++ s.before;
+  word = s.word;
+  parts = ap (λ ws. read ++ ws) s.parts ∙ sym (append_assoc read s.before (s.word ∷ []));
+  expected = s.expected;
+  walked = walk_append es fs read s.before e ∙ s.walked;
+  more = s.more;
+  unexpected = s.unexpected;
+}
+
+-- words were read, and behind them it is so
+pub stuck_behind : (es fs : List Expected) (read : List Token) (old new : ReaderValue) (line : ℕ) → old.words ≡ read ++ new.words → KeepsLines old new → walk es read ≡ Some fs → IsStuck fs new line → IsStuck es old line
+stuck_behind es fs read old new line e keeps w (inl (expected, walked, more)) = inl (expected, ap (walk es) e ∙ walk_append es fs read new.words w ∙ walked, more)
+stuck_behind es fs read old new line e keeps w (inr b) =
+    inr (record {
+      front = read ++ b.front;
+      rest = b.rest;
+      parts = e ∙ ap (λ ws. read ++ ws) b.parts ∙ sym (append_assoc read b.front b.rest);
+      holds = unexpected_behind es fs read b.front w b.holds;
+      behind = λ all h. b.behind all (keeps all h);
+    })
+
+-- the next word can't stand where it does, or there is none
+pub stuck_here : (es : List Expected) (r : ReaderValue) (line : ℕ) → line ≡ next_line r → es ≢ [] → ((t : Token) (rest : List Token) → r.words ≡ t ∷ rest → step es t ≡ None) → IsStuck es r line
+unfolding walk
+stuck_here es r line is some none = go r.words refl
+  where
+    go : (words : List Token) → r.words ≡ words → IsStuck es r line
+    go [] e = inl (es, rw e refl, some)
+    go (t ∷ rest) e = inr (record {
+      front = t ∷ [];
+      rest = rest;
+      parts = e;
+      holds = record { before = []; word = t; parts = refl; expected = es; walked = refl; more = some; unexpected = none t rest e };
+      behind = λ all h. line_before all r line h is t rest e;
+    })
+
+-- where the first word leads to the same from both
+pub stuck_as : (es fs : List Expected) (r : ReaderValue) (line : ℕ) → fs ≢ [] → ((t : Token) (rest : List Token) → r.words ≡ t ∷ rest → step es t ≡ step fs t) → IsStuck es r line → IsStuck fs r line
+stuck_as es fs r line some same stuck = go r.words refl stuck
+  where
+    unended : (words : List Token) → r.words ≡ words → IsUnended es words → IsUnended fs words
+    unended [] e (expected, walked, more) = (fs, walk_nothing fs, some)
+    unended (t ∷ rest) e (expected, walked, more) =
+        let s = walked_first es t rest expected walked in
+        (expected, walk_first fs s.0 t rest (sym (same t rest e) ∙ s.1) ∙ s.2, more)
+
+    unexpected_as : (words rest before : List Token) (word : Token) → r.words ≡ words ++ rest → words ≡ before ++ word ∷ [] → (expected : List Expected) → walk es before ≡ Some expected → expected ≢ [] → step expected word ≡ None → EndsUnexpected fs words
+    unexpected_as words rest [] word e parts expected walked more unexpected = record {
+      before = [];
+      word = word;
+      parts = parts;
+      expected = fs;
+      walked = walk_nothing fs;
+      more = some;
+      unexpected = sym (same word rest (e ∙ ap (λ ws. ws ++ rest) parts)) ∙ ap (λ gs. step gs word) (walk_none es expected walked) ∙ unexpected;
+    }
+    unexpected_as words rest (t ∷ before) word e parts expected walked more unexpected =
+        let s = walked_first es t before expected walked in
+        record {
+          before = t ∷ before;
+          word = word;
+          parts = parts;
+          expected = expected;
+          walked = walk_first fs s.0 t before (sym (same t ((before ++ word ∷ []) ++ rest) (e ∙ ap (λ ws. ws ++ rest) parts)) ∙ s.1) ∙ s.2;
+          more = more;
+          unexpected = unexpected;
+        }
+
+    seen : BeginWith (IsOnLine r line) (EndsUnexpected es) r.words → BeginWith (IsOnLine r line) (EndsUnexpected fs) r.words
+    seen b = record {
+      front = b.front;
+      rest = b.rest;
+      parts = b.parts;
+      holds = unexpected_as b.front b.rest b.holds.before b.holds.word b.parts b.holds.parts b.holds.expected b.holds.walked b.holds.more b.holds.unexpected;
+      behind = b.behind;
+    }
+
+    go : (words : List Token) → r.words ≡ words → IsStuck es r line → IsStuck fs r line
+    go words e (inl un) = inl (unended r.words refl un)
+    go words e (inr b) = inr (seen b)

@@ -1,0 +1,176 @@
+-- Where a text has no word, and why.
+use Rattle.std.proofs.Common.{◌≡◌, ◌≢◌, ◌==◌, ◌&&◌, ◌<◌, ◌≤◌, ◌+◌, ◌-◌, ℕ, Bool, true, false, min, List, [], ◌∷◌, ◌++◌, length, take, Option, Some, None, IfSome, All, ◌⊎◌, inl, inr, refl, ap, sym, subst, ◌∙◌, append_assoc, arith}
+use Rattle.std.proofs.lemmas.List.{append-nil, length-append, map-append}
+use Rattle.std.proofs.lemmas.List.Elements.{All-nil, All-push}
+use Rattle.std.proofs.lemmas.Grind.{flat_map-append}
+use Rattle.plant_text.specs.declared.token.Token.{Token}
+use Rattle.plant_text.specs.declared.token.Token.TheVariants as token
+use Rattle.plant_text.specs.declared.lexer.Stage.{Stage}
+use Rattle.plant_text.specs.declared.lexer.Stage.TheVariants as stage
+use Rattle.plant_text.specs.Words.{front_len, word_of}
+use Rattle.plant_text.specs.Places.{stage_behind, is_due, stage_after, stage_after_all}
+use Rattle.plant_text.specs.Spelling.{ends_comment, feeds, BeginsNoBlock, HasNoBodyThen}
+use Rattle.plant_text.specs.Lines.{WordValue, body_line, body_lines, BeginsWithWordsThen, IsBodyPlace, HasNoWord, unknown_word, open_comment, no_body, many_bodies, HasNoWordBehind, IsStoppedBy, AreWordsButLast}
+use Rattle.plant_text.specs.Steps.Gaps.{behind_comment, behind_space, IsBehindGap}
+use Rattle.plant_text.specs.Steps.Lexing.{LexerValue, GoesOn, FindsNoWord, StopsAt}
+use Rattle.plant_text.proofs.FirstWords.{word_of-body}
+use Rattle.plant_text.proofs.FoundGaps.{cases_of_cond, no_piece}
+use Rattle.plant_text.proofs.LineCounts.{passed, counted, tokens, word_lines, AreKnown, known_parts, IsCountedTo, begins_then}
+
+-- where nothing is left behind a comment, it doesn't end
+comment_open : (t : List ℕ) → behind_comment t ≡ None → ends_comment t ≡ false
+comment_open [] h = refl
+comment_open (c ∷ []) h = refl
+comment_open (c ∷ e ∷ more) h = elim (cases_of_cond (c == 42 && e == 41) (Some more) (behind_comment (e ∷ more)) None h) [
+  | inl w ↦ absurd cc
+  | inr w ↦ rw w.0 (comment_open (e ∷ more) w.1)
+]
+
+-- no word behind a gap
+pub no_word_found : (old passing : LexerValue) (inner front : List ℕ) (w : WordValue) → old.text ≡ inner → IsBehindGap inner front → (front ≡ [] → ⊥) → passing.text ≡ front
+    → passing.line ≡ min (old.line + feeds (take (length old.text - length front) old.text)) 18446744073709551615 → w.line ≡ passing.line
+    → w.token ≡ word_of (take (front_len passing.text) passing.text) → FindsNoWord old w
+no_word_found old passing inner front w ei g some ep el ew et = λ unknown n is.
+    let behind : old.text ≡ g.0 ++ front = ei ∙ g.1 in
+    let gone : feeds (take (length old.text - length front) old.text) ≡ feeds g.0 = ap feeds (passed old.text g.0 front behind) in
+    let along : passing.line ≡ min (n + feeds g.0) 18446744073709551615 =
+    el ∙ ap (λ k. min (old.line + k) 18446744073709551615) gone ∙ counted old.line n (feeds g.0) is in
+    let none : word_of (take (front_len front) front) ≡ token.Unknown = sym (et ∙ ap (λ x. word_of (take (front_len x) x)) ep) ∙ unknown in
+    inl (g.0, front, behind, g.2, λ piece rest e space. no_piece piece rest front space g.3 e, some, none, ew ∙ along)
+
+-- a comment behind a gap that doesn't end
+pub open_found : (old : LexerValue) (inner front more : List ℕ) (w : WordValue) → old.text ≡ inner → IsBehindGap inner front → front ≡ 40 ∷ 42 ∷ more → FindsNoWord old w
+open_found old inner front more w ei g c = λ unknown n is.
+    let none : behind_comment more ≡ None = sym (ap (λ x. behind_space x) c) ∙ g.3 in
+    inr (g.0, more, ei ∙ g.1 ∙ ap (λ x. g.0 ++ x) c ∙ sym (append_assoc g.0 (40 ∷ 42 ∷ []) more), g.2, comment_open more none)
+
+-- where the word behind one stands that is no body
+same_stage : (t : Token) (s : Stage) → ((b : List ℕ) → t ≡ token.Body b → ⊥) → stage_after s t ≡ stage_behind t s
+same_stage (token.Body b) s none = absurd (none b refl)
+same_stage t s none = refl
+
+-- behind a word
+pub word_goes_on : (old passing new : LexerValue) (w : WordValue) (word : List ℕ) → passing.stage ≡ old.stage → passing.bodies ≡ old.bodies → (w.token ≢ token.Unknown → new.stage ≡ stage_behind w.token passing.stage) → new.bodies ≡ passing.bodies
+    → w.token ≡ word_of word → GoesOn old w new
+word_goes_on old passing new w word es eb stages counts et = λ known.
+    let none : (b : List ℕ) → w.token ≡ token.Body b → ⊥ = λ b e. word_of-body word b (sym et ∙ e) in
+    (stages known ∙ ap (λ s. stage_behind w.token s) es ∙ sym (same_stage w.token old.stage none), omega (arith, counts, eb))
+
+-- behind a body
+pub body_goes_on : (old new : LexerValue) (w : WordValue) (body : List ℕ) → w.token ≡ token.Body body → new.stage ≡ stage.Outside → new.bodies ≡ min (old.bodies + 1) 18446744073709551615 → GoesOn old w new
+body_goes_on old new w body et es eb = λ known.
+    let one : length (body_line (record { token = w.token; line = w.line })) ≡ 1 = subst (λ (t : Token). length (body_line (record { token = t; line = w.line })) ≡ 1) (sym et) refl in
+    (es ∙ sym (ap (λ t. stage_after old.stage t) et), omega (arith, one, eb))
+
+-- one word, where no body is looked for
+stops_elsewhere : (old : LexerValue) (w : WordValue) → (IsBodyPlace (is_due old.stage) old.text → ⊥) → FindsNoWord old w → StopsAt old w
+stops_elsewhere old w none finds = λ unknown n is. elim (finds unknown n is) [
+  | inl h ↦ unknown_word none h
+  | inr h ↦ open_comment none h
+]
+
+-- the same of a word, if there is one
+pub stops_behind_gap : (old : LexerValue) (found : Option WordValue) → (IsBodyPlace (is_due old.stage) old.text → ⊥) → IfSome found (λ w. FindsNoWord old w) → IfSome found (λ w. StopsAt old w)
+stops_behind_gap old None none finds = tt
+stops_behind_gap old (Some w) none finds = stops_elsewhere old w none finds
+
+some_left : (text : List ℕ) → 0 < length text → text ≢ []
+some_left text l e = let none : length text ≡ 0 = ap length e in omega (arith, l, none)
+
+-- where a body is due, but there is none
+pub stops_for_body : (old : LexerValue) (w : WordValue) → is_due old.stage ≡ true → 0 < length old.text → BeginsNoBlock old.text → (w.token ≡ token.Unknown → HasNoBodyThen old.text) → StopsAt old w
+stops_for_body old w due some none bodiless = λ unknown n is. no_body (due, some_left old.text some, none) (bodiless unknown)
+
+-- where the next word stands, and behind how many bodies
+abbrev pub IsPlacedTo : List WordValue → LexerValue → Type 0
+IsPlacedTo ws left = AreKnown ws → (left.stage ≡ stage_after_all stage.Outside (tokens ws)) × (left.bodies ≤ length (body_lines ws))
+
+stage_after_last : (s : Stage) (ts : List Token) (t : Token) → stage_after_all s (ts ++ t ∷ []) ≡ stage_after (stage_after_all s ts) t
+stage_after_last s [] t = refl
+stage_after_last s (u ∷ ts) t = stage_after_last (stage_after s u) ts t
+
+pub placed_first : (text : List ℕ) (left : LexerValue) → left ≡ record { text = text; line = 1; stage = stage.Outside; bodies = 0 } → IsPlacedTo [] left
+placed_first text left e known =
+    let none : left.bodies ≡ 0 = ap (λ (l : LexerValue). l.bodies) e in
+    (ap (λ (l : LexerValue). l.stage) e, omega (arith, none))
+
+pub placed_next : (ws us : List WordValue) (w : WordValue) (left new : LexerValue) → us ≡ ws ++ w ∷ [] → IsPlacedTo ws left → GoesOn left w new → IsPlacedTo us new
+placed_next ws us w left new e before on known =
+    let k = known_parts ws w (subst AreKnown e known) in
+    let b = before k.0 in
+    let g = on k.1 in
+    let words : tokens us ≡ tokens ws ++ w.token ∷ [] = ap (λ (x : List WordValue). tokens x) e ∙ map-append (λ (w : WordValue). w.token) ws (w ∷ []) in
+    let lines : body_lines us ≡ body_lines ws ++ (body_line w ++ []) = ap (λ (x : List WordValue). body_lines x) e ∙ flat_map-append body_line ws (w ∷ []) in
+    let count : length (body_lines us) ≡ length (body_lines ws) + length (body_line w) = ap length lines ∙ length-append (body_lines ws) (body_line w ++ []) ∙ ap (λ (x : List ℕ). length (body_lines ws) + length x) (append-nil (body_line w)) in
+    (
+      g.0 ∙ ap (λ s. stage_after s w.token) b.0 ∙ sym (stage_after_last stage.Outside (tokens ws) w.token) ∙ ap (λ (x : List Token). stage_after_all stage.Outside x) (sym words),
+      omega (arith, b.1, g.1, count),
+    )
+
+-- All are words, or nothing is left.
+abbrev pub IsOpenAt : List WordValue → LexerValue → Type 0
+IsOpenAt ws left = AreKnown ws ⊎ (left.text ≡ [])
+
+pub open_first : (left : LexerValue) → IsOpenAt [] left
+open_first left = inl (All-nil (λ t. t ≢ token.Unknown))
+
+known_or_not : (t : Token) → (t ≢ token.Unknown) ⊎ (t ≡ token.Unknown)
+known_or_not token.Unknown = inr refl
+known_or_not _ = inl (λ e. cc)
+
+pub open_next : (ws us : List WordValue) (w : WordValue) (new : LexerValue) → us ≡ ws ++ w ∷ [] → AreKnown ws → (w.token ≡ token.Unknown → new.text ≡ []) → IsOpenAt us new
+open_next ws us w new e known last = elim (known_or_not w.token) [
+  | inl is ↦
+      let words : tokens us ≡ tokens ws ++ w.token ∷ [] = ap (λ (x : List WordValue). tokens x) e ∙ map-append (λ (w : WordValue). w.token) ws (w ∷ []) in
+      inl (subst (All (λ t. t ≢ token.Unknown)) (sym words) (All-push (λ t. t ≢ token.Unknown) (tokens ws) w.token known is))
+  | inr none ↦ inr (last none)
+]
+
+-- where a further word is read, all before it are words
+pub known_before_next : (ws : List WordValue) (left : LexerValue) (w : WordValue) → IsOpenAt ws left → (left.text ≡ [] → ◌≡◌ {A = Option WordValue} (Some w) None) → AreKnown ws
+known_before_next ws left w (inl known) ended = known
+known_before_next ws left w (inr empty) ended = absurd (let none : ◌≡◌ {A = Option WordValue} (Some w) None = ended empty in cc)
+
+last_parts : {A : Type 0} (xs ys : List A) (x y : A) → xs ++ x ∷ [] ≡ ys ++ y ∷ [] → (xs ≡ ys) × (x ≡ y)
+last_parts [] [] x y e = (refl, cc)
+last_parts [] (z ∷ []) x y e = absurd cc
+last_parts [] (z ∷ u ∷ ys) x y e = absurd cc
+last_parts (z ∷ []) [] x y e = absurd cc
+last_parts (z ∷ u ∷ xs) [] x y e = absurd cc
+last_parts {A} (z ∷ xs) (u ∷ ys) x y e =
+    let first : z ≡ u = cc in
+    let rest : xs ++ x ∷ [] ≡ ys ++ y ∷ [] = cc in
+    let parts = last_parts xs ys x y rest in
+    (ap (λ (v : A). v ∷ xs) first ∙ ap (λ (vs : List A). u ∷ vs) parts.0, parts.1)
+
+-- no word stands there behind as many bodies or more
+no_word_behind : (due : Bool) (k m n : ℕ) (text : List ℕ) (line : ℕ) → k ≤ m → HasNoWord due k n text line → HasNoWord due m n text line
+no_word_behind due k m n text line l (unknown_word a b) = unknown_word a b
+no_word_behind due k m n text line l (open_comment a b) = open_comment a b
+no_word_behind due k m n text line l (no_body a b) = no_body a b
+no_word_behind due k m n text line l (many_bodies a b c) = many_bodies a b (omega (arith, c, l))
+
+abbrev StopsBehind : List ℕ → List WordValue → WordValue → Type 0
+StopsBehind text front w = BeginsWithWordsThen (λ n rest. HasNoWordBehind front n rest w.line) text front
+
+pub stopped_first : (text : List ℕ) → IsStoppedBy text []
+stopped_first text [] w e unknown = absurd cc
+stopped_first text (v ∷ front) w e unknown = absurd cc
+
+pub stopped_next : (text : List ℕ) (ws us : List WordValue) (w : WordValue) (left : LexerValue) → us ≡ ws ++ w ∷ [] → AreKnown ws → IsCountedTo text ws left → IsPlacedTo ws left → StopsAt left w → IsStoppedBy text us
+stopped_next text ws us w left e known counts places stops = λ front v parts unknown.
+    let same = last_parts ws front w v (sym e ∙ parts) in
+    let c = counts known in
+    let p = places known in
+    let none : HasNoWord (is_due left.stage) left.bodies c.0 left.text w.line = stops (ap (λ (x : WordValue). x.token) same.1 ∙ unknown) c.0 c.1 in
+    let behind : HasNoWord (is_due left.stage) (length (body_lines ws)) c.0 left.text w.line = no_word_behind (is_due left.stage) left.bodies (length (body_lines ws)) c.0 left.text w.line p.1 none in
+    let placed : HasNoWordBehind ws c.0 left.text w.line = subst (λ s. HasNoWord (is_due s) (length (body_lines ws)) c.0 left.text w.line) p.0 behind in
+    let made : StopsBehind text ws w = begins_then (λ n rest. HasNoWordBehind ws n rest w.line) c.0 left.text (tokens ws) (word_lines ws) 1 text c.2 placed in
+    subst (λ (x : List WordValue). StopsBehind text x v) same.0 (subst (λ (x : WordValue). StopsBehind text ws x) same.1 made)
+
+pub known_first : AreWordsButLast []
+known_first [] w e = absurd cc
+known_first (v ∷ front) w e = absurd cc
+
+pub known_next : (ws us : List WordValue) (w : WordValue) → us ≡ ws ++ w ∷ [] → AreKnown ws → AreWordsButLast us
+known_next ws us w e known = λ front v parts. subst AreKnown (last_parts ws front w v (sym e ∙ parts)).0 known
