@@ -4,3 +4,4 @@ pub mod WordOrder
 pub mod NamedSymbols
 pub mod NearWords
 pub mod SpanRows
+pub mod BareRows

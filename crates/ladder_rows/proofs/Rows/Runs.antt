@@ -1,6 +1,6 @@
--- On unbroken runs.
-use Rattle.std.proofs.Common.{ℕ, zero, suc, ◌+◌, ◌-◌, ◌<◌, ◌≤◌, ◌≡◌, ◌≢◌, ◌==◌, eq-eqb, Bool, true, false, refl, ap, arith, rules, tests, add-zero}
-use Rattle.ladder_rows.specs.Rows.{run, run_back}
+-- On unbroken runs, and lists one after the other.
+use Rattle.std.proofs.Common.{ℕ, zero, suc, ◌+◌, ◌-◌, ◌<◌, ◌≤◌, ◌≡◌, ◌≢◌, ◌==◌, eq-eqb, List, [], Bool, true, false, refl, ap, arith, rules, tests, add-zero}
+use Rattle.ladder_rows.specs.Rows.{run, run_back, upto}
 
 -- a run of m places, all of which pass, ends where the next fails or the limit is met
 pub run-is : (p : ℕ → Bool) (i m n : ℕ) → m ≤ n → ((j : ℕ) → j < m → p (i + j) ≡ true) → (m < n → p (i + m) ≡ false) → run p i n ≡ m
@@ -35,3 +35,13 @@ run_back-is p i (suc m) (suc n) h t f =
     let t' : (j : ℕ) → j < m → p (i - 1 - j) ≡ true = λ j k. let q : i - 1 - j ≡ i - suc j = omega arith in rw q (t (suc j) (omega arith)) in
     let f' : m < n → p (i - 1 - m) ≡ false = λ k. let q : i - 1 - m ≡ i - suc m = omega arith in rw q (f (omega arith)) in
     rw e (ap suc (run_back-is p (i - 1) m n (omega arith) t' f'))
+
+-- a run that doesn't begin
+pub run-none : (p : ℕ → Bool) (i n : ℕ) → p i ≡ false → run p i n ≡ 0
+run-none p i zero h = refl
+run-none p i (suc n) h = rw h refl
+
+-- lists of which each is empty
+pub upto-none : {A : Type 0} (n : ℕ) (f : ℕ → List A) → ((c : ℕ) → f (suc c) ≡ []) → upto n f ≡ []
+upto-none zero f h = refl
+upto-none (suc n) f h = rw (upto-none n f h, h n) refl

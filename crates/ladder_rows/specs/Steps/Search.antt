@@ -1,5 +1,5 @@
 -- What the search for the faults of rows and boxes knows halfway.
-use Rattle.std.specs.Prelude.{◌≡◌, ℕ, ◌≤◌, IsFalse, Bool, nat_lt, length, take, position, Option, Some, None}
+use Rattle.std.specs.Prelude.{◌≡◌, ◌≢◌, ◌+◌, ◌<◌, ℕ, List, ◌≤◌, IsFalse, Bool, nat_lt, length, slice_index_or, take, position, Option, Some, None}
 use Rattle.drawings.specs.declared.place.Place.{Place}
 use Rattle.ladder_rows.specs.Rows.{Rows, width}
 use Rattle.ladder_rows.specs.Boxes.{left_column}
@@ -34,3 +34,7 @@ first_long d = position (λ row. nat_lt 241 (length row)) (take 2001 d)
 -- the first place of more than 2000 rows of 240 columns
 abbrev pub first_beyond : Rows → Place
 first_beyond d = place_beyond (first_long d)
+
+-- behind the column left no dash follows a `+`
+abbrev pub HasNoCorner : ℕ → List ℕ → Type 0
+HasNoCorner left cells = (c : ℕ) → left < c → slice_index_or cells c 32 ≡ 43 → slice_index_or cells (c + 1) 32 ≢ 45

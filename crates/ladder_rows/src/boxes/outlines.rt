@@ -1,12 +1,13 @@
 //! The boxes of a text: sides, pins and operands.
 
-ghost use Rattle.std.specs.Prelude.{◌≡◌, ◌==◌, ◌+◌, ◌-◌, ◌<◌, ◌≤◌, ◌^◌, ℕ, IsFalse, IsTrue, IfNone, IfSome, IfOk};
+ghost use Rattle.std.specs.Prelude.{◌≡◌, ◌==◌, ◌+◌, ◌-◌, ◌<◌, ◌≤◌, ◌^◌, ℕ, false, IsFalse, IsTrue, IfNone, IfSome, IfOk};
 ghost use Rattle.ladder_rows.specs.Rows.{char_at, width, run_back};
 ghost use Rattle.std.specs.Prelude.{map};
 ghost use Rattle.ladder_rows.specs.Faults.{bad_box, NowhereInRows};
-ghost use Rattle.ladder_rows.specs.Steps.Search.{NowhereInRow, PassesAt, IsFirstToPass};
+ghost use Rattle.ladder_rows.specs.Steps.Search.{NowhereInRow, PassesAt, IsFirstToPass, HasNoCorner};
 ghost use Rattle.drawings.specs.declared.drawn_box.Side.TheVariants as side;
-ghost use Rattle.ladder_rows.specs.Boxes.{blank_words, bottom_row, word_start, word_end, left_operand, right_operand, operand_beside, side_pin, nearer_pin, blanks_before, blanks_behind, pins_from, row_pins, pins_of_rows, is_edge, outline_at, box_at, row_outlines, outlines};
+ghost use Rattle.ladder_rows.specs.Boxes.{blank_words, bottom_row, word_start, word_end, left_operand, right_operand, operand_beside, side_pin, nearer_pin, blanks_before, blanks_behind, pins_from, row_pins, pins_of_rows, is_edge, begins_box, outline_at, box_at, row_outlines, outlines};
+ghost use Rattle.std.specs.Bool.{OnFalse};
 ghost use Rattle.std.specs.Str.{IsAscii};
 
 use crate::boxes::outline::Outline;
@@ -353,12 +354,34 @@ fn box_with(
     box_at(alloc, grid, row, column)
 }
 
+/// Whether a dash follows a `+` behind a column. Each place is looked at, so that many are at once.
+fn has_corner(cells: &[u8], left: usize) -> bool
+    ensures { OnFalse result (HasNoCorner left cells.now) }
+{
+    let mut found = false;
+    for column in left.saturating_add(2)..cells.len() {
+        found |= (cells[column - 1] == b'+') & (cells[column] == b'-');
+    }
+    found
+}
+
+/// Whether a box may begin in a row.
+#[tactic(auto, using(crate::proofs::Outlines::Corners::begins_nowhere))]
+fn may_begin_box(grid: &Grid, row: usize) -> bool
+    ensures { OnFalse result ((c : ℕ) → begins_box grid.now row c ≡ false) }
+{
+    has_corner(grid.cells(row), grid.left())
+}
+
 #[tactic(auto, unfolding(crate::specs::Boxes::row_outlines))]
 fn row_outlines(alloc: Global, grid: &Grid, row: usize) -> Result<Vec<Outline>, AllocError>
     requires { row < 2 ^ 60 }
     ensures { IfOk result (λ v. v.items ≡ row_outlines grid.now row) }
 {
     let mut found = Vec::new(alloc);
+    if !may_begin_box(grid, row) {
+        return Ok(found);
+    }
     let cells = grid.cells(row);
     for column in 0..grid.last() {
         let c = grid.cell(cells, row, column + 1);
@@ -414,6 +437,7 @@ fn is_bad_box_with(
     is_bad_box(alloc, grid, row, column)
 }
 
+#[tactic(auto, using(crate::proofs::Outlines::Corners::no_bad_one))]
 fn bad_box_in_row(alloc: Global, grid: &Grid, row: usize) -> Result<Option<usize>, AllocError>
     requires { row < 2 ^ 60 }
     ensures none { IfOk result (λ found. IfNone found (NowhereInRow grid.now (bad_box grid.now row))) }
@@ -421,6 +445,9 @@ fn bad_box_in_row(alloc: Global, grid: &Grid, row: usize) -> Result<Option<usize
     ensures some { IfOk result (λ found. IfSome found (λ c. IsTrue (bad_box grid.now row c))) }
     ensures before { IfOk result (λ found. IfSome found (λ c. (k : ℕ) → k < c → IsFalse (bad_box grid.now row k))) }
 {
+    if !may_begin_box(grid, row) {
+        return Ok(None);
+    }
     let cells = grid.cells(row);
     for column in 0..grid.last() + 1 {
         let c = grid.cell(cells, row, column);

@@ -75,6 +75,17 @@ impl Row {
         self.cells.len()
     }
 
+    /// Whether each character is one of 32 to 126. Each is looked at, so that many are at once.
+    fn is_printable(&self) -> bool
+        ensures { IsTrue result → (c : ℕ) → IsTrue (between 32 (slice_index_or self.now c 32) 126) }
+    {
+        let mut printable = true;
+        for c in &self.cells {
+            printable &= (32 <= *c) & (*c <= 126);
+        }
+        printable
+    }
+
     /// The first column whose character is none of 32 to 126.
     fn first_unprintable(&self) -> Option<usize>
         ensures none { IfNone result ((c : ℕ) → IsTrue (between 32 (slice_index_or self.now c 32) 126)) }
@@ -82,6 +93,9 @@ impl Row {
         ensures some { IfSome result (λ c. IsFalse (between 32 (slice_index_or self.now c 32) 126)) }
         ensures before { IfSome result (λ c. (k : ℕ) → k < c → IsTrue (between 32 (slice_index_or self.now k 32) 126)) }
     {
+        if self.is_printable() {
+            return None;
+        }
         for (column, c) in self.cells.iter().enumerate() {
             if !(32 <= *c && *c <= 126) {
                 return Some(column);

@@ -1,11 +1,14 @@
 //! The words and the symbols of a row.
 
-ghost use Rattle.std.specs.Prelude.{[], ◌≡◌, ◌+◌, ◌-◌, ◌<◌, ◌≤◌, ◌^◌, IfOk, IsTrue, slice_index_or};
+ghost use Rattle.std.specs.Prelude.{[], ◌≡◌, ◌+◌, ◌-◌, ◌<◌, ◌≤◌, ◌^◌, ℕ, false, IfOk, IsTrue, slice_index_or};
+ghost use Rattle.std.specs.Bool.{OnFalse};
+ghost use Rattle.words.specs.Chars.{is_word_char};
 ghost use Rattle.ladder_rows.specs.Rows.{char_at, width, run};
 ghost use Rattle.ladder_rows.specs.Boxes.{outlines};
 ghost use Rattle.ladder_text.specs.Places.{layout_of, mark as place_mark};
 ghost use Rattle.ladder_rows.specs.Steps.RowBoxes.{IsBare};
 ghost use Rattle.ladder_text.specs.Steps.RowMarks.{AreMarksOf};
+ghost use Rattle.ladder_text.specs.Steps.RowSpans.{HasNoSymbol};
 ghost use Rattle.ladder_text.specs.Names.{in_word, words, symbol_at, symbols};
 
 use crate::names::span::symbol_span;
@@ -73,6 +76,18 @@ fn word_rest(marked: &MarkedGrid, bare: bool, cells: &[u8], row: usize, column: 
     n
 }
 
+/// Whether a character of a word may stand in a row. Each place is looked at, so that many are at once.
+#[tactic(auto, using(crate::proofs::Words::BareRows::no_word_char))]
+fn may_have_words(cells: &[u8]) -> bool
+    ensures { OnFalse result ((c : ℕ) → is_word_char (slice_index_or cells.now c 32) ≡ false) }
+{
+    let mut found = false;
+    for c in cells {
+        found |= ((b'0' <= *c) & (*c != b'|')) | (*c == b'.') | (*c == b'#');
+    }
+    found
+}
+
 /// The words of a row. Behind one it goes on at its last place.
 #[tactic(auto, unfolding(crate::specs::Places::layout_of, crate::specs::Names::word_at))]
 pub fn words(alloc: Global, marked: &MarkedGrid, row: usize) -> Result<Vec<Span>, AllocError>
@@ -81,6 +96,9 @@ pub fn words(alloc: Global, marked: &MarkedGrid, row: usize) -> Result<Vec<Span>
     let mut words = Vec::new(alloc);
     let grid = marked.grid();
     let cells = grid.cells(row);
+    if !may_have_words(cells) {
+        return Ok(words);
+    }
     let last = grid.last();
     let bare = marked.is_bare(row);
     let mut inside = in_word_with(marked, bare, grid.cell(cells, row, 0), row, 0);
@@ -116,6 +134,19 @@ fn symbol_with(marked: &MarkedGrid, mark: Mark, row: usize, column: usize) -> Op
     }
 }
 
+/// Whether a symbol may begin in a row. Each place is looked at, so that many are at once.
+fn may_have_symbols(cells: &[u8]) -> bool
+    ensures { OnFalse result (HasNoSymbol cells.now) }
+{
+    let mut found = false;
+    for column in 1..cells.len() {
+        let before = cells[column - 1];
+        let c = cells[column];
+        found |= ((c == b'|') & ((before == b'-') | (before == b'+'))) | (c == b'(');
+    }
+    found
+}
+
 /// The symbols of a row whose marks are at hand. None begins in another one.
 fn symbols_in(
     alloc: Global,
@@ -127,7 +158,11 @@ fn symbols_in(
     ensures { IfOk result (λ v. v.items ≡ symbols (layout_of marked.now) row) }
 {
     let mut symbols = Vec::new(alloc);
-    let last = marked.grid().last();
+    let grid = marked.grid();
+    if !may_have_symbols(grid.cells(row)) {
+        return Ok(symbols);
+    }
+    let last = grid.last();
     let mut column = 0;
     while column < last {
         let mark = marked.mark_in(marks, row, column + 1);

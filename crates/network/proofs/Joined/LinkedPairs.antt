@@ -222,7 +222,41 @@ last_none es table none = record { found = λ r t at. absurd (none_there table n
 pub takers_none : (es : List Element) (column : ℕ) (table : List (Option InRow)) → ((r : ℕ) (t : Option InRow) → slice_get table r ≡ Some t → t ≡ None) → AreTakers es column table 0
 takers_none es column table none = record { found = λ r t at. absurd (none_there table none r t at); whole = λ k e r lt. absurd (omega arith) }
 
+-- state passes to an element where it begins or on the right of that
+takes_behind : (e : Element) (p : Place) → Takes e p → (first_place e).column ≤ p.column
+takes_behind (Wire at) p h = let r = ap (λ (x : Place). x.column) h in omega arith
+takes_behind (Join at) p h = let r = ap (λ (x : Place). x.column) h in omega arith
+takes_behind (Upright at) p h = absurd h
+takes_behind (Contact c) p h = h.1
+takes_behind (Coil c) p h = h.1
+takes_behind (Box b) p h = let r = h.0 in omega arith
+
+precedes_column : (p q : Place) → Precedes p q → p.column ≤ q.column
+precedes_column p q (inl h) = omega arith
+precedes_column p q (inr h) = let r = h.0 in omega arith
+
 module _ (rows : ℕ) (es : List Element) (laid : AreLaidOut rows es) (n : ℕ) (e : Element) (at_e : slice_get es n ≡ Some e) where
+  -- where an element begins behind a column, neither it nor a later one takes state there
+  pub takers_all : (column : ℕ) (table : List (Option InRow)) → n < length es → column < (first_place e).column → AreTakers es column table n → AreTakers es column table (length es)
+  takers_all column table within behind done = record {
+    found = λ r t at. (let w = done.found r t at in (w.0, w.1, (let lt = w.2 in omega arith), w.3));
+    whole = λ k f r lt at takes. elim (cases_lt k n) [
+      | inl earlier ↦ done.whole k f r earlier at takes
+      | inr later ↦ absurd (too_far k f r later at takes)
+    ];
+  }
+    where
+      begins_behind : (k : ℕ) (f : Element) → n ≤ k → slice_get es k ≡ Some f → (first_place e).column ≤ (first_place f).column
+      begins_behind k f later at = elim (cases_eq k n) [
+        | inl same ↦ (let q = ap (λ x. (first_place x).column) (one_at es k n f e same at at_e) in omega arith)
+        | inr ne ↦ precedes_column (first_place e) (first_place f) (laid.rising n k e f (omega arith) at_e at)
+      ]
+      too_far : (k : ℕ) (f : Element) (r : ℕ) → n ≤ k → slice_get es k ≡ Some f → Takes f (place r column) → ⊥
+      too_far k f r later at takes =
+          let a = begins_behind k f later at in
+          let b = takes_behind f (place r column) takes in
+          omega arith
+
   pub last_more : (old new : List (Option InRow)) → Puts (Leaves e) n old new → AreLast es old n → AreLast es new (n + 1)
   last_more old new puts done = record {
     found = λ r t at. elim (puts.each r t at) [

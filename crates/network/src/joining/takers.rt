@@ -31,7 +31,7 @@ fn put_taker(takers: &mut RowTable, element: Seen, k: usize, column: usize)
     }
 }
 
-/// The element of each row that takes state in a column.
+/// The element of each row that takes state in a column. None does that begins behind the column.
 pub fn takers_of(
     alloc: Global,
     rows: usize,
@@ -44,7 +44,11 @@ pub fn takers_of(
 {
     let mut takers = RowTable::new(alloc, rows)?;
     for k in 0..elements.len() {
-        put_taker(&mut takers, elements.at(k), k, column);
+        let element = elements.at(k);
+        if column < element.first_place().column {
+            return Ok(takers);
+        }
+        put_taker(&mut takers, element, k, column);
     }
     Ok(takers)
 }

@@ -5,6 +5,8 @@ use Rattle.ladder_text.specs.Places.{layout_of}
 use Rattle.ladder_text.specs.Names.{words, word_at}
 use Rattle.ladder_rows.specs.declared.span.Span.{Span}
 use Rattle.ladder_text.proofs.Words.RowWords.{word_last, words_more}
+use Rattle.ladder_text.proofs.Words.BareRows.{no_words}
+use Rattle.std.specs.Prelude.{slice_index_or}
 use Rattle.ladder_text.proofs.names.spans.words.Goals as goal
 
 pub returns : goal.returns
@@ -30,3 +32,9 @@ loop-column-preserved-then-not-before c =
       words = c.in_ok-push.ensures.items ∙ ap (λ (l : List Span). l ++ record { first = k + 1; end = k + 1 + 1 + n } ∷ []) c.loop-column.invariant.words ∙ sym (words_more p r k n here long before);
       inside = c.if-inside.true ∙ sym (word_last p r k n here long);
     }
+
+pub returns-then-not-may_have_words : goal.returns-then-not-may_have_words
+unfolding layout_of
+returns-then-not-may_have_words c =
+    let cells : c.cells-cells.result.now ≡ slice_index_or c.args.marked.now c.args.row [] = c.cells-cells.ensures ∙ ap (λ (d : Rows). slice_index_or d c.args.row []) c.grid-grid.ensures in
+    c.new-words.ensures.items ∙ no_words (layout_of c.args.marked.now) c.args.row (λ k. rw (← cells) (c.if-not-may_have_words.ensures k))
