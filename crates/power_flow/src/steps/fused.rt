@@ -71,6 +71,7 @@ fn pair_over(row: u8, first: u8, lowest: u8, rows: PairRows, places: PairPlaces)
 }
 
 /// The step that stands for both, if there is one.
+#[inline(never)]
 fn both(last: &Step, step: &Step) -> Option<Step>
     ensures { IfSome result (λ s. single s ≡ single last.now ++ single step.now) }
 {
