@@ -1,21 +1,22 @@
 -- The words and the symbols of a row from left to right.
 use Rattle.std.proofs.Common.{ℕ, zero, suc, ◌+◌, ◌-◌, ◌<◌, ◌≤◌, ◌≡◌, ◌≢◌, ◌++◌, ◌&&◌, ◌||◌, not, Bool, Some, inl, inr, [], ◌∷◌, List, true, false, refl, ap, ◌∙◌, arith}
 use Rattle.std.proofs.lemmas.List.{append-nil}
-use Rattle.std.proofs.lemmas.Bool.{and_parts, and_right, both_ways, or_cases, or_from}
+use Rattle.std.proofs.lemmas.Bool.{and_parts, and_right, both_ways, or_cases, or_from, or_parts, true_from_ne_false}
 use Rattle.std.specs.Option.{is_some}
+use Rattle.std.specs.Prelude.{◌==◌, if◌then◌else◌}
 use Rattle.ladder_rows.specs.declared.span.Span.{Span}
-use Rattle.ladder_rows.specs.Rows.{run, upto, width, char_at}
+use Rattle.ladder_rows.specs.Rows.{run, upto, width, char_at, is_rail_char}
 use Rattle.words.specs.Chars.{is_word_char}
 use Rattle.ladder_rows.specs.Boxes.{option_list}
 use Rattle.drawings.specs.declared.mark.Mark.{Mark}
-use Rattle.drawings.specs.declared.mark.Mark.TheVariants.{ContactPart, CoilPart}
+use Rattle.drawings.specs.declared.mark.Mark.TheVariants.{Blank, Rail, Wire, Join, Upright, ContactPart, CoilPart, BoxPart}
 use Rattle.ladder_rows.specs.declared.boxes.box_test.BoxTest.TheVariants.{Covers, Reaches}
 use Rattle.ladder_rows.specs.Steps.RowBoxes.{IsBare}
-use Rattle.ladder_text.specs.Places.{Layout, contact_at, coil_at, in_operand, is_taken}
-use Rattle.ladder_text.specs.Names.{in_word, word_at, symbol_at}
+use Rattle.ladder_text.specs.Places.{Layout, contact_at, coil_at, in_box, in_contact, in_coil, in_operand, is_rail_column, is_symbol, is_taken, line_mark, mark}
+use Rattle.ladder_text.specs.Names.{in_word, word_at, symbol_at, symbol_span}
 use Rattle.ladder_text.proofs.Rows.Runs.{upto-more, run_passes}
-use Rattle.ladder_text.proofs.Marks.RowMarks.{IsPassed, contact_passed, coil_passed}
-use Rattle.ladder_text.proofs.Marks.SymbolPlaces.{cond_some_of, drawn_inside, no_contact, no_coil}
+use Rattle.ladder_text.proofs.Marks.RowMarks.{IsPassed, IsQuiet, contact_passed, coil_passed, outside_contact, outside_coil, quiet_next}
+use Rattle.ladder_text.proofs.Marks.SymbolPlaces.{cond_some_of, drawn_inside, first_by_mark, no_contact, no_coil}
 
 -- a place of a word has no blank
 word_drawn : (p : Layout) (r c : ℕ) → in_word p r c ≡ true → char_at p.rows r c ≡ 32 → ⊥
@@ -98,6 +99,7 @@ module _ (p : Layout) (r c n : ℕ) (here : in_word p r (c + 1) ≡ true) (long 
 pub record IsSymbolPassed (p : Layout) (r c : ℕ) (s : Span) : Type 0 where
   pub inside : c + 3 ≤ width p.rows
   pub symbols : upto (c + 3) (λ k. option_list (symbol_at p r k)) ≡ upto c (λ k. option_list (symbol_at p r k)) ++ s ∷ []
+  pub quiet : IsQuiet p r (c + 3)
 
 no_symbol_of : (p : Layout) (r c : ℕ) → is_some (contact_at p r c) ≡ false → is_some (coil_at p r c) ≡ false → option_list (symbol_at p r c) ≡ []
 unfolding symbol_at
@@ -114,6 +116,7 @@ passed_at p r c s m e passed =
     let first : f (c + 1) ≡ s ∷ [] = ap option_list e in
     record {
       inside = passed.inside;
+      quiet = q;
       symbols = ap (λ (n : ℕ). upto n f) three
           ∙ upto-more (c + 1 + 1) f ∙ ap (λ (l : List Span). upto (c + 1 + 1) f ++ l) last ∙ append-nil (upto (c + 1 + 1) f)
           ∙ upto-more (c + 1) f ∙ ap (λ (l : List Span). upto (c + 1) f ++ l) middle ∙ append-nil (upto (c + 1) f)
@@ -127,3 +130,40 @@ symbol_passed p r c s e =
       | inl h ↦ passed_at p r c s ContactPart e (contact_passed p r c h)
       | inr h ↦ passed_at p r c s CoilPart e (coil_passed p r c h)
     ]
+
+line_alone : (x y z : Bool) → is_symbol (if x then Join else (if y then Upright else (if z then Wire else Blank))) ≡ false
+line_alone true y z = refl
+line_alone false true z = refl
+line_alone false false true = refl
+line_alone false false false = refl
+
+mark_alone : (b x y z : Bool) (m : Mark) → x ≡ false → y ≡ false → is_symbol m ≡ false
+    → is_symbol (if b then BoxPart else (if x then ContactPart else (if y then CoilPart else (if z then Rail else m)))) ≡ false
+mark_alone true x y z m e f h = refl
+mark_alone false x y true m e f h = rw (e, f) refl
+mark_alone false x y false m e f h = rw (e, f) h
+
+-- outside symbols no mark is that of one
+no_symbol_mark : (p : Layout) (r c : ℕ) → in_contact p r c ≡ false → in_coil p r c ≡ false → is_symbol (mark p r c) ≡ false
+unfolding mark
+no_symbol_mark p r c a b =
+    let x = char_at p.rows r c in
+    mark_alone (in_box p r c) (in_contact p r c) (in_coil p r c) (is_rail_column p c && is_rail_char x) (line_mark x (in_operand p r c)) a b
+    (line_alone (x == 43) (x == 124) (x == 45 && not (in_operand p r c)))
+
+-- where no symbol goes on, one begins at the mark of one
+pub symbol_begins : (p : Layout) (r c : ℕ) → IsQuiet p r c → is_symbol (mark p r (c + 1)) ≡ true → symbol_at p r (c + 1) ≡ Some (symbol_span (c + 1))
+unfolding symbol_at
+symbol_begins p r c q h =
+    let begun : (is_some (contact_at p r (c + 1)) || is_some (coil_at p r (c + 1))) ≡ true = true_from_ne_false _ (λ e.
+    let none = or_parts _ _ e in
+    both_ways (is_symbol (mark p r (c + 1))) (no_symbol_mark p r (c + 1) (outside_contact p r c q none.0) (outside_coil p r c q none.1)) h) in
+    rw begun refl
+
+-- at another mark none begins
+pub symbol_skipped : (p : Layout) (r c : ℕ) → IsQuiet p r c → is_symbol (mark p r (c + 1)) ≡ false
+    → (upto (c + 1) (λ k. option_list (symbol_at p r k)) ≡ upto c (λ k. option_list (symbol_at p r k))) × IsQuiet p r (c + 1)
+symbol_skipped p r c q h =
+    let f : ℕ → List Span = λ k. option_list (symbol_at p r k) in
+    let none = or_parts _ _ (first_by_mark p r (c + 1) h) in
+    (upto-more c f ∙ ap (λ (l : List Span). upto c f ++ l) (no_symbol_of p r (c + 1) none.0 none.1) ∙ append-nil (upto c f), quiet_next p r c q none.0 none.1)

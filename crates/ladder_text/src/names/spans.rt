@@ -12,6 +12,7 @@ ghost use Rattle.ladder_text.specs.Steps.RowSpans.{HasNoSymbol};
 ghost use Rattle.ladder_text.specs.Names.{in_word, words, symbol_at, symbols};
 
 use crate::names::span::symbol_span;
+use crate::places::mark_tests::is_symbol;
 use crate::places::marked_grid::MarkedGrid;
 use drawings::{Mark, MarkRow};
 use ladder_rows::{Span, runs_end};
@@ -134,6 +135,20 @@ fn symbol_with(marked: &MarkedGrid, mark: Mark, row: usize, column: usize) -> Op
     }
 }
 
+/// The symbols of a row, each place's mark looked up by itself.
+fn symbols_by_place(alloc: Global, marked: &MarkedGrid, row: usize) -> Result<Vec<Span>, AllocError>
+    ensures { IfOk result (λ v. v.items ≡ symbols (layout_of marked.now) row) }
+{
+    let mut symbols = Vec::new(alloc);
+    for column in 0..marked.grid().last() {
+        let mark = marked.mark(row, column + 1);
+        if let Some(symbol) = symbol_with(marked, mark, row, column + 1) {
+            symbols.push(symbol)?;
+        }
+    }
+    Ok(symbols)
+}
+
 /// Whether a symbol may begin in a row. Each place is looked at, so that many are at once.
 fn may_have_symbols(cells: &[u8]) -> bool
     ensures { OnFalse result (HasNoSymbol cells.now) }
@@ -147,7 +162,7 @@ fn may_have_symbols(cells: &[u8]) -> bool
     found
 }
 
-/// The symbols of a row whose marks are at hand. None begins in another one.
+/// The symbols of a row whose marks are at hand. None begins in another one, so the first place of a symbol is where its mark comes first.
 fn symbols_in(
     alloc: Global,
     marked: &MarkedGrid,
@@ -162,29 +177,17 @@ fn symbols_in(
     if !may_have_symbols(grid.cells(row)) {
         return Ok(symbols);
     }
+    if marked.contact_at(row, 0).is_some() || marked.coil_at(row, 0).is_some() {
+        return symbols_by_place(alloc, marked, row);
+    }
     let last = grid.last();
     let mut column = 0;
     while column < last {
-        let mark = marked.mark_in(marks, row, column + 1);
-        if let Some(symbol) = symbol_with(marked, mark, row, column + 1) {
-            symbols.push(symbol)?;
+        if is_symbol(marked.mark_in(marks, row, column + 1)) {
+            symbols.push(symbol_span(column + 1))?;
             column += 3;
         } else {
             column += 1;
-        }
-    }
-    Ok(symbols)
-}
-
-/// The symbols of a row, each place's mark looked up by itself.
-fn symbols_by_place(alloc: Global, marked: &MarkedGrid, row: usize) -> Result<Vec<Span>, AllocError>
-    ensures { IfOk result (λ v. v.items ≡ symbols (layout_of marked.now) row) }
-{
-    let mut symbols = Vec::new(alloc);
-    for column in 0..marked.grid().last() {
-        let mark = marked.mark(row, column + 1);
-        if let Some(symbol) = symbol_with(marked, mark, row, column + 1) {
-            symbols.push(symbol)?;
         }
     }
     Ok(symbols)

@@ -27,6 +27,12 @@ pub fn is_vertical(mark: Mark) -> bool
     matches!(mark, Mark::Join | Mark::Upright)
 }
 
+pub fn is_symbol(mark: Mark) -> bool
+    ensures { result ≡ is_symbol mark }
+{
+    matches!(mark, Mark::ContactPart | Mark::CoilPart)
+}
+
 pub fn is_taken(mark: Mark) -> bool
     ensures { result ≡ (is_box_part mark || is_symbol mark) }
 {

@@ -82,10 +82,7 @@ fn no_entries(alloc: Global, count: usize) -> Result<Vec<Option<u32>>, AllocErro
     ensures long { IfOk result (λ table. length table.items ≡ count) }
     ensures none { IfOk result (λ table. AreNone table.items) }
 {
-    let mut table = Vec::with_capacity(alloc, count)?;
-    for _entry in 0..count {
-        table.push(None)?;
-    }
+    let table = vec![in alloc; None; count]?;
     Ok(table)
 }
 

@@ -104,10 +104,29 @@ fn push_both(steps: &mut Vec<Step>, last: Step, step: Step) -> Result<(), AllocE
     Ok(())
 }
 
+/// Whether a step may stand for the last of these and one more, as seen by their kinds.
+fn may_fuse(steps: &[Step], step: &Step) -> bool {
+    let Some(last) = steps.last() else {
+        return false;
+    };
+    matches!(
+        (last, step),
+        (Step::Off(_), Step::Upright(_, _))
+            | (Step::Rail(_), Step::Contact(_))
+            | (Step::Contact(_), Step::Contact(_))
+            | (Step::Upright(_, _) | Step::OffUpright(_, _, _), Step::Pair(_, _))
+            | (Step::Box(_), Step::Coil(_, _))
+    )
+}
+
 /// Adds a step, to the last one where a step stands for both.
 fn push_fused(steps: &mut Vec<Step>, step: Step) -> Result<(), AllocError>
     ensures { OnOk result (singles steps.new.items ≡ singles steps.old.items ++ single step) }
 {
+    if !may_fuse(steps, &step) {
+        steps.push(step)?;
+        return Ok(());
+    }
     match steps.pop() {
         Some(last) => push_both(steps, last, step),
         None => {
