@@ -51,7 +51,8 @@ gap_no_letter (c ∷ rest) more g = elim (cases_Bool (is_name_char c)) [
   | inr h ↦ h
 ]
 
-no_end : (t : List ℕ) → behind_comment t ≡ None → ends_comment t ≡ false
+-- where nothing is left behind a comment, it doesn't end
+pub no_end : (t : List ℕ) → behind_comment t ≡ None → ends_comment t ≡ false
 no_end [] h = refl
 no_end (c ∷ []) h = refl
 no_end (c ∷ e ∷ more) h = elim (cases_of_cond (c == 42 && e == 41) (Some more) (behind_comment (e ∷ more)) None h) [

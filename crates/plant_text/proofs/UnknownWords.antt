@@ -1,5 +1,5 @@
 -- Where a text has no word, and why.
-use Rattle.std.proofs.Common.{◌≡◌, ◌≢◌, ◌==◌, ◌&&◌, ◌<◌, ◌≤◌, ◌+◌, ◌-◌, ℕ, Bool, true, false, min, List, [], ◌∷◌, ◌++◌, length, take, Option, Some, None, IfSome, All, ◌⊎◌, inl, inr, refl, ap, sym, subst, ◌∙◌, append_assoc, arith}
+use Rattle.std.proofs.Common.{◌≡◌, ◌≢◌, ◌<◌, ◌≤◌, ◌+◌, ◌-◌, ℕ, Bool, true, min, List, [], ◌∷◌, ◌++◌, length, take, Option, Some, None, IfSome, All, ◌⊎◌, inl, inr, refl, ap, sym, subst, ◌∙◌, append_assoc, arith}
 use Rattle.std.proofs.lemmas.List.{append-nil, length-append, map-append}
 use Rattle.std.proofs.lemmas.List.Elements.{All-nil, All-push}
 use Rattle.std.proofs.lemmas.Grind.{flat_map-append}
@@ -9,22 +9,14 @@ use Rattle.plant_text.specs.declared.lexer.Stage.{Stage}
 use Rattle.plant_text.specs.declared.lexer.Stage.TheVariants as stage
 use Rattle.plant_text.specs.Words.{front_len, word_of}
 use Rattle.plant_text.specs.Places.{stage_behind, is_due, stage_after, stage_after_all}
-use Rattle.plant_text.specs.Spelling.{ends_comment, feeds, BeginsNoBlock, HasNoBodyThen}
+use Rattle.plant_text.specs.Spelling.{feeds, BeginsNoBlock, HasNoBodyThen}
 use Rattle.plant_text.specs.Lines.{WordValue, body_line, body_lines, BeginsWithWordsThen, IsBodyPlace, HasNoWord, unknown_word, open_comment, no_body, many_bodies, HasNoWordBehind, IsStoppedBy, AreWordsButLast}
 use Rattle.plant_text.specs.Steps.Gaps.{behind_comment, behind_space, IsBehindGap}
-use Rattle.plant_text.specs.Steps.Lexing.{LexerValue, GoesOn, FindsNoWord, StopsAt}
+use Rattle.plant_text.specs.Steps.Lexing.{LexerValue, MovesOn, FindsNoWord, StopsAt}
 use Rattle.plant_text.proofs.FirstWords.{word_of-body}
-use Rattle.plant_text.proofs.FoundGaps.{cases_of_cond, no_piece}
+use Rattle.plant_text.proofs.BodyLines.{no_end}
+use Rattle.plant_text.proofs.FoundGaps.{no_piece}
 use Rattle.plant_text.proofs.LineCounts.{passed, counted, tokens, word_lines, AreKnown, known_parts, IsCountedTo, begins_then}
-
--- where nothing is left behind a comment, it doesn't end
-comment_open : (t : List ℕ) → behind_comment t ≡ None → ends_comment t ≡ false
-comment_open [] h = refl
-comment_open (c ∷ []) h = refl
-comment_open (c ∷ e ∷ more) h = elim (cases_of_cond (c == 42 && e == 41) (Some more) (behind_comment (e ∷ more)) None h) [
-  | inl w ↦ absurd cc
-  | inr w ↦ rw w.0 (comment_open (e ∷ more) w.1)
-]
 
 -- no word behind a gap
 pub no_word_found : (old passing : LexerValue) (inner front : List ℕ) (w : WordValue) → old.text ≡ inner → IsBehindGap inner front → (front ≡ [] → ⊥) → passing.text ≡ front
@@ -42,7 +34,7 @@ no_word_found old passing inner front w ei g some ep el ew et = λ unknown n is.
 pub open_found : (old : LexerValue) (inner front more : List ℕ) (w : WordValue) → old.text ≡ inner → IsBehindGap inner front → front ≡ 40 ∷ 42 ∷ more → FindsNoWord old w
 open_found old inner front more w ei g c = λ unknown n is.
     let none : behind_comment more ≡ None = sym (ap (λ x. behind_space x) c) ∙ g.3 in
-    inr (g.0, more, ei ∙ g.1 ∙ ap (λ x. g.0 ++ x) c ∙ sym (append_assoc g.0 (40 ∷ 42 ∷ []) more), g.2, comment_open more none)
+    inr (g.0, more, ei ∙ g.1 ∙ ap (λ x. g.0 ++ x) c ∙ sym (append_assoc g.0 (40 ∷ 42 ∷ []) more), g.2, no_end more none)
 
 -- where the word behind one stands that is no body
 same_stage : (t : Token) (s : Stage) → ((b : List ℕ) → t ≡ token.Body b → ⊥) → stage_after s t ≡ stage_behind t s
@@ -50,15 +42,15 @@ same_stage (token.Body b) s none = absurd (none b refl)
 same_stage t s none = refl
 
 -- behind a word
-pub word_goes_on : (old passing new : LexerValue) (w : WordValue) (word : List ℕ) → passing.stage ≡ old.stage → passing.bodies ≡ old.bodies → (w.token ≢ token.Unknown → new.stage ≡ stage_behind w.token passing.stage) → new.bodies ≡ passing.bodies
-    → w.token ≡ word_of word → GoesOn old w new
-word_goes_on old passing new w word es eb stages counts et = λ known.
+pub word_moves_on : (old passing new : LexerValue) (w : WordValue) (word : List ℕ) → passing.stage ≡ old.stage → passing.bodies ≡ old.bodies → (w.token ≢ token.Unknown → new.stage ≡ stage_behind w.token passing.stage) → new.bodies ≡ passing.bodies
+    → w.token ≡ word_of word → MovesOn old w new
+word_moves_on old passing new w word es eb stages counts et = λ known.
     let none : (b : List ℕ) → w.token ≡ token.Body b → ⊥ = λ b e. word_of-body word b (sym et ∙ e) in
     (stages known ∙ ap (λ s. stage_behind w.token s) es ∙ sym (same_stage w.token old.stage none), omega (arith, counts, eb))
 
 -- behind a body
-pub body_goes_on : (old new : LexerValue) (w : WordValue) (body : List ℕ) → w.token ≡ token.Body body → new.stage ≡ stage.Outside → new.bodies ≡ min (old.bodies + 1) 18446744073709551615 → GoesOn old w new
-body_goes_on old new w body et es eb = λ known.
+pub body_moves_on : (old new : LexerValue) (w : WordValue) (body : List ℕ) → w.token ≡ token.Body body → new.stage ≡ stage.Outside → new.bodies ≡ min (old.bodies + 1) 18446744073709551615 → MovesOn old w new
+body_moves_on old new w body et es eb = λ known.
     let one : length (body_line (record { token = w.token; line = w.line })) ≡ 1 = subst (λ (t : Token). length (body_line (record { token = t; line = w.line })) ≡ 1) (sym et) refl in
     (es ∙ sym (ap (λ t. stage_after old.stage t) et), omega (arith, one, eb))
 
@@ -94,7 +86,7 @@ placed_first text left e known =
     let none : left.bodies ≡ 0 = ap (λ (l : LexerValue). l.bodies) e in
     (ap (λ (l : LexerValue). l.stage) e, omega (arith, none))
 
-pub placed_next : (ws us : List WordValue) (w : WordValue) (left new : LexerValue) → us ≡ ws ++ w ∷ [] → IsPlacedTo ws left → GoesOn left w new → IsPlacedTo us new
+pub placed_next : (ws us : List WordValue) (w : WordValue) (left new : LexerValue) → us ≡ ws ++ w ∷ [] → IsPlacedTo ws left → MovesOn left w new → IsPlacedTo us new
 placed_next ws us w left new e before on known =
     let k = known_parts ws w (subst AreKnown e known) in
     let b = before k.0 in

@@ -7,7 +7,7 @@ ghost use Rattle.plant_text.specs.declared.token.Token.TheVariants as token;
 ghost use Rattle.plant_text.specs.declared.lexer.Stage.TheVariants as stage;
 ghost use Rattle.plant_text.specs.Spelling.{HasNoBodyThen, BeginsNoBlock, IsGap, feeds};
 ghost use Rattle.plant_text.specs.Places.{stage_behind, is_due};
-ghost use Rattle.plant_text.specs.Steps.Lexing.{part_before, line_behind, IsPart, IsKnownThen, IsFirstWord, FindsFirstWord, StandsFirst, GoesOn, FindsNoWord, StopsAt, IsWhole, ReadsWord, ReadsBody, ReadsFirst, ReadsNone};
+ghost use Rattle.plant_text.specs.Steps.Lexing.{part_before, line_behind, IsPart, IsKnownThen, IsFirstWord, FindsFirstWord, StandsFirst, MovesOn, FindsNoWord, StopsAt, IsWhole, ReadsWord, ReadsBody, ReadsFirst, ReadsNone};
 
 use crate::bodies::{
     begins_no_block, behind_blank_line, behind_body, is_blank_line, without_return,
@@ -182,7 +182,7 @@ impl<'a> Lexer<'a> {
         ensures first { IfOk result (λ w. StandsFirst self.old w self.new) }
         ensures none { IfOk result (λ w. w.token ≡ token.Unknown → HasNoBodyThen self.old.text) }
         ensures every { IfOk result (λ w. ReadsBody self.old w self.new) }
-        ensures goes_on { IfOk result (λ w. GoesOn self.old w self.new) }
+        ensures moves_on { IfOk result (λ w. MovesOn self.old w self.new) }
         ensures last { IfOk result (λ w. w.token ≡ token.Unknown → self.new.text ≡ []) }
         ensures shorter { OnOk result (length self.new.text < length self.old.text) }
     {
@@ -212,7 +212,7 @@ impl<'a> Lexer<'a> {
         ensures none { IfOk result (λ w. IsGap self.old.text → w ≡ None) }
         ensures word { IfOk result (λ w. FindsFirstWord self.old.text w self.new.text) }
         ensures first { IfOk result (λ w. IfSome w (λ t. StandsFirst self.old t self.new)) }
-        ensures goes_on { IfOk result (λ w. IfSome w (λ t. GoesOn self.old t self.new)) }
+        ensures moves_on { IfOk result (λ w. IfSome w (λ t. MovesOn self.old t self.new)) }
         ensures stops { IfOk result (λ w. IfSome w (λ t. FindsNoWord self.old t)) }
         ensures last { IfOk result (λ w. IfSome w (λ t. t.token ≡ token.Unknown → self.new.text ≡ [])) }
         ensures shorter { IfOk result (λ w. IfSome w (λ _. length self.new.text < length self.old.text)) }
@@ -235,7 +235,7 @@ impl<'a> Lexer<'a> {
         ensures none { IfOk result (λ w. ReadsNone self.old w) }
         ensures word { IfOk result (λ w. FindsFirstWord self.old.text w self.new.text) }
         ensures first { IfOk result (λ w. IfSome w (λ t. StandsFirst self.old t self.new)) }
-        ensures goes_on { IfOk result (λ w. IfSome w (λ t. GoesOn self.old t self.new)) }
+        ensures moves_on { IfOk result (λ w. IfSome w (λ t. MovesOn self.old t self.new)) }
         ensures stops { IfOk result (λ w. IfSome w (λ t. StopsAt self.old t)) }
         ensures last { IfOk result (λ w. IfSome w (λ t. t.token ≡ token.Unknown → self.new.text ≡ [])) }
         ensures ended { IfOk result (λ w. self.old.text ≡ [] → w ≡ None) }

@@ -99,8 +99,8 @@ StandsFirst old w new = w.token ≢ token.Unknown → (n : ℕ) → old.line ≡
     × BeginsWithThen (IsLeft m new.text) n old.text (w.token ∷ []) (w.line ∷ [])
 
 -- If this is a word, the next one stands where one does behind it, and no body but itself is counted.
-abbrev pub GoesOn : LexerValue → WordValue → LexerValue → Type 0
-GoesOn old w new = w.token ≢ token.Unknown
+abbrev pub MovesOn : LexerValue → WordValue → LexerValue → Type 0
+MovesOn old w new = w.token ≢ token.Unknown
     → (new.stage ≡ stage_after old.stage w.token) × (new.bodies ≤ old.bodies + length (body_line w))
 
 -- If this is unknown, what stands behind the text's gap is no word, or a comment that doesn't end.

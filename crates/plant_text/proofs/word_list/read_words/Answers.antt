@@ -39,7 +39,7 @@ words-preserved c =
       every = up_to_next text (map token_of c.words.words.items) (map token_of c.push.new.self.items) word c.words.lexer c.next.new.self
           (ap (map token_of) c.in_ok-push.ensures.items ∙ map-append token_of c.words.words.items (word ∷ [])) c.words.invariant.every (rw c.in-Some.is at c.in_ok-word.ensures.every) (rw c.in-Some.is at c.in_ok-word.ensures.none);
       begun = begun_next text c.words.words.items c.push.new.self.items word c.next.new.self c.in_ok-push.ensures.items c.words.invariant.begun counted;
-      placed = placed_next c.words.words.items c.push.new.self.items word c.words.lexer c.next.new.self c.in_ok-push.ensures.items c.words.invariant.placed (rw c.in-Some.is at c.in_ok-word.ensures.goes_on);
+      placed = placed_next c.words.words.items c.push.new.self.items word c.words.lexer c.next.new.self c.in_ok-push.ensures.items c.words.invariant.placed (rw c.in-Some.is at c.in_ok-word.ensures.moves_on);
       open_at = open_next c.words.words.items c.push.new.self.items word c.next.new.self c.in_ok-push.ensures.items known (rw c.in-Some.is at c.in_ok-word.ensures.last);
       stopped = stopped_next text c.words.words.items c.push.new.self.items word c.words.lexer c.in_ok-push.ensures.items known c.words.invariant.counted c.words.invariant.placed (rw c.in-Some.is at c.in_ok-word.ensures.stops);
       known = known_next c.words.words.items c.push.new.self.items word c.in_ok-push.ensures.items known;

@@ -7,7 +7,7 @@ use Rattle.plant_text.proofs.BodyLines.{blank_gap}
 use Rattle.plant_text.proofs.LineCounts.{body_stands}
 use Rattle.plant_text.proofs.BodyUnique.{no_end_behind, no_body_cut}
 use Rattle.plant_text.proofs.ReadWords.{body_is}
-use Rattle.plant_text.proofs.UnknownWords.{body_goes_on}
+use Rattle.plant_text.proofs.UnknownWords.{body_moves_on}
 use Rattle.plant_text.proofs.lexer.Lexer.body.Goals as goal
 
 pub returns-clause-word : goal.returns-clause-word
@@ -81,8 +81,8 @@ returns-clause-every c =
     body_is c.args.self.now c.advance.new.self c.self.inside.rest.now c.in-Some.text.now c.in-Some-behind_body.rest.now c.in-Some-2.body c.new.result same (ap (λ (w : WordValue). w.token) c.new.ensures) c.advance.ensures.text c.advance.ensures.stage
     (c.advance.ensures.counted ∙ c.saturating_add-self-inside.ensures ∙ ap (λ (x : ℕ). min (x + 1) 18446744073709551615) (sym counted)) c.in-Some.ensures c.in-Some-behind_body.ensures.0 c.in-Some-behind_body.ensures.1 (rw c.in-Some-2.is at c.in_ok-body.ensures)
 
-pub returns-clause-goes_on : goal.returns-clause-goes_on
-returns-clause-goes_on c =
+pub returns-clause-moves_on : goal.returns-clause-moves_on
+returns-clause-moves_on c =
     let counted : c.args.self.now.bodies ≡ c.self.inside.bodies = cc in
-    body_goes_on c.args.self.now c.advance.new.self c.new.result c.in-Some-2.body (ap (λ (w : WordValue). w.token) c.new.ensures) c.advance.ensures.stage
+    body_moves_on c.args.self.now c.advance.new.self c.new.result c.in-Some-2.body (ap (λ (w : WordValue). w.token) c.new.ensures) c.advance.ensures.stage
     (c.advance.ensures.counted ∙ c.saturating_add-self-inside.ensures ∙ ap (λ (x : ℕ). min (x + 1) 18446744073709551615) (sym counted))

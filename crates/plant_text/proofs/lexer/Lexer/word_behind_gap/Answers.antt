@@ -4,7 +4,7 @@ use Rattle.plant_text.proofs.BodyLines.{empty_of_length}
 use Rattle.plant_text.proofs.ReadWords.{gap_read, nothing_left, comment_left, no_word_left, front_two, not_empty}
 use Rattle.plant_text.proofs.SpelledWords.{word_read}
 use Rattle.plant_text.proofs.LineCounts.{word_stands}
-use Rattle.plant_text.proofs.UnknownWords.{word_goes_on, no_word_found, open_found}
+use Rattle.plant_text.proofs.UnknownWords.{word_moves_on, no_word_found, open_found}
 use Rattle.plant_text.proofs.lexer.Lexer.word_behind_gap.Goals as goal
 
 pub returns-clause-word : goal.returns-clause-word
@@ -44,9 +44,9 @@ returns-clause-none c = λ gap.
     let none = no_word_left c.args.self.now.text c.self.inside.rest.now c.behind_gap-rest.result.now same c.behind_gap-rest.ensures gap in
     absurd (not_empty c.behind_gap-rest.result.now c.is_empty.result c.is_empty.ensures c.if-is_empty.false none)
 
-pub returns-clause-goes_on : goal.returns-clause-goes_on
-returns-clause-goes_on c =
-    word_goes_on c.args.self.now c.advance.new.self c.word.new.self c.in_ok-word.field-0 (take (front_len c.advance.new.self.text) c.advance.new.self.text) c.advance.ensures.stage c.advance.ensures.counted c.in_ok-word.ensures.stage c.in_ok-word.ensures.counted c.in_ok-word.ensures.is
+pub returns-clause-moves_on : goal.returns-clause-moves_on
+returns-clause-moves_on c =
+    word_moves_on c.args.self.now c.advance.new.self c.word.new.self c.in_ok-word.field-0 (take (front_len c.advance.new.self.text) c.advance.new.self.text) c.advance.ensures.stage c.advance.ensures.counted c.in_ok-word.ensures.stage c.in_ok-word.ensures.counted c.in_ok-word.ensures.is
 
 pub returns-clause-stops : goal.returns-clause-stops
 returns-clause-stops c =
