@@ -1,8 +1,8 @@
 -- Rows without words, and rows without symbols.
-use Rattle.std.proofs.Common.{ℕ, suc, ◌+◌, ◌-◌, ◌≤◌, ◌≡◌, ◌≢◌, [], true, false, None, inl, inr, refl, ap, sym, ◌∙◌, arith}
+use Rattle.std.proofs.Common.{ℕ, suc, ◌+◌, ◌-◌, ◌≤◌, ◌≡◌, ◌≢◌, [], false, None, inl, inr, refl, ap, sym, ◌∙◌, arith}
 use Rattle.std.specs.Prelude.{slice_index_or}
 use Rattle.std.specs.Option.{is_some}
-use Rattle.std.proofs.lemmas.Bool.{and_left, cases_lt, or_from}
+use Rattle.std.proofs.lemmas.Bool.{cases_lt, or_from}
 use Rattle.std.proofs.lemmas.Bool.Decides.{nat_tests}
 use Rattle.ladder_rows.specs.Rows.{char_at, width}
 use Rattle.ladder_rows.specs.Boxes.{option_list}
@@ -31,14 +31,16 @@ no_words p r h = sym (upto-none (width p.rows) (λ c. option_list (word_at p r c
 no_symbol_here : (p : Layout) (r c : ℕ) → HasNoSymbol (slice_index_or p.rows r []) → (is_some (contact_at p r (c + 1)) ≡ false) × (is_some (coil_at p r (c + 1)) ≡ false)
 unfolding char_at
 no_symbol_here p r c h =
-    let e : c + 1 - 1 ≡ c = omega arith in
-    (not_some (contact_at p r (c + 1)) (λ k q.
-    let x = contact_parts p r (c + 1) k q in
-    let none = (h c).0 x.first in
-    elim x.before [
-      | inl y ↦ none.0 (ap (char_at p.rows r) (sym e) ∙ y)
-      | inr y ↦ none.1 (ap (char_at p.rows r) (sym e) ∙ y)
-    ]), not_some (coil_at p r (c + 1)) (λ k q. (h c).1 (coil_parts p r (c + 1) k q).first))
+    let e : c + 1 - 1 ≡ c = omega arith in (
+      not_some (contact_at p r (c + 1)) (λ k q.
+          let x = contact_parts p r (c + 1) k q in
+          let none = (h c).0 x.first in
+          elim x.before [
+            | inl y ↦ none.0 (ap (char_at p.rows r) (sym e) ∙ y)
+            | inr y ↦ none.1 (ap (char_at p.rows r) (sym e) ∙ y)
+          ]),
+      not_some (coil_at p r (c + 1)) (λ k q. (h c).1 (coil_parts p r (c + 1) k q).first),
+    )
 
 no_symbol_at : (p : Layout) (r c : ℕ) → HasNoSymbol (slice_index_or p.rows r []) → symbol_at p r (c + 1) ≡ None
 unfolding symbol_at

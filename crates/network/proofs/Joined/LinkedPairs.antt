@@ -251,6 +251,7 @@ module _ (rows : ℕ) (es : List Element) (laid : AreLaidOut rows es) (n : ℕ) 
         | inl same ↦ (let q = ap (λ x. (first_place x).column) (one_at es k n f e same at at_e) in omega arith)
         | inr ne ↦ precedes_column (first_place e) (first_place f) (laid.rising n k e f (omega arith) at_e at)
       ]
+
       too_far : (k : ℕ) (f : Element) (r : ℕ) → n ≤ k → slice_get es k ≡ Some f → Takes f (place r column) → ⊥
       too_far k f r later at takes =
           let a = begins_behind k f later at in

@@ -71,7 +71,6 @@ fn pair_over(row: u8, first: u8, lowest: u8, rows: PairRows, places: PairPlaces)
 }
 
 /// The step that stands for both, if there is one.
-#[inline(never)]
 fn both(last: &Step, step: &Step) -> Option<Step>
     ensures { IfSome result (λ s. single s ≡ single last.now ++ single step.now) }
 {
@@ -114,7 +113,10 @@ fn may_fuse(steps: &[Step], step: &Step) -> bool {
         (Step::Off(_), Step::Upright(_, _))
             | (Step::Rail(_), Step::Contact(_))
             | (Step::Contact(_), Step::Contact(_))
-            | (Step::Upright(_, _) | Step::OffUpright(_, _, _), Step::Pair(_, _))
+            | (
+                Step::Upright(_, _) | Step::OffUpright(_, _, _),
+                Step::Pair(_, _)
+            )
             | (Step::Box(_), Step::Coil(_, _))
     )
 }
