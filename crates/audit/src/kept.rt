@@ -23,15 +23,7 @@ pub(crate) fn opened_by(next: Option<&Item>, task: usize) -> Option<&Retained>
 fn are_equal(values: &[Value], others: &[Value]) -> bool
     ensures { IsTrue result ↔ (values.now ≡ others.now) }
 {
-    if values.len() != others.len() {
-        return false;
-    }
-    for i in 0..values.len() {
-        if values[i] != others[i] {
-            return false;
-        }
-    }
-    true
+    values == others
 }
 
 /// Whether both have the same values in the same order.
@@ -45,13 +37,5 @@ pub(crate) fn are_same(kept: &Retained, left: &Retained) -> bool
 pub(crate) fn are_all_same(kept: &[Retained], left: &[Retained]) -> bool
     ensures { IsTrue result ↔ (kept.now ≡ left.now) }
 {
-    if kept.len() != left.len() {
-        return false;
-    }
-    for task in 0..kept.len() {
-        if !are_same(&kept[task], &left[task]) {
-            return false;
-        }
-    }
-    true
+    lists::are_same(kept, left, are_same)
 }

@@ -26,20 +26,6 @@ map_at f xs ys e k x y at found = same_Some (f x) y (sym (here xs k at) ∙ ap (
     here (z ∷ zs) zero h = cc
     here (z ∷ zs) (suc k) h = here zs k h
 
--- what holds of the elements at n, and of those before
-pub one_more : {X Y : Type 0} (P : ℕ → X → Y → Type 0) (xs : List X) (ys : List Y) (n : ℕ) (x : X) (y : Y)
-    → slice_get xs n ≡ Some x → slice_get ys n ≡ Some y → P n x y
-    → ((k : ℕ) (a : X) (b : Y) → k < n → slice_get xs k ≡ Some a → slice_get ys k ≡ Some b → P k a b)
-    → (k : ℕ) (a : X) (b : Y) → k < n + 1 → slice_get xs k ≡ Some a → slice_get ys k ≡ Some b → P k a b
-one_more P xs ys n x y at found here below k a b lt at' found' = by (cases_eq k n)
-  where
-    by : (k ≡ n) ⊎ (k ≢ n) → P k a b
-    by (inl same) =
-        let one : x ≡ a = same_Some x a (sym at ∙ ap (slice_get xs) (sym same) ∙ at') in
-        let other : y ≡ b = same_Some y b (sym found ∙ ap (slice_get ys) (sym same) ∙ found') in
-        subst (λ (i : ℕ). P i a b) (sym same) (subst (λ v. P n v b) one (subst (λ w. P n x w) other here))
-    by (inr ne) = below k a b (omega arith) at' found'
-
 -- what a mapped option comes from
 pub option_map_some : {X Y : Type 0} (f : X → Y) (o : Option X) (y : Y) → option_map f o ≡ Some y → (x : X) × (o ≡ Some x) × (f x ≡ y)
 option_map_some f None y e = absurd cc

@@ -108,13 +108,5 @@ fn are_initial(values: &[Value], kinds: &[Kind]) -> bool
 fn are_same(values: &[Value], others: &[Value]) -> bool
     ensures { IsTrue result ↔ (values.now ≡ others.now) }
 {
-    if values.len() != others.len() {
-        return false;
-    }
-    for i in 0..values.len() {
-        if !values[i].same(&others[i]) {
-            return false;
-        }
-    }
-    true
+    values == others
 }

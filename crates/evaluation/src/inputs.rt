@@ -91,13 +91,5 @@ impl Inputs {
 fn are_same(listed: &[FieldInput], others: &[FieldInput]) -> bool
     ensures { IsTrue result ↔ (listed.now ≡ others.now) }
 {
-    if listed.len() != others.len() {
-        return false;
-    }
-    for i in 0..listed.len() {
-        if !listed[i].same(&others[i]) {
-            return false;
-        }
-    }
-    true
+    listed == others
 }

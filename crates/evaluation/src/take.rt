@@ -1,6 +1,7 @@
 ghost use Rattle.std.specs.Prelude.{◌≡◌, ◌↔◌, IsTrue, IfOk};
 
 use crate::image::Image;
+use lists::are_same;
 use std::alloc::AllocError;
 use task_codes::TaskRef;
 
@@ -51,13 +52,5 @@ fn are_same_pairs(pair: Option<(u32, u32)>, other: Option<(u32, u32)>) -> bool
 pub fn are_same_takes(takes: &[Take], others: &[Take]) -> bool
     ensures { IsTrue result ↔ (takes.now ≡ others.now) }
 {
-    if takes.len() != others.len() {
-        return false;
-    }
-    for i in 0..takes.len() {
-        if !takes[i].same(&others[i]) {
-            return false;
-        }
-    }
-    true
+    are_same(takes, others, Take::same)
 }

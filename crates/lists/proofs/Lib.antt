@@ -1,3 +1,4 @@
+pub mod Alike
 pub mod Each
 pub mod Longest
 pub mod Mapped

@@ -1,6 +1,6 @@
 -- What stands at which place of a list.
-use Rattle.std.proofs.Common.{◌≡◌, ℕ, zero, suc, ◌+◌, ◌<◌, ◌⊎◌, inl, inr, List, [], ◌∷◌, ◌++◌, Option, Some, None, is_some, false, length, map, set, slice_get, slice_index, refl, sym, ap, ◌∙◌, arith}
-use Rattle.std.proofs.lemmas.Bool.{cases_lt}
+use Rattle.std.proofs.Common.{◌≡◌, ℕ, zero, suc, ◌+◌, ◌<◌, ◌≢◌, ◌⊎◌, inl, inr, List, [], ◌∷◌, ◌++◌, Option, Some, None, is_some, false, length, map, set, slice_get, slice_index, refl, sym, ap, subst, ◌∙◌, arith}
+use Rattle.std.proofs.lemmas.Bool.{cases_lt, cases_eq}
 use Rattle.std.proofs.lemmas.Option.{none-some, same_Some, slice_get_past}
 
 -- something stands at each place below the length
@@ -104,3 +104,17 @@ pub index_at : (xs : List ℕ) (n i : ℕ) → slice_get xs n ≡ Some i → sli
 index_at [] n i e = absurd (none-some i e)
 index_at (x ∷ xs) zero i e = same_Some x i e
 index_at (x ∷ xs) (suc n) i e = index_at xs n i e
+
+-- what holds of the elements at n, and of those before
+pub one_more : {X Y : Type 0} (P : ℕ → X → Y → Type 0) (xs : List X) (ys : List Y) (n : ℕ) (x : X) (y : Y)
+    → slice_get xs n ≡ Some x → slice_get ys n ≡ Some y → P n x y
+    → ((k : ℕ) (a : X) (b : Y) → k < n → slice_get xs k ≡ Some a → slice_get ys k ≡ Some b → P k a b)
+    → (k : ℕ) (a : X) (b : Y) → k < n + 1 → slice_get xs k ≡ Some a → slice_get ys k ≡ Some b → P k a b
+one_more P xs ys n x y at found here below k a b lt at' found' = by (cases_eq k n)
+  where
+    by : (k ≡ n) ⊎ (k ≢ n) → P k a b
+    by (inl same) =
+        let one : x ≡ a = same_Some x a (sym at ∙ ap (slice_get xs) (sym same) ∙ at') in
+        let other : y ≡ b = same_Some y b (sym found ∙ ap (slice_get ys) (sym same) ∙ found') in
+        subst (λ (i : ℕ). P i a b) (sym same) (subst (λ v. P n v b) one (subst (λ w. P n x w) other here))
+    by (inr ne) = below k a b (omega arith) at' found'

@@ -1,3 +1,4 @@
+pub mod Alike
 pub mod Among
 pub mod Items
 pub mod Rising

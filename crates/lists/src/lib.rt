@@ -1,2 +1,6 @@
-//! Lemmas on lists that several crates need, and the words that they are said in. There is no code here.
+//! Lists compared item by item, lemmas on lists that several crates need, and the words that they are said in.
 #![tactic(auto)]
+
+mod same;
+
+pub use same::are_same;

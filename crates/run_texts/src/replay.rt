@@ -21,15 +21,7 @@ fn are_same(frames: &[Frame], others: &[Frame]) -> bool
     requires { AreOfOneCode frames.now others.now }
     ensures { IsTrue result ↔ (frames.now ≡ others.now) }
 {
-    if frames.len() != others.len() {
-        return false;
-    }
-    for i in 0..frames.len() {
-        if !are_equal(&frames[i], &others[i]) {
-            return false;
-        }
-    }
-    true
+    lists::are_same(frames, others, are_equal)
 }
 
 /// The first incarnation of each resource.

@@ -1,6 +1,7 @@
 ghost use Rattle.std.specs.Prelude.{◌≡◌, ◌↔◌, IsTrue};
 
 use drawings::{Coil, Contact, DrawnBox, DrawnPin, Operand, Place};
+use lists::are_same;
 use network::Element;
 use words::Text;
 
@@ -38,15 +39,7 @@ fn are_same_pins(pin: &DrawnPin, other: &DrawnPin) -> bool
 fn have_same_pins(pins: &[DrawnPin], others: &[DrawnPin]) -> bool
     ensures { IsTrue result ↔ (pins.now ≡ others.now) }
 {
-    if pins.len() != others.len() {
-        return false;
-    }
-    for i in 0..pins.len() {
-        if !are_same_pins(&pins[i], &others[i]) {
-            return false;
-        }
-    }
-    true
+    are_same(pins, others, are_same_pins)
 }
 
 fn are_same_boxes(drawn: &DrawnBox, other: &DrawnBox) -> bool
@@ -98,28 +91,12 @@ fn is_same_element(element: &Element, other: &Element) -> bool
 pub fn are_same_elements(elements: &[Element], others: &[Element]) -> bool
     ensures { IsTrue result ↔ (elements.now ≡ others.now) }
 {
-    if elements.len() != others.len() {
-        return false;
-    }
-    for i in 0..elements.len() {
-        if !is_same_element(&elements[i], &others[i]) {
-            return false;
-        }
-    }
-    true
+    are_same(elements, others, is_same_element)
 }
 
 /// Whether two lists have the same places in the same order.
 pub fn are_same_places(places: &[Place], others: &[Place]) -> bool
     ensures { IsTrue result ↔ (places.now ≡ others.now) }
 {
-    if places.len() != others.len() {
-        return false;
-    }
-    for i in 0..places.len() {
-        if places[i] != others[i] {
-            return false;
-        }
-    }
-    true
+    places == others
 }

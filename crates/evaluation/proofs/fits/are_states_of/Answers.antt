@@ -1,10 +1,10 @@
 use Rattle.std.proofs.Common.{◌≡◌, ℕ, Some, length, slice_get, sym, arith, subst, refl, ◌∙◌}
 use Rattle.std.proofs.lemmas.Bool.{false≢true}
 use Rattle.std.proofs.lemmas.Option.{slice_get_read, slice_get_within}
+use Rattle.lists.proofs.Places.{one_more}
 use Rattle.power_flow.specs.LadderValue.{LadderValue, Fits}
 use Rattle.power_flow.specs.StateValue.{StateValue}
 use Rattle.task_codes.specs.CodeValue.{ProgramValue}
-use Rattle.evaluation.proofs.MappedLists.{one_more}
 use Rattle.evaluation.proofs.ScannedPrograms.{program_of}
 use Rattle.evaluation.proofs.fits.are_states_of.Goals as goal
 

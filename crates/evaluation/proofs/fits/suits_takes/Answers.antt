@@ -1,11 +1,11 @@
 use Rattle.std.proofs.Common.{◌≡◌, ◌<◌, ℕ, List, Some, length, slice_get, get_or, ap, arith, subst, refl, ◌∙◌}
 use Rattle.std.proofs.lemmas.Option.{slice_get_read, slice_get_within, slice_get-get_or}
+use Rattle.lists.proofs.Places.{one_more}
 use Rattle.declared_names.specs.declared.declarations.Kind.{Kind}
 use Rattle.task_codes.specs.declared.task_ref.TaskRef.{TaskRef}
 use Rattle.task_codes.specs.CodeValue.{expected_at}
 use Rattle.evaluation.specs.declared.take.Take.{Take}
 use Rattle.evaluation.specs.Takes.{IsTakeOf}
-use Rattle.evaluation.proofs.MappedLists.{one_more}
 use Rattle.evaluation.proofs.fits.suits_takes.Goals as goal
 
 abbrev none : TaskRef

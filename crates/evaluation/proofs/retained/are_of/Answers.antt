@@ -1,11 +1,11 @@
 use Rattle.std.proofs.Common.{◌≡◌, ℕ, Some, slice_get, get_or, refl, arith, subst, false, IsTrue}
 use Rattle.std.proofs.lemmas.Option.{slice_get_within, slice_get-get_or}
+use Rattle.lists.proofs.Places.{one_more}
 use Rattle.std_blocks.specs.declared.value.Value.{Value}
 use Rattle.std_blocks.specs.declared.value.Value.TheVariants.{Bool as On}
 use Rattle.declared_names.specs.declared.declarations.Kind.TheVariants as kind
 use Rattle.declared_names.specs.Kinds.{kind_of}
 use Rattle.task_codes.specs.declared.retained_variable.RetainedVariable.{RetainedVariable}
-use Rattle.evaluation.proofs.MappedLists.{one_more}
 use Rattle.evaluation.proofs.RetainedStates.{kinds_at_each, kind_at}
 use Rattle.evaluation.proofs.retained.are_of.Goals as goal
 

@@ -1,6 +1,5 @@
-use Rattle.std.proofs.Common.{refl, arith}
-use Rattle.std.proofs.lemmas.List.{same_lists}
+use Rattle.lists.proofs.Alike.{equal_as_told}
 use Rattle.evaluation.proofs.take.are_same_takes.Goals as goal
 
 pub returns : goal.returns
-returns c = (λ _. same_lists c.args.takes.now c.args.others.now c.if-takes-others.false (λ k d lt. c.loop-i.invariant k d (omega arith)), λ _. refl)
+returns c = equal_as_told _ _ _ c.are_same.ensures (λ x y told answer. rw (← answer.shows.0, ← answer.shows.1) answer.says.met)
