@@ -21,7 +21,15 @@ fn are_same(frames: &[Frame], others: &[Frame]) -> bool
     requires { AreOfOneCode frames.now others.now }
     ensures { IsTrue result ↔ (frames.now ≡ others.now) }
 {
-    lists::are_same(frames, others, are_equal)
+    if frames.len() != others.len() {
+        return false;
+    }
+    for i in 0..frames.len() {
+        if !are_equal(&frames[i], &others[i]) {
+            return false;
+        }
+    }
+    true
 }
 
 /// The first incarnation of each resource.
