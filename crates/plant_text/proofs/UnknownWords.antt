@@ -93,8 +93,7 @@ placed_next ws us w left new e before on known =
     let g = on k.1 in
     let words : tokens us ≡ tokens ws ++ w.token ∷ [] = ap (λ (x : List WordValue). tokens x) e ∙ map-append (λ (w : WordValue). w.token) ws (w ∷ []) in
     let lines : body_lines us ≡ body_lines ws ++ (body_line w ++ []) = ap (λ (x : List WordValue). body_lines x) e ∙ flat_map-append body_line ws (w ∷ []) in
-    let count : length (body_lines us) ≡ length (body_lines ws) + length (body_line w) = ap length lines ∙ length-append (body_lines ws) (body_line w ++ []) ∙ ap (λ (x : List ℕ). length (body_lines ws) + length x) (append-nil (body_line w)) in
-    (
+    let count : length (body_lines us) ≡ length (body_lines ws) + length (body_line w) = ap length lines ∙ length-append (body_lines ws) (body_line w ++ []) ∙ ap (λ (x : List ℕ). length (body_lines ws) + length x) (append-nil (body_line w)) in (
       g.0 ∙ ap (λ s. stage_after s w.token) b.0 ∙ sym (stage_after_last stage.Outside (tokens ws) w.token) ∙ ap (λ (x : List Token). stage_after_all stage.Outside x) (sym words),
       omega (arith, b.1, g.1, count),
     )
