@@ -1,2 +1,3 @@
+pub mod Symbols
 pub mod Picture
 pub mod Lines

@@ -2,8 +2,8 @@
 use Rattle.std.specs.Prelude.{ℕ, ◌+◌, ◌<◌, ◌≤◌, ◌≡◌, List, [], ◌∷◌, Some, slice_get, slice_index_or, All, ◌⊎◌}
 use Rattle.drawings.specs.declared.mark.Mark.{Mark}
 use Rattle.drawings.specs.declared.mark.Mark.TheVariants.{Blank, ContactPart, CoilPart, BoxPart}
-use Rattle.drawings.specs.declared.contact.Contact.{Contact}
-use Rattle.drawings.specs.declared.coil.Coil.{Coil}
+use Rattle.drawings.specs.Symbols.{Contact}
+use Rattle.drawings.specs.Symbols.{Coil}
 use Rattle.drawings.specs.declared.drawn_box.DrawnBox.{DrawnBox}
 
 -- a drawing: its size, its marks behind a margin, and its symbols and boxes

@@ -1,4 +1,4 @@
-use words::Text;
+use crate::symbol::Symbol;
 
 /// What a coil stores (IEC 61131-3, 4.2.4).
 #[derive(Clone, Copy, Debug, PartialEq, Eq)]
@@ -17,14 +17,5 @@ pub enum CoilKind {
     Fall,
 }
 
-/// A coil, by the first of its three places.
-#[derive(Debug, Drop)]
-pub struct Coil {
-    /// The row, from 1 on.
-    pub row: usize,
-    /// The column of the first place, from 1 on.
-    pub column: usize,
-    pub kind: CoilKind,
-    /// The word above it as it is drawn: an identifier, or two joined by a dot.
-    pub name: Text,
-}
+/// A coil.
+pub type Coil = Symbol<CoilKind>;

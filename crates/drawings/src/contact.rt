@@ -1,4 +1,4 @@
-use words::Text;
+use crate::symbol::Symbol;
 
 /// When a contact conducts (IEC 61131-3, 4.2.3).
 #[derive(Clone, Copy, Debug, PartialEq, Eq)]
@@ -13,14 +13,5 @@ pub enum ContactKind {
     Fall,
 }
 
-/// A contact, by the first of its three places.
-#[derive(Debug, Drop)]
-pub struct Contact {
-    /// The row, from 1 on.
-    pub row: usize,
-    /// The column of the first place, from 1 on.
-    pub column: usize,
-    pub kind: ContactKind,
-    /// The word above it as it is drawn: an identifier, or two joined by a dot.
-    pub name: Text,
-}
+/// A contact.
+pub type Contact = Symbol<ContactKind>;

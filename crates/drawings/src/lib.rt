@@ -10,6 +10,7 @@ mod drawn_box;
 mod mark;
 mod mark_row;
 mod place;
+mod symbol;
 
 pub use coil::{Coil, CoilKind};
 pub use contact::{Contact, ContactKind};
@@ -18,3 +19,4 @@ pub use drawn_box::{DrawnBox, DrawnPin, Operand, Pins, Side};
 pub use mark::Mark;
 pub use mark_row::MarkRow;
 pub use place::Place;
+pub use symbol::Symbol;

@@ -2,12 +2,10 @@
 use Rattle.std.specs.Prelude.{ℕ, ◌+◌, ◌-◌, List, [], ◌++◌, ◌==◌, if◌then◌else◌, map, Bool, ◌&&◌, ◌||◌, not, nat_lt, Option, Some, None, is_some}
 use Rattle.std.specs.List.{filter, find}
 use Rattle.ladder_rows.specs.declared.span.Span.{Span}
-use Rattle.drawings.specs.declared.contact.Contact.{Contact}
-use Rattle.drawings.specs.declared.coil.Coil.{Coil}
+use Rattle.drawings.specs.Symbols.{Contact, Coil}
+use Rattle.drawings.specs.declared.symbol.Symbol.{Symbol}
 use Rattle.drawings.specs.declared.drawn_box.DrawnBox.{DrawnBox}
 use Rattle.ladder_rows.specs.declared.boxes.outline.Outline.{Outline}
-use Rattle.drawings.specs.declared.contact.ContactKind.{ContactKind}
-use Rattle.drawings.specs.declared.coil.CoilKind.{CoilKind}
 use Rattle.ladder_rows.specs.Rows.{char_at, height, width, run, upto}
 use Rattle.words.specs.Chars.{is_word_char}
 use Rattle.ladder_rows.specs.Boxes.{cut, option_list}
@@ -66,14 +64,14 @@ found_text p r (Some w) = word_text p r w
 unfoldable pub name_above : Layout → ℕ → Span → List ℕ
 name_above p r s = found_text p (r - 1) (find (overlap s) (words p (r - 1)))
 
--- the contact at a place, by its kind
-abbrev pub contact_with : Layout → ℕ → ℕ → Option ContactKind → Option Contact
-contact_with p r c None = None
-contact_with p r c (Some k) = Some (record { row = r; column = c; kind = k; name = name_above p r (symbol_span c) })
+-- the contact or coil at a place, by its kind
+abbrev pub symbol_with : {Kind : Type 0} → Layout → ℕ → ℕ → Option Kind → Option (Symbol Kind)
+symbol_with p r c None = None
+symbol_with p r c (Some k) = Some (record { row = r; column = c; kind = k; name = name_above p r (symbol_span c) })
 
 -- the contact whose first place is (r, c), if there is one
 abbrev pub contact_here : Layout → ℕ → ℕ → Option Contact
-contact_here p r c = contact_with p r c (contact_at p r c)
+contact_here p r c = symbol_with p r c (contact_at p r c)
 
 -- the contacts of a row, by column
 unfoldable pub row_contacts : Layout → ℕ → List Contact
@@ -83,14 +81,9 @@ row_contacts p r = upto (width p.rows) (λ c. option_list (contact_here p r c))
 unfoldable pub contacts : Layout → List Contact
 contacts p = upto (height p.rows) (row_contacts p)
 
--- the coil at a place, by its kind
-abbrev pub coil_with : Layout → ℕ → ℕ → Option CoilKind → Option Coil
-coil_with p r c None = None
-coil_with p r c (Some k) = Some (record { row = r; column = c; kind = k; name = name_above p r (symbol_span c) })
-
 -- the coil whose first place is (r, c), if there is one
 abbrev pub coil_here : Layout → ℕ → ℕ → Option Coil
-coil_here p r c = coil_with p r c (coil_at p r c)
+coil_here p r c = symbol_with p r c (coil_at p r c)
 
 -- the coils of a row, by column
 unfoldable pub row_coils : Layout → ℕ → List Coil

@@ -12,7 +12,7 @@ ghost use Rattle.ladder_text.specs.declared.draw_fault.DrawFaultKind.TheVariants
 use crate::draw_fault::DrawFault;
 use crate::reading::read_well_drawn;
 use crate::refusal::Refusal;
-use crate::symbols::{coils, contacts, drawn_boxes};
+use crate::symbols::{Symbols, drawn_boxes};
 use drawings::Drawing;
 use ladder_rows::{boxes_are_whole, rows_are_within};
 use std::alloc::Global;
@@ -26,8 +26,7 @@ fn read_drawing(alloc: Global, text: &str, first_line: u64) -> Result<Drawing, R
 {
     boxes_are_whole();
     let worded = read_well_drawn(alloc, text)?;
-    let contacts = contacts(alloc, &worded)?;
-    let coils = coils(alloc, &worded)?;
+    let symbols = Symbols::of(alloc, &worded)?;
     let boxes = drawn_boxes(alloc, &worded)?;
     let grid = worded.marked().grid();
     let rows = grid.row_end().saturating_sub(1);
@@ -35,7 +34,14 @@ fn read_drawing(alloc: Global, text: &str, first_line: u64) -> Result<Drawing, R
     let left = grid.left();
     let marks = worded.into_marked().into_marks(alloc)?;
     Ok(Drawing::of(
-        first_line, rows, columns, left, marks, contacts, coils, boxes,
+        first_line,
+        rows,
+        columns,
+        left,
+        marks,
+        symbols.contacts,
+        symbols.coils,
+        boxes,
     ))
 }
 

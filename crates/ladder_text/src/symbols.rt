@@ -1,129 +1,134 @@
 //! The symbols and boxes of a text, with their names.
 
-ghost use Rattle.std.specs.Prelude.{◌≡◌, ◌+◌, ◌-◌, ◌++◌, ◌<◌, IfOk, OnOk};
+ghost use Rattle.std.specs.Prelude.{◌≡◌, ◌+◌, ◌-◌, ◌++◌, ◌<◌, ◌^◌, Some, IfOk, OnOk};
+ghost use Rattle.ladder_rows.specs.Boxes.{option_list};
 ghost use Rattle.ladder_text.specs.Places.{layout_of};
-ghost use Rattle.ladder_text.specs.Names.{contact_here, coil_here, row_contacts, row_coils, contacts, coils, drawn_box, drawn_boxes};
+ghost use Rattle.ladder_text.specs.Names.{symbol_with, contact_here, coil_here, drawn_box, drawn_boxes};
 
 use crate::names::names_above::name_above;
 use crate::names::span::symbol_span;
 use crate::names::worded_grid::WordedGrid;
-use drawings::{Coil, Contact, DrawnBox};
+use drawings::{Coil, Contact, DrawnBox, Symbol};
 use ladder_rows::{Outline, Span};
 use std::alloc::{AllocError, Global};
 use words::Text;
 
-/// The contact whose first place is in a column, with its name, which is looked for at a number first.
-#[tactic(auto, unfolding(crate::specs::Places::layout_of), using(crate::proofs::Words::SpanRows::contact_beside))]
-fn contact_here(
+/// The contacts and the coils, each by row and then column.
+#[derive(Drop)]
+pub struct Symbols {
+    pub contacts: Vec<Contact>,
+    pub coils: Vec<Coil>,
+}
+
+/// The symbol whose first place is in a column, with its name, which is looked for at a number first.
+fn symbol_with<Kind: Copy>(
     alloc: Global,
     worded: &WordedGrid,
     row: usize,
     column: usize,
     near: usize,
-) -> Result<Option<Contact>, AllocError>
-    ensures { IfOk result (λ o. o ≡ contact_here (layout_of worded.now) row column) }
+    kind: Kind,
+) -> Result<Symbol<Kind>, AllocError>
+    requires { column < 2 ^ 62 }
+    ensures { IfOk result (λ s. Some s ≡ symbol_with (layout_of worded.now) row column (Some kind)) }
 {
-    if worded.marked().grid().last() < column {
-        return Ok(None);
-    }
-    match worded.marked().contact_at(row, column) {
-        None => Ok(None),
-        Some(kind) => {
-            let name = name_above(alloc, worded, row, &symbol_span(column), near)?;
-            Ok(Some(Contact {
-                row,
-                column,
-                kind,
-                name,
-            }))
-        }
-    }
+    let name = name_above(alloc, worded, row, &symbol_span(column), near)?;
+    Ok(Symbol {
+        row,
+        column,
+        kind,
+        name,
+    })
 }
 
-/// The coil whose first place is in a column, with its name, which is looked for at a number first.
-#[tactic(auto, unfolding(crate::specs::Places::layout_of), using(crate::proofs::Words::SpanRows::coil_beside))]
-fn coil_here(
-    alloc: Global,
+/// Adds the contact whose first place is in a column, if there is one.
+fn push_contact(
+    contacts: &mut Vec<Contact>,
     worded: &WordedGrid,
     row: usize,
     column: usize,
     near: usize,
-) -> Result<Option<Coil>, AllocError>
-    ensures { IfOk result (λ o. o ≡ coil_here (layout_of worded.now) row column) }
-{
-    if worded.marked().grid().last() < column {
-        return Ok(None);
-    }
-    match worded.marked().coil_at(row, column) {
-        None => Ok(None),
-        Some(kind) => {
-            let name = name_above(alloc, worded, row, &symbol_span(column), near)?;
-            Ok(Some(Coil {
-                row,
-                column,
-                kind,
-                name,
-            }))
-        }
-    }
-}
-
-/// Adds the contacts of a row.
-fn push_contacts(
-    alloc: Global,
-    worded: &WordedGrid,
-    row: usize,
-    all: &mut Vec<Contact>,
 ) -> Result<(), AllocError>
-    ensures { OnOk result (all.new.items ≡ all.old.items ++ row_contacts (layout_of worded.now) row) }
+    requires { column < 2 ^ 62 }
+    ensures { OnOk result (contacts.new.items ≡ contacts.old.items ++ option_list (contact_here (layout_of worded.now) row column)) }
 {
-    for (near, symbol) in worded.symbols(row).iter().enumerate() {
-        if let Some(contact) = contact_here(alloc, worded, row, symbol.first, near)? {
-            all.push(contact)?;
-        }
+    if let Some(kind) = worded.marked().contact_at(row, column) {
+        let alloc = *contacts.allocator();
+        contacts.push(symbol_with(alloc, worded, row, column, near, kind)?)?;
     }
     Ok(())
 }
 
-/// Adds the coils of a row.
-fn push_coils(
-    alloc: Global,
+/// Adds the coil whose first place is in a column, if there is one.
+fn push_coil(
+    coils: &mut Vec<Coil>,
     worded: &WordedGrid,
     row: usize,
-    all: &mut Vec<Coil>,
+    column: usize,
+    near: usize,
 ) -> Result<(), AllocError>
-    ensures { OnOk result (all.new.items ≡ all.old.items ++ row_coils (layout_of worded.now) row) }
+    requires { column < 2 ^ 62 }
+    ensures { OnOk result (coils.new.items ≡ coils.old.items ++ option_list (coil_here (layout_of worded.now) row column)) }
 {
-    for (near, symbol) in worded.symbols(row).iter().enumerate() {
-        if let Some(coil) = coil_here(alloc, worded, row, symbol.first, near)? {
-            all.push(coil)?;
-        }
+    if let Some(kind) = worded.marked().coil_at(row, column) {
+        let alloc = *coils.allocator();
+        coils.push(symbol_with(alloc, worded, row, column, near, kind)?)?;
     }
     Ok(())
 }
 
-/// The contacts, by row and then column.
-#[tactic(auto, unfolding(crate::specs::Places::layout_of, crate::specs::Names::contacts))]
-pub fn contacts(alloc: Global, worded: &WordedGrid) -> Result<Vec<Contact>, AllocError>
-    ensures { IfOk result (λ v. v.items ≡ contacts (layout_of worded.now)) }
-{
-    let mut all = Vec::new(alloc);
-    for row in 0..worded.marked().grid().row_end().saturating_sub(1) {
-        push_contacts(alloc, worded, row + 1, &mut all)?;
-    }
-    Ok(all)
-}
+impl Symbols {
+    ghost use Rattle.std.specs.Prelude.{◌≡◌, ◌++◌, IfOk, OnOk};
+    ghost use Rattle.ladder_rows.specs.Boxes.{option_list};
+    ghost use Rattle.ladder_text.specs.Places.{layout_of};
+    ghost use Rattle.ladder_text.specs.Names.{contact_here, coil_here, row_contacts, row_coils, contacts, coils};
 
-/// The coils, by row and then column.
-#[tactic(auto, unfolding(crate::specs::Places::layout_of, crate::specs::Names::coils))]
-pub fn coils(alloc: Global, worded: &WordedGrid) -> Result<Vec<Coil>, AllocError>
-    ensures { IfOk result (λ v. v.items ≡ coils (layout_of worded.now)) }
-{
-    let mut all = Vec::new(alloc);
-    for row in 0..worded.marked().grid().row_end().saturating_sub(1) {
-        push_coils(alloc, worded, row + 1, &mut all)?;
+    /// Adds the contact or the coil whose first place is in a column, if there is one.
+    #[tactic(auto, unfolding(crate::specs::Places::layout_of), using(crate::proofs::Words::SpanRows::contact_beside, crate::proofs::Words::SpanRows::coil_beside))]
+    fn push(
+        &mut self,
+        worded: &WordedGrid,
+        row: usize,
+        column: usize,
+        near: usize,
+    ) -> Result<(), AllocError>
+        ensures contacts { OnOk result (self.new.contacts.items ≡ self.old.contacts.items ++ option_list (contact_here (layout_of worded.now) row column)) }
+        ensures coils { OnOk result (self.new.coils.items ≡ self.old.coils.items ++ option_list (coil_here (layout_of worded.now) row column)) }
+    {
+        if worded.marked().grid().last() < column {
+            return Ok(());
+        }
+        push_contact(&mut self.contacts, worded, row, column, near)?;
+        push_coil(&mut self.coils, worded, row, column, near)?;
+        Ok(())
     }
-    Ok(all)
+
+    /// Adds the contacts and the coils of a row.
+    fn push_row(&mut self, worded: &WordedGrid, row: usize) -> Result<(), AllocError>
+        ensures contacts { OnOk result (self.new.contacts.items ≡ self.old.contacts.items ++ row_contacts (layout_of worded.now) row) }
+        ensures coils { OnOk result (self.new.coils.items ≡ self.old.coils.items ++ row_coils (layout_of worded.now) row) }
+    {
+        for (near, symbol) in worded.symbols(row).iter().enumerate() {
+            self.push(worded, row, symbol.first, near)?;
+        }
+        Ok(())
+    }
+
+    /// The contacts and the coils of a text.
+    #[tactic(auto, unfolding(crate::specs::Places::layout_of, crate::specs::Names::contacts, crate::specs::Names::coils))]
+    pub fn of(alloc: Global, worded: &WordedGrid) -> Result<Symbols, AllocError>
+        ensures contacts { IfOk result (λ s. s.contacts.items ≡ contacts (layout_of worded.now)) }
+        ensures coils { IfOk result (λ s. s.coils.items ≡ coils (layout_of worded.now)) }
+    {
+        let mut symbols = Symbols {
+            contacts: Vec::new(alloc),
+            coils: Vec::new(alloc),
+        };
+        for row in 0..worded.marked().grid().row_end().saturating_sub(1) {
+            symbols.push_row(worded, row + 1)?;
+        }
+        Ok(symbols)
+    }
 }
 
 /// A box with its name.

@@ -1,5 +1,5 @@
 -- Lists, places and cases, as all other files here need them.
-use Rattle.std.proofs.Common.{◌≡◌, ℕ, ◌⊎◌, inl, inr, MatchOption, Result, Ok, Err, OnOk, List, [], ◌∷◌, Option, Some, None, get_or, set, length-set, map, slice_get, sym, ap, ◌∙◌, arith}
+use Rattle.std.proofs.Common.{◌≡◌, ℕ, ◌⊎◌, inl, inr, MatchOption, Result, Ok, Err, OnOk, List, Option, Some, None, get_or, set, length-set, map, slice_get, sym, ap, ◌∙◌, arith}
 use Rattle.std.proofs.lemmas.Bool.{cases_eq}
 use Rattle.std.proofs.lemmas.List.{get_or-set_same, get_or-set_other}
 use Rattle.std.proofs.lemmas.Option.{slice_get_within, slice_get-get_or, get_or_from_slice_get, slice_get-map}

@@ -2,8 +2,8 @@
 use Rattle.std.specs.Prelude.{ℕ, ◌≡◌, List, [], ◌∷◌, ◌++◌, map, drop, codes}
 use Rattle.drawings.specs.declared.mark.Mark.{Mark}
 use Rattle.drawings.specs.declared.mark.Mark.TheVariants.{Blank, Rail, Wire, Join, Upright, ContactPart, CoilPart, BoxPart}
-use Rattle.drawings.specs.declared.contact.Contact.{Contact}
-use Rattle.drawings.specs.declared.coil.Coil.{Coil}
+use Rattle.drawings.specs.Symbols.{Contact}
+use Rattle.drawings.specs.Symbols.{Coil}
 use Rattle.drawings.specs.declared.drawn_box.DrawnBox.{DrawnBox}
 use Rattle.ladder_rows.specs.Rows.{rows_of, trimmed}
 use Rattle.ladder_text.specs.Places.{layout_of}

@@ -1,7 +1,7 @@
 -- How many waiting places a ladder has.
 use Rattle.std.specs.Prelude.{◌≡◌, ℕ, List, [], ◌∷◌, Option, Some, None, length, map, max}
 use Rattle.std.specs.List.{filter_map}
-use Rattle.drawings.specs.declared.coil.Coil.{Coil as DrawnCoil}
+use Rattle.drawings.specs.Symbols.{Coil as DrawnCoil}
 use Rattle.drawings.specs.declared.drawn_box.DrawnBox.{DrawnBox}
 use Rattle.network.specs.declared.element.Element.{Element}
 use Rattle.network.specs.declared.element.Element.TheVariants.{Wire, Join, Upright, Contact, Coil, Box}

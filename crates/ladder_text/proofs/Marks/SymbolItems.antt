@@ -4,42 +4,35 @@ use Rattle.std.specs.List.{slice_get}
 use Rattle.std.proofs.lemmas.Option.{none-some, same_Some}
 use Rattle.lists.specs.Rising.{IsAlikeOnce}
 use Rattle.drawings.specs.declared.mark.Mark.TheVariants.{ContactPart, CoilPart}
-use Rattle.drawings.specs.declared.contact.Contact.{Contact}
-use Rattle.drawings.specs.declared.coil.Coil.{Coil}
-use Rattle.drawings.specs.declared.contact.ContactKind.{ContactKind}
-use Rattle.drawings.specs.declared.coil.CoilKind.{CoilKind}
+use Rattle.drawings.specs.Symbols.{Contact, Coil}
+use Rattle.drawings.specs.declared.symbol.Symbol.{Symbol}
 use Rattle.ladder_rows.specs.Rows.{height, width}
 use Rattle.ladder_text.specs.Places.{Layout, contact_at, coil_at}
-use Rattle.ladder_text.specs.Names.{contact_with, coil_with, row_contacts, row_coils, contacts, coils}
+use Rattle.ladder_text.specs.Names.{symbol_with, row_contacts, row_coils, contacts, coils}
 use Rattle.drawings.specs.Picture.{mark_at, IsSymbolPlace}
 use Rattle.ladder_text.specs.Picture.{picture_of}
 use Rattle.ladder_text.proofs.Rows.ListedItems.{IsPlaced, found_item, found_once}
 use Rattle.ladder_text.proofs.Marks.SymbolPlaces.{contact_parts, coil_parts, contacts_same, coils_same, mark-contact, mark-coil, drawn_inside}
 use Rattle.ladder_text.proofs.Marks.PictureMarks.{mark_at-inside}
 
-contact_with_item : (p : Layout) (r c : ℕ) (o : Option ContactKind) (x : Contact) → contact_with p r c o ≡ Some x → (x.row ≡ r) × (x.column ≡ c) × (o ≡ Some x.kind)
-contact_with_item p r c None x e = absurd (none-some x e)
-contact_with_item p r c (Some k) x e =
+symbol_with_item : {Kind : Type 0} (p : Layout) (r c : ℕ) (o : Option Kind) (x : Symbol Kind) → symbol_with p r c o ≡ Some x
+    → (x.row ≡ r) × (x.column ≡ c) × (o ≡ Some x.kind)
+symbol_with_item p r c None x e = absurd (none-some x e)
+symbol_with_item {Kind} p r c (Some k) x e =
     let q = same_Some _ x e in
-    (ap (λ (y : Contact). y.row) (sym q), ap (λ (y : Contact). y.column) (sym q), ap (λ (y : Contact). Some y.kind) q)
-
-coil_with_item : (p : Layout) (r c : ℕ) (o : Option CoilKind) (x : Coil) → coil_with p r c o ≡ Some x → (x.row ≡ r) × (x.column ≡ c) × (o ≡ Some x.kind)
-coil_with_item p r c None x e = absurd (none-some x e)
-coil_with_item p r c (Some k) x e =
-    let q = same_Some _ x e in
-    (ap (λ (y : Coil). y.row) (sym q), ap (λ (y : Coil). y.column) (sym q), ap (λ (y : Coil). Some y.kind) q)
+    (ap (λ (y : Symbol Kind). y.row) (sym q), ap (λ (y : Symbol Kind). y.column) (sym q), ap (λ (y : Symbol Kind). Some y.kind) q)
 
 abbrev contact_found : Layout → ℕ → ℕ → Option Contact
-contact_found p r c = contact_with p r c (contact_at p r c)
+contact_found p r c = symbol_with p r c (contact_at p r c)
 
 abbrev coil_found : Layout → ℕ → ℕ → Option Coil
-coil_found p r c = coil_with p r c (coil_at p r c)
+coil_found p r c = symbol_with p r c (coil_at p r c)
 
 contacts_placed : (p : Layout) → IsPlaced (λ (x : Contact). x.row) (λ (x : Contact). x.column) (contact_found p)
-contacts_placed p r c x e = let w = contact_with_item p r c (contact_at p r c) x e in (w.0, w.1)
+contacts_placed p r c x e = let w = symbol_with_item p r c (contact_at p r c) x e in (w.0, w.1)
 
 coils_placed : (p : Layout) → IsPlaced (λ (x : Coil). x.row) (λ (x : Coil). x.column) (coil_found p)
-coils_placed p r c x e = let w = coil_with_item p r c (coil_at p r c) x e in (w.0, w.1)
+coils_placed p r c x e = let w = symbol_with_item p r c (coil_at p r c) x e in (w.0, w.1)
 
 contacts_once : (p : Layout) → IsAlikeOnce (λ (x : Contact) (y : Contact). (x.row ≡ y.row) × (x.column ≡ y.column)) (contacts p)
 unfolding contacts row_contacts
@@ -50,10 +43,10 @@ unfolding coils row_coils
 coils_once p = found_once (λ (x : Coil). x.row) (λ (x : Coil). x.column) (coil_found p) (coils_placed p) (height p.rows) (width p.rows)
 
 contact_at_item : (p : Layout) (r c : ℕ) (x : Contact) → contact_found p r c ≡ Some x → contact_at p x.row x.column ≡ Some x.kind
-contact_at_item p r c x e = let w = contact_with_item p r c (contact_at p r c) x e in rw (w.0, w.1) w.2
+contact_at_item p r c x e = let w = symbol_with_item p r c (contact_at p r c) x e in rw (w.0, w.1) w.2
 
 coil_at_item : (p : Layout) (r c : ℕ) (x : Coil) → coil_found p r c ≡ Some x → coil_at p x.row x.column ≡ Some x.kind
-coil_at_item p r c x e = let w = coil_with_item p r c (coil_at p r c) x e in rw (w.0, w.1) w.2
+coil_at_item p r c x e = let w = symbol_with_item p r c (coil_at p r c) x e in rw (w.0, w.1) w.2
 
 -- (r, c) is a place of the rows and columns
 pub record IsInside (p : Layout) (r c : ℕ) : Type 0 where

@@ -12,7 +12,7 @@ use Rattle.ladder_rows.specs.declared.span.Span.{Span}
 use Rattle.ladder_rows.specs.Rows.{Rows, char_at, width, upto}
 use Rattle.ladder_rows.specs.Boxes.{option_list}
 use Rattle.ladder_text.specs.Places.{Layout, contact_at, coil_at}
-use Rattle.ladder_text.specs.Names.{in_word, word_at, words, symbol_at, symbols, contact_with, coil_with, row_contacts, row_coils}
+use Rattle.ladder_text.specs.Names.{in_word, word_at, words, symbol_at, symbols, symbol_with, row_contacts, row_coils}
 use Rattle.ladder_text.specs.Faults.{is_first_of_symbol}
 use Rattle.lists.proofs.Longest.{row-narrow}
 use Rattle.ladder_text.proofs.Marks.SymbolPlaces.{cond_some_of, no_symbol}
@@ -80,34 +80,34 @@ cond_none_of : {A : Type 0} (b : Bool) (x : A) → cond b (Some x) None ≡ None
 cond_none_of true x e = absurd (none-some x (sym e))
 cond_none_of false x e = refl
 
-contact_none : (p : Layout) (r c : ℕ) → symbol_at p r c ≡ None → contact_with p r c (contact_at p r c) ≡ None
+contact_none : (p : Layout) (r c : ℕ) → symbol_at p r c ≡ None → symbol_with p r c (contact_at p r c) ≡ None
 unfolding symbol_at
 contact_none p r c e =
     let q = or_parts (is_some (contact_at p r c)) (is_some (coil_at p r c)) (cond_none_of (is_first_of_symbol p r c) _ e) in
     rw (none_from_is_some (contact_at p r c) q.0) refl
 
-coil_none : (p : Layout) (r c : ℕ) → symbol_at p r c ≡ None → coil_with p r c (coil_at p r c) ≡ None
+coil_none : (p : Layout) (r c : ℕ) → symbol_at p r c ≡ None → symbol_with p r c (coil_at p r c) ≡ None
 unfolding symbol_at
 coil_none p r c e =
     let q = or_parts (is_some (contact_at p r c)) (is_some (coil_at p r c)) (cond_none_of (is_first_of_symbol p r c) _ e) in
     rw (none_from_is_some (coil_at p r c) q.1) refl
 
 -- the contacts of a row stand where its symbols begin
-pub row_contacts_by_symbol : (p : Layout) (r : ℕ) → filter_map (λ (s : Span). contact_with p r s.first (contact_at p r s.first)) (symbols p r) ≡ row_contacts p r
+pub row_contacts_by_symbol : (p : Layout) (r : ℕ) → filter_map (λ (s : Span). symbol_with p r s.first (contact_at p r s.first)) (symbols p r) ≡ row_contacts p r
 unfolding symbols row_contacts
-row_contacts_by_symbol p r = upto-by_symbol (λ c. contact_with p r c (contact_at p r c)) (symbol_at p r) (symbol_first p r) (contact_none p r) (width p.rows)
+row_contacts_by_symbol p r = upto-by_symbol (λ c. symbol_with p r c (contact_at p r c)) (symbol_at p r) (symbol_first p r) (contact_none p r) (width p.rows)
 
 -- the coils of a row stand where its symbols begin
-pub row_coils_by_symbol : (p : Layout) (r : ℕ) → filter_map (λ (s : Span). coil_with p r s.first (coil_at p r s.first)) (symbols p r) ≡ row_coils p r
+pub row_coils_by_symbol : (p : Layout) (r : ℕ) → filter_map (λ (s : Span). symbol_with p r s.first (coil_at p r s.first)) (symbols p r) ≡ row_coils p r
 unfolding symbols row_coils
-row_coils_by_symbol p r = upto-by_symbol (λ c. coil_with p r c (coil_at p r c)) (symbol_at p r) (symbol_first p r) (coil_none p r) (width p.rows)
+row_coils_by_symbol p r = upto-by_symbol (λ c. symbol_with p r c (coil_at p r c)) (symbol_at p r) (symbol_first p r) (coil_none p r) (width p.rows)
 
-pub contact_beside : (p : Layout) (r c : ℕ) → width p.rows < c → contact_with p r c (contact_at p r c) ≡ None
+pub contact_beside : (p : Layout) (r c : ℕ) → width p.rows < c → symbol_with p r c (contact_at p r c) ≡ None
 contact_beside p r c h =
     let q = or_parts (is_some (contact_at p r c)) (is_some (coil_at p r c)) (no_symbol p r c (blank_beside p.rows r c h)) in
     rw (none_from_is_some (contact_at p r c) q.0) refl
 
-pub coil_beside : (p : Layout) (r c : ℕ) → width p.rows < c → coil_with p r c (coil_at p r c) ≡ None
+pub coil_beside : (p : Layout) (r c : ℕ) → width p.rows < c → symbol_with p r c (coil_at p r c) ≡ None
 coil_beside p r c h =
     let q = or_parts (is_some (contact_at p r c)) (is_some (coil_at p r c)) (no_symbol p r c (blank_beside p.rows r c h)) in
     rw (none_from_is_some (coil_at p r c) q.1) refl

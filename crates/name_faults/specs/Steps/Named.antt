@@ -5,7 +5,7 @@ use Rattle.std_blocks.specs.declared.pin.Field.{Field}
 use Rattle.std_blocks.specs.declared.pin.Pin.{Pin}
 use Rattle.std_blocks.specs.declared.block_type.BlockType.{BlockType}
 use Rattle.std_blocks.specs.Pins.{pin_of, output}
-use Rattle.drawings.specs.declared.coil.Coil.{Coil as DrawnCoil}
+use Rattle.drawings.specs.Symbols.{Coil as DrawnCoil}
 use Rattle.drawings.specs.declared.drawn_box.DrawnBox.{DrawnBox}
 use Rattle.drawings.specs.declared.drawn_box.DrawnPin.{DrawnPin}
 use Rattle.drawings.specs.declared.drawn_box.Operand.{Operand}

@@ -9,8 +9,8 @@ use Rattle.drawings.specs.Picture.{Picture, IsSound, mark_at}
 use Rattle.drawings.specs.declared.mark.Mark.{Mark}
 use Rattle.drawings.specs.declared.mark.Mark.TheVariants.{ContactPart, CoilPart, BoxPart}
 use Rattle.drawings.specs.declared.place.Place.{Place}
-use Rattle.drawings.specs.declared.contact.Contact.{Contact as ContactRecord}
-use Rattle.drawings.specs.declared.coil.Coil.{Coil as CoilRecord}
+use Rattle.drawings.specs.Symbols.{Contact as ContactRecord, Coil as CoilRecord}
+use Rattle.drawings.specs.declared.symbol.Symbol.{Symbol}
 use Rattle.drawings.specs.declared.drawn_box.DrawnBox.{DrawnBox}
 use Rattle.network.specs.declared.element.Element.{Element}
 use Rattle.network.specs.declared.element.Element.TheVariants.{Contact, Coil, Box}
@@ -20,7 +20,7 @@ use Rattle.network.specs.Links.{place}
 use Rattle.network.specs.Apart.{first_place, Has}
 use Rattle.network.specs.Networks.{IsElementOf}
 use Rattle.network.specs.Steps.Listing.{IsTheElementAt, IsNoElementAt}
-use Rattle.network.specs.Steps.Symbols.{contact_places, coil_places, box_places, IsInside, IsBehind, BeginNowhereInside, AllElsewhere, IsNumberOf, is_contact_at, is_coil_at, TellsNumber}
+use Rattle.network.specs.Steps.Symbols.{symbol_places, box_places, IsInside, IsBehind, BeginNowhereInside, AllElsewhere, IsNumberOf, is_symbol_at, TellsNumber, GainsInside}
 use Rattle.network.proofs.Basics.{some_is, get_map}
 use Rattle.network.proofs.Spots.{same_place, other_place}
 use Rattle.network.proofs.Listed.Sharing.{mark_of, has_mark, begins, shared, the_element}
@@ -45,41 +45,32 @@ sought {X = X} p (y ∷ ys) n = by (p y) refl (sought p ys (n + 1)) where
   by true t rest = (0, y, omega arith, refl, t)
   by false f rest = sought_later p y ys n (position_from p (n + 1) ys) f rest
 
-sought_contact : (contacts : List ContactRecord) (at : Place) (r : Option ℕ) → Sought (is_contact_at at) contacts 0 r
-    → TellsNumber (contact_places contacts) at r
-sought_contact contacts at None none = λ k h.
-    let w = mapped_at (λ (c : ContactRecord). place c.row c.column) contacts k at h in
+sought_symbol : {Kind : Type 0} (symbols : List (Symbol Kind)) (at : Place) (r : Option ℕ) → Sought (is_symbol_at at) symbols 0 r
+    → TellsNumber (symbol_places symbols) at r
+sought_symbol {Kind = Kind} symbols at None none = λ k h.
+    let w = mapped_at (λ (s : Symbol Kind). place s.row s.column) symbols k at h in
     other_place (place w.0.row w.0.column) at (sym (none k w.0 w.1)) w.2
-sought_contact contacts at (Some m) w =
+sought_symbol {Kind = Kind} symbols at (Some m) w =
     let same : m ≡ w.0 = (let e = w.2 in omega arith) in
-    rw same (get_map (λ (c : ContactRecord). place c.row c.column) contacts w.0 w.1 w.3 ∙ ap Some (same_place (place w.1.row w.1.column) at (sym w.4)))
-
-sought_coil : (coils : List CoilRecord) (at : Place) (r : Option ℕ) → Sought (is_coil_at at) coils 0 r
-    → TellsNumber (coil_places coils) at r
-sought_coil coils at None none = λ k h.
-    let w = mapped_at (λ (c : CoilRecord). place c.row c.column) coils k at h in
-    other_place (place w.0.row w.0.column) at (sym (none k w.0 w.1)) w.2
-sought_coil coils at (Some m) w =
-    let same : m ≡ w.0 = (let e = w.2 in omega arith) in
-    rw same (get_map (λ (c : CoilRecord). place c.row c.column) coils w.0 w.1 w.3 ∙ ap Some (same_place (place w.1.row w.1.column) at (sym w.4)))
+    rw same (get_map (λ (s : Symbol Kind). place s.row s.column) symbols w.0 w.1 w.3 ∙ ap Some (same_place (place w.1.row w.1.column) at (sym w.4)))
 
 -- the position that is found is the number of a symbol
-pub contact_position : (contacts : List ContactRecord) (at : Place) (r : Option ℕ) → r ≡ position (is_contact_at at) contacts
-    → TellsNumber (contact_places contacts) at r
-contact_position contacts at r e =
-    sought_contact contacts at r (subst (Sought (is_contact_at at) contacts 0) (sym (position_from-zero (is_contact_at at) contacts) ∙ sym e) (sought (is_contact_at at) contacts 0))
-
-pub coil_position : (coils : List CoilRecord) (at : Place) (r : Option ℕ) → r ≡ position (is_coil_at at) coils
-    → TellsNumber (coil_places coils) at r
-coil_position coils at r e =
-    sought_coil coils at r (subst (Sought (is_coil_at at) coils 0) (sym (position_from-zero (is_coil_at at) coils) ∙ sym e) (sought (is_coil_at at) coils 0))
+pub symbol_position : {Kind : Type 0} (symbols : List (Symbol Kind)) (at : Place) (r : Option ℕ) → r ≡ position (is_symbol_at at) symbols
+    → TellsNumber (symbol_places symbols) at r
+symbol_position symbols at r e =
+    sought_symbol symbols at r (subst (Sought (is_symbol_at at) symbols 0) (sym (position_from-zero (is_symbol_at at) symbols) ∙ sym e) (sought (is_symbol_at at) symbols 0))
 
 -- what has the number of a place
-pub contact_there : (contacts : List ContactRecord) (at : Place) (k : ℕ) → IsNumberOf (contact_places contacts) at k → (c : ContactRecord) × (slice_get contacts k ≡ Some c) × (place c.row c.column ≡ at)
-contact_there contacts at k h = mapped_at (λ (c : ContactRecord). place c.row c.column) contacts k at h
+pub symbol_there : {Kind : Type 0} (symbols : List (Symbol Kind)) (at : Place) (k : ℕ) → IsNumberOf (symbol_places symbols) at k
+    → (s : Symbol Kind) × (slice_get symbols k ≡ Some s) × (place s.row s.column ≡ at)
+symbol_there {Kind = Kind} symbols at k h = mapped_at (λ (s : Symbol Kind). place s.row s.column) symbols k at h
 
-pub coil_there : (coils : List CoilRecord) (at : Place) (k : ℕ) → IsNumberOf (coil_places coils) at k → (c : CoilRecord) × (slice_get coils k ≡ Some c) × (place c.row c.column ≡ at)
-coil_there coils at k h = mapped_at (λ (c : CoilRecord). place c.row c.column) coils k at h
+-- behind the place at which a symbol was found
+pub found_behind : (old new : List SymbolRow) (at : Place) (k : ℕ) → ((p : Place) → IsInside new p → IsInside old p ⊎ IsBehind at p) → GainsInside old new at (Some k)
+found_behind old new at k each p inside = elim (each p inside) [
+  | inl was ↦ inl was
+  | inr behind ↦ inr (behind, refl)
+]
 
 module _ (g : Picture) (sound : IsSound g) (at : Place) where
   -- what begins at a place of the index
@@ -90,13 +81,13 @@ module _ (g : Picture) (sound : IsSound g) (at : Place) where
   other_mark : (f : Element) (mark : Mark) → IsElementOf g f → first_place f ≡ at → mark_at g at.row at.column ≡ mark → mark_of f ≡ mark
   other_mark f mark is begins' e = sym (has_mark g sound f at is (begins g sound f at begins')) ∙ e
 
-  pub no_contact : mark_at g at.row at.column ≡ ContactPart → AllElsewhere (contact_places g.contacts) at → IsNoElementAt g at
+  pub no_contact : mark_at g at.row at.column ≡ ContactPart → AllElsewhere (symbol_places g.contacts) at → IsNoElementAt g at
   no_contact mark never (Contact c) is begins' =
       let k = at_contains g.contacts c is in
       never k.0 (get_map (λ (c : ContactRecord). place c.row c.column) g.contacts k.0 c k.1 ∙ ap Some begins')
   no_contact mark never f is begins' = let m = other_mark f ContactPart is begins' mark in cc
 
-  pub no_coil : mark_at g at.row at.column ≡ CoilPart → AllElsewhere (coil_places g.coils) at → IsNoElementAt g at
+  pub no_coil : mark_at g at.row at.column ≡ CoilPart → AllElsewhere (symbol_places g.coils) at → IsNoElementAt g at
   no_coil mark never (Coil c) is begins' =
       let k = at_contains g.coils c is in
       never k.0 (get_map (λ (c : CoilRecord). place c.row c.column) g.coils k.0 c k.1 ∙ ap Some begins')
@@ -127,22 +118,30 @@ module _ (g : Picture) (sound : IsSound g) (at : Place) where
       omega arith
 
   -- where a contact or coil was found, no other element begins inside it
-  pub inside_contact : (k : ℕ) (c : ContactRecord) → slice_get g.contacts k ≡ Some c → place c.row c.column ≡ at → (old new : List SymbolRow) → BeginNowhereInside g old
-      → ((p : Place) → IsInside new p → IsInside old p ⊎ IsBehind at p) → BeginNowhereInside g new
-  inside_contact k c there is old new were each p inside = elim (each p inside) [
+  inside_element : (e : Element) → IsElementOf g e → first_place e ≡ at → ((p : Place) → IsBehind at p → Has e p)
+      → (old new : List SymbolRow) (found : Option ℕ) → BeginNowhereInside g old → GainsInside old new at found → BeginNowhereInside g new
+  inside_element e is begins' has old new found were each p inside = elim (each p inside) [
     | inl was ↦ were p was
-    | inr behind ↦
-        let e = the_element g sound (Contact c) at (contains_at g.contacts k c there) is in
-        let b : IsBehind (place c.row c.column) p = subst (λ q. IsBehind q p) (sym is) behind in
-        none_behind (Contact c) e.drawn is p behind (inr (inl (b.0, (let l = b.1 in omega arith), b.2)))
+    | inr behind ↦ none_behind e is begins' p behind.0 (has p behind.0)
   ]
 
-  pub inside_coil : (k : ℕ) (c : CoilRecord) → slice_get g.coils k ≡ Some c → place c.row c.column ≡ at → (old new : List SymbolRow) → BeginNowhereInside g old
-      → ((p : Place) → IsInside new p → IsInside old p ⊎ IsBehind at p) → BeginNowhereInside g new
-  inside_coil k c there is old new were each p inside = elim (each p inside) [
+  pub inside_contact : (k : ℕ) (c : ContactRecord) → slice_get g.contacts k ≡ Some c → place c.row c.column ≡ at → (old new : List SymbolRow) (found : Option ℕ)
+      → BeginNowhereInside g old → GainsInside old new at found → BeginNowhereInside g new
+  inside_contact k c there is old new found were each =
+      inside_element (Contact c) (the_element g sound (Contact c) at (contains_at g.contacts k c there) is).drawn is
+        (λ p behind. let b : IsBehind (place c.row c.column) p = subst (λ q. IsBehind q p) (sym is) behind in inr (inl (b.0, (let l = b.1 in omega arith), b.2)))
+        old new found were each
+
+  pub inside_coil : (k : ℕ) (c : CoilRecord) → slice_get g.coils k ≡ Some c → place c.row c.column ≡ at → (old new : List SymbolRow) (found : Option ℕ)
+      → BeginNowhereInside g old → GainsInside old new at found → BeginNowhereInside g new
+  inside_coil k c there is old new found were each =
+      inside_element (Coil c) (the_element g sound (Coil c) at (contains_at g.coils k c there) is).drawn is
+        (λ p behind. let b : IsBehind (place c.row c.column) p = subst (λ q. IsBehind q p) (sym is) behind in inr (inl (b.0, (let l = b.1 in omega arith), b.2)))
+        old new found were each
+
+  -- where nothing was found, the rows keep what they had
+  pub inside_none : (old new : List SymbolRow) → BeginNowhereInside g old → GainsInside old new at None → BeginNowhereInside g new
+  inside_none old new were each p inside = elim (each p inside) [
     | inl was ↦ were p was
-    | inr behind ↦
-        let e = the_element g sound (Coil c) at (contains_at g.coils k c there) is in
-        let b : IsBehind (place c.row c.column) p = subst (λ q. IsBehind q p) (sym is) behind in
-        none_behind (Coil c) e.drawn is p behind (inr (inl (b.0, (let l = b.1 in omega arith), b.2)))
+    | inr behind ↦ (let none = behind.1 in cc)
   ]

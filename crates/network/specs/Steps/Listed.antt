@@ -1,8 +1,8 @@
 -- Elements of a drawing in few bytes: what each entry of a list stands for.
-use Rattle.std.specs.Prelude.{◌≡◌, List, Option, Some, None, slice_get, map}
+use Rattle.std.specs.Prelude.{List, Option, Some, None, slice_get, map}
 use Rattle.drawings.specs.Picture.{Picture}
-use Rattle.drawings.specs.declared.contact.Contact.{Contact as DrawnContact}
-use Rattle.drawings.specs.declared.coil.Coil.{Coil as DrawnCoil}
+use Rattle.drawings.specs.Symbols.{Contact as DrawnContact}
+use Rattle.drawings.specs.Symbols.{Coil as DrawnCoil}
 use Rattle.drawings.specs.declared.drawn_box.DrawnBox.{DrawnBox}
 use Rattle.network.specs.declared.element.Element.{Element}
 use Rattle.network.specs.declared.element.Element.TheVariants.{Wire, Join, Upright, Contact, Coil, Box}

@@ -1,28 +1,19 @@
 ghost use Rattle.std.specs.Prelude.{◌≡◌, IfOk};
 
-use drawings::{Coil, Contact, DrawnBox, DrawnPin, Operand, Pins};
+use drawings::{DrawnBox, DrawnPin, Operand, Pins, Symbol};
 use std::alloc::{AllocError, Global};
 
-pub fn copy_contact(alloc: Global, contact: &Contact) -> Result<Contact, AllocError>
-    ensures { IfOk result (λ copy. copy ≡ contact.now) }
+pub fn copy_symbol<Kind: Copy>(
+    alloc: Global,
+    symbol: &Symbol<Kind>,
+) -> Result<Symbol<Kind>, AllocError>
+    ensures { IfOk result (λ copy. copy ≡ symbol.now) }
 {
-    let name = contact.name.try_copy(alloc)?;
-    Ok(Contact {
-        row: contact.row,
-        column: contact.column,
-        kind: contact.kind,
-        name,
-    })
-}
-
-pub fn copy_coil(alloc: Global, coil: &Coil) -> Result<Coil, AllocError>
-    ensures { IfOk result (λ copy. copy ≡ coil.now) }
-{
-    let name = coil.name.try_copy(alloc)?;
-    Ok(Coil {
-        row: coil.row,
-        column: coil.column,
-        kind: coil.kind,
+    let name = symbol.name.try_copy(alloc)?;
+    Ok(Symbol {
+        row: symbol.row,
+        column: symbol.column,
+        kind: symbol.kind,
         name,
     })
 }

@@ -3,7 +3,7 @@ ghost use Rattle.network.specs.Steps.Listed.{element_seen, element_of, contact_o
 
 use crate::element::Element;
 use crate::element_box::ElementBox;
-use crate::listing::copies::{copy_box, copy_coil, copy_contact};
+use crate::listing::copies::{copy_box, copy_symbol};
 use drawings::{Coil, Contact, Drawing, DrawnBox, Place};
 use std::alloc::{AllocError, Global};
 use std::marker::Model;
@@ -104,11 +104,11 @@ impl<'a> Seen<'a> {
             Seen::Join(at) => Ok(Element::Join(at)),
             Seen::Upright(at) => Ok(Element::Upright(at)),
             Seen::Contact(contact) => {
-                let contact = copy_contact(alloc, contact)?;
+                let contact = copy_symbol(alloc, contact)?;
                 Ok(Element::Contact(contact))
             }
             Seen::Coil(coil) => {
-                let coil = copy_coil(alloc, coil)?;
+                let coil = copy_symbol(alloc, coil)?;
                 Ok(Element::Coil(coil))
             }
             Seen::Box(drawn) => {

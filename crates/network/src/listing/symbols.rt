@@ -6,12 +6,12 @@ ghost use Rattle.network.specs.Links.{place};
 ghost use Rattle.network.specs.Networks.{IsElementOf};
 ghost use Rattle.network.specs.Steps.Listing.{IsNoElementAt, IsEntryAt};
 ghost use Rattle.network.specs.Steps.Numbers.{IsIndex};
-ghost use Rattle.network.specs.Steps.Symbols.{contact_places, coil_places, box_places, AreSymbols, IsInside, TellsNumber, is_contact_at, is_coil_at, BeginNowhereInside};
+ghost use Rattle.network.specs.Steps.Symbols.{symbol_places, box_places, AreSymbols, IsInside, TellsNumber, TellsNumberOutside, GainsInside, is_symbol_at, BeginNowhereInside};
 
 use crate::listing::listed::{Entry, number_of};
 use crate::listing::symbol_rows::SymbolRows;
 use crate::places::numbering::{Numbering, index_of};
-use drawings::{Coil, Contact, Drawing, DrawnBox, Mark, Place};
+use drawings::{Drawing, DrawnBox, Mark, Place, Symbol};
 use std::alloc::{AllocError, Global};
 
 /// How far contacts and coils are read, and where boxes begin, to find each by its place.
@@ -32,32 +32,19 @@ fn box_places_of(alloc: Global, boxes: &[DrawnBox]) -> Result<Vec<Place>, AllocE
     boxes.iter().map(corner).collect(alloc)
 }
 
-/// The rows of contacts, with the number of the first one of each.
-fn contact_rows(alloc: Global, drawing: &Drawing) -> Result<SymbolRows, AllocError>
+/// The rows of contacts or coils, with the number of the first one of each, in so many rows.
+fn symbol_rows<Kind>(
+    alloc: Global,
+    count: usize,
+    symbols: &[Symbol<Kind>],
+) -> Result<SymbolRows, AllocError>
     ensures { IfOk result (λ rows. (p : Place) → IsInside rows p → ⊥) }
 {
-    let mut rows = SymbolRows::new(alloc, drawing.rows() + 1)?;
+    let mut rows = SymbolRows::new(alloc, count)?;
     let mut row = 0;
-    let contacts = drawing.contacts();
-    for k in 0..contacts.len() {
-        if contacts[k].row != row {
-            row = contacts[k].row;
-            rows.expect(row, k);
-        }
-    }
-    Ok(rows)
-}
-
-/// The rows of coils, with the number of the first one of each.
-fn coil_rows(alloc: Global, drawing: &Drawing) -> Result<SymbolRows, AllocError>
-    ensures { IfOk result (λ rows. (p : Place) → IsInside rows p → ⊥) }
-{
-    let mut rows = SymbolRows::new(alloc, drawing.rows() + 1)?;
-    let mut row = 0;
-    let coils = drawing.coils();
-    for k in 0..coils.len() {
-        if coils[k].row != row {
-            row = coils[k].row;
+    for k in 0..symbols.len() {
+        if symbols[k].row != row {
+            row = symbols[k].row;
             rows.expect(row, k);
         }
     }
@@ -69,57 +56,51 @@ pub fn symbols_of(alloc: Global, drawing: &Drawing) -> Result<Symbols, AllocErro
     ensures { IfOk result (λ symbols. AreSymbols drawing.now symbols) }
 {
     let boxes = box_places_of(alloc, drawing.boxes())?;
+    let count = drawing.rows() + 1;
     Ok(Symbols {
-        contacts: contact_rows(alloc, drawing)?,
-        coils: coil_rows(alloc, drawing)?,
+        contacts: symbol_rows(alloc, count, drawing.contacts())?,
+        coils: symbol_rows(alloc, count, drawing.coils())?,
         boxes: index_of(alloc, &boxes)?,
     })
 }
 
-fn is_contact_at(contact: &Contact, at: Place) -> bool
-    ensures { result ≡ is_contact_at at contact.now }
+fn is_symbol_at<Kind>(symbol: &Symbol<Kind>, at: Place) -> bool
+    ensures { result ≡ is_symbol_at at symbol.now }
 {
-    contact.row == at.row && contact.column == at.column
+    symbol.row == at.row && symbol.column == at.column
 }
 
-fn is_coil_at(coil: &Coil, at: Place) -> bool
-    ensures { result ≡ is_coil_at at coil.now }
+fn symbol_position<Kind>(symbols: &[Symbol<Kind>], at: Place) -> Option<usize>
+    ensures { result ≡ position (is_symbol_at at) symbols.now }
 {
-    coil.row == at.row && coil.column == at.column
+    symbols.iter().position(|symbol| is_symbol_at(symbol, at))
 }
 
-fn contact_position(contacts: &[Contact], at: Place) -> Option<usize>
-    ensures { result ≡ position (is_contact_at at) contacts.now }
+/// The number of the symbol that begins at a place. Symbols come by row and column, so the next one of the row is looked at first.
+fn symbol_number<Kind>(symbols: &[Symbol<Kind>], next: usize, at: Place) -> Option<usize>
+    ensures { TellsNumber (symbol_places symbols.now) at result }
 {
-    contacts
-        .iter()
-        .position(|contact| is_contact_at(contact, at))
-}
-
-/// The number of the contact that begins at a place. Contacts come by row and column, so the next one of the row is looked at first.
-fn contact_number(contacts: &[Contact], next: usize, at: Place) -> Option<usize>
-    ensures { TellsNumber (contact_places contacts.now) at result }
-{
-    if next < contacts.len() && is_contact_at(&contacts[next], at) {
+    if next < symbols.len() && is_symbol_at(&symbols[next], at) {
         return Some(next);
     }
-    contact_position(contacts, at)
+    symbol_position(symbols, at)
 }
 
-fn coil_position(coils: &[Coil], at: Place) -> Option<usize>
-    ensures { result ≡ position (is_coil_at at) coils.now }
+/// The number of the symbol that begins at a place, which is noted; none where the place is inside one that was found.
+fn found_number<Kind>(
+    symbols: &[Symbol<Kind>],
+    rows: &mut SymbolRows,
+    at: Place,
+) -> Option<usize>
+    ensures number { TellsNumberOutside rows.old (symbol_places symbols.now) at result }
+    ensures rows { GainsInside rows.old rows.new at result }
 {
-    coils.iter().position(|coil| is_coil_at(coil, at))
-}
-
-/// The number of the coil that begins at a place. Coils come by row and column, so the next one of the row is looked at first.
-fn coil_number(coils: &[Coil], next: usize, at: Place) -> Option<usize>
-    ensures { TellsNumber (coil_places coils.now) at result }
-{
-    if next < coils.len() && is_coil_at(&coils[next], at) {
-        return Some(next);
+    if rows.is_inside(at) {
+        return None;
     }
-    coil_position(coils, at)
+    let k = symbol_number(symbols, rows.next(at.row), at)?;
+    rows.found(at, k);
+    Some(k)
 }
 
 /// The contact that begins at a place.
@@ -134,15 +115,10 @@ pub fn contact_at(
     ensures found { IfOk result (λ e. MatchOption e (IsNoElementAt drawing.now at) (IsEntryAt drawing.now at)) }
     ensures rows { BeginNowhereInside drawing.now rows.new }
 {
-    if rows.is_inside(at) {
-        return Ok(None);
+    match found_number(drawing.contacts(), rows, at) {
+        Some(k) => Ok(Some(Entry::Contact(number_of(k)?))),
+        None => Ok(None),
     }
-    let contacts = drawing.contacts();
-    let Some(k) = contact_number(contacts, rows.next(at.row), at) else {
-        return Ok(None);
-    };
-    rows.found(at, k);
-    Ok(Some(Entry::Contact(number_of(k)?)))
 }
 
 /// The coil that begins at a place.
@@ -157,15 +133,10 @@ pub fn coil_at(
     ensures found { IfOk result (λ e. MatchOption e (IsNoElementAt drawing.now at) (IsEntryAt drawing.now at)) }
     ensures rows { BeginNowhereInside drawing.now rows.new }
 {
-    if rows.is_inside(at) {
-        return Ok(None);
+    match found_number(drawing.coils(), rows, at) {
+        Some(k) => Ok(Some(Entry::Coil(number_of(k)?))),
+        None => Ok(None),
     }
-    let coils = drawing.coils();
-    let Some(k) = coil_number(coils, rows.next(at.row), at) else {
-        return Ok(None);
-    };
-    rows.found(at, k);
-    Ok(Some(Entry::Coil(number_of(k)?)))
 }
 
 /// The box that begins at a place.

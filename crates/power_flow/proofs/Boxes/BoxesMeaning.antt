@@ -8,8 +8,8 @@ use Rattle.lists.proofs.Places.{some_same}
 use Rattle.lists.proofs.Zips.{zip_length, zip_at, zip_back}
 use Rattle.lists.proofs.Members.{at_contains, contains_at, any_at, any_found}
 use Rattle.drawings.specs.declared.place.Place.{Place}
-use Rattle.drawings.specs.declared.contact.Contact.{Contact as DrawnContact}
-use Rattle.drawings.specs.declared.coil.Coil.{Coil as DrawnCoil}
+use Rattle.drawings.specs.Symbols.{Contact as DrawnContact}
+use Rattle.drawings.specs.Symbols.{Coil as DrawnCoil}
 use Rattle.drawings.specs.declared.drawn_box.DrawnBox.{DrawnBox}
 use Rattle.drawings.specs.declared.drawn_box.DrawnPin.{DrawnPin}
 use Rattle.drawings.specs.declared.drawn_box.Operand.{Operand}

@@ -13,7 +13,7 @@ use Rattle.std_blocks.specs.declared.value.Value.{Value}
 use Rattle.std_blocks.specs.declared.value.Value.TheVariants as value
 use Rattle.std_blocks.specs.declared.pins.PinsOut.{PinsOut}
 use Rattle.std_blocks.specs.Pins.{pin_of, field_value}
-use Rattle.drawings.specs.declared.coil.Coil.{Coil as DrawnCoil}
+use Rattle.drawings.specs.Symbols.{Coil as DrawnCoil}
 use Rattle.drawings.specs.declared.drawn_box.DrawnBox.{DrawnBox}
 use Rattle.drawings.specs.declared.drawn_box.DrawnPin.{DrawnPin}
 use Rattle.drawings.specs.declared.drawn_box.Operand.{Operand}

@@ -11,8 +11,8 @@ use Rattle.drawings.specs.declared.drawn_box.DrawnBox.{DrawnBox}
 use Rattle.drawings.specs.declared.drawn_box.DrawnPin.{DrawnPin}
 use Rattle.drawings.specs.declared.drawn_box.Side.{Side}
 use Rattle.drawings.specs.declared.drawn_box.Side.TheVariants.{Left, Right}
-use Rattle.drawings.specs.declared.contact.Contact.{Contact as DrawnContact}
-use Rattle.drawings.specs.declared.coil.Coil.{Coil as DrawnCoil}
+use Rattle.drawings.specs.Symbols.{Contact as DrawnContact}
+use Rattle.drawings.specs.Symbols.{Coil as DrawnCoil}
 use Rattle.network.specs.declared.element.Element.{Element}
 use Rattle.network.specs.declared.element.Element.TheVariants.{Wire, Join, Upright, Contact, Coil, Box}
 use Rattle.network.specs.Links.{Diagram, Gives, place}

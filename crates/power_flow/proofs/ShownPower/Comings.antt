@@ -4,8 +4,8 @@ use Rattle.std.proofs.lemmas.Option.{slice_get_within}
 use Rattle.lists.proofs.Places.{some_same, element_at}
 use Rattle.lists.proofs.Members.{contains_at, any_at, any_found}
 use Rattle.drawings.specs.declared.place.Place.{Place}
-use Rattle.drawings.specs.declared.contact.Contact.{Contact as DrawnContact}
-use Rattle.drawings.specs.declared.coil.Coil.{Coil as DrawnCoil}
+use Rattle.drawings.specs.Symbols.{Contact as DrawnContact}
+use Rattle.drawings.specs.Symbols.{Coil as DrawnCoil}
 use Rattle.drawings.specs.declared.drawn_box.DrawnBox.{DrawnBox}
 use Rattle.drawings.specs.declared.drawn_box.Side.TheVariants.{Left}
 use Rattle.network.specs.declared.element.Element.{Element}

@@ -2,7 +2,7 @@
 use Rattle.std.specs.Prelude.{◌≡◌, ℕ, ◌+◌, ◌-◌, ◌≤◌, ◌⊎◌, List, [], ◌∷◌, ◌++◌, Option, Some, None, MatchOption, Contains, Any, slice_get, length, take}
 use Rattle.std.specs.List.{AllZip, filter_map}
 use Rattle.drawings.specs.declared.place.Place.{Place}
-use Rattle.drawings.specs.declared.contact.Contact.{Contact as DrawnContact}
+use Rattle.drawings.specs.Symbols.{Contact as DrawnContact}
 use Rattle.drawings.specs.declared.drawn_box.DrawnBox.{DrawnBox}
 use Rattle.drawings.specs.declared.drawn_box.DrawnPin.{DrawnPin}
 use Rattle.drawings.specs.declared.drawn_box.Side.{Side}

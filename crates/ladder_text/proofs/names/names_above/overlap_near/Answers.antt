@@ -1,4 +1,4 @@
-use Rattle.std.proofs.Common.{◌≡◌, sym, ◌∙◌}
+use Rattle.std.proofs.Common.{sym, ◌∙◌}
 use Rattle.ladder_text.proofs.Words.NearWords.{found_near}
 use Rattle.ladder_text.proofs.names.names_above.overlap_near.Goals as goal
 

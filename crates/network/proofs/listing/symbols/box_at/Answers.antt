@@ -1,4 +1,3 @@
-use Rattle.std.proofs.Common.{◌≡◌, ◌∙◌, ◌<◌}
 use Rattle.network.proofs.Listed.FoundSymbols.{box_there, no_box, a_box}
 use Rattle.network.proofs.listing.symbols.box_at.Goals as goal
 

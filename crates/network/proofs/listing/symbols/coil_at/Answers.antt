@@ -1,22 +1,32 @@
-use Rattle.std.proofs.Common.{◌≡◌, ◌∙◌, ◌<◌}
-use Rattle.network.proofs.Listed.FoundSymbols.{coil_there, no_coil, a_coil, inside_coil}
-use Rattle.network.proofs.listing.symbols.coil_at.Goals as coil_at_goals
+use Rattle.std.proofs.Common.{Some, inl, inr}
+use Rattle.network.proofs.Listed.FoundSymbols.{symbol_there, no_coil, a_coil, inside_coil, inside_none}
+use Rattle.network.proofs.listing.symbols.coil_at.Goals as goal
 
-pub returns-in_default-clause-found : coil_at_goals.returns-in_default-clause-found
-returns-in_default-clause-found c = no_coil c.args.drawing.now c.requires.sound c.args.at c.requires.mark (rw (← c.coils-coils.ensures) c.in_default.ensures)
-
-pub returns-in_err-number_of-clause-rows : coil_at_goals.returns-in_err-number_of-clause-rows
-returns-in_err-number_of-clause-rows c =
-    let there = coil_there c.args.drawing.now.coils c.args.at c.in-Some.k (rw (← c.coils-coils.ensures) c.in-Some.ensures) in
-    inside_coil c.args.drawing.now c.requires.sound c.args.at c.in-Some.k there.0 there.1 there.2 c.args.rows.now c.found.new.self c.requires.rows c.found.ensures
-
-pub returns-clause-found : coil_at_goals.returns-clause-found
-returns-clause-found c =
+pub returns-in_err-number_of-in-Some-clause-rows : goal.returns-in_err-number_of-in-Some-clause-rows
+returns-in_err-number_of-in-Some-clause-rows c =
     let g = c.args.drawing.now in
-    let there = coil_there g.coils c.args.at c.in-Some.k (rw (← c.coils-coils.ensures) c.in-Some.ensures) in
-    rw (c.in_ok-number_of.ensures, there.1) (a_coil g c.requires.sound c.args.at c.in-Some.k there.0 there.1 there.2)
+    let there = symbol_there g.coils c.args.at c.in-Some.k (rw (← c.coils.ensures) c.in-Some.ensures.number) in
+    inside_coil g c.requires.sound c.args.at c.in-Some.k there.0 there.1 there.2 c.args.rows.now c.found_number.new.rows (Some c.in-Some.k) c.requires.rows c.in-Some.ensures.rows
 
-pub returns-clause-rows : coil_at_goals.returns-clause-rows
-returns-clause-rows c =
-    let there = coil_there c.args.drawing.now.coils c.args.at c.in-Some.k (rw (← c.coils-coils.ensures) c.in-Some.ensures) in
-    inside_coil c.args.drawing.now c.requires.sound c.args.at c.in-Some.k there.0 there.1 there.2 c.args.rows.now c.found.new.self c.requires.rows c.found.ensures
+pub returns-in_ok-number_of-in-Some-clause-found : goal.returns-in_ok-number_of-in-Some-clause-found
+returns-in_ok-number_of-in-Some-clause-found c =
+    let g = c.args.drawing.now in
+    let there = symbol_there g.coils c.args.at c.in-Some.k (rw (← c.coils.ensures) c.in-Some.ensures.number) in
+    rw (c.in_ok-number_of-in-Some.ensures, there.1) (a_coil g c.requires.sound c.args.at c.in-Some.k there.0 there.1 there.2)
+
+pub returns-in_ok-number_of-in-Some-clause-rows : goal.returns-in_ok-number_of-in-Some-clause-rows
+returns-in_ok-number_of-in-Some-clause-rows c =
+    let g = c.args.drawing.now in
+    let there = symbol_there g.coils c.args.at c.in-Some.k (rw (← c.coils.ensures) c.in-Some.ensures.number) in
+    inside_coil g c.requires.sound c.args.at c.in-Some.k there.0 there.1 there.2 c.args.rows.now c.found_number.new.rows (Some c.in-Some.k) c.requires.rows c.in-Some.ensures.rows
+
+pub returns-in-None-clause-found : goal.returns-in-None-clause-found
+returns-in-None-clause-found c =
+    let g = c.args.drawing.now in
+    elim c.in-None.ensures.number [
+      | inl inside ↦ c.requires.rows c.args.at inside
+      | inr never ↦ no_coil g c.requires.sound c.args.at c.requires.mark (rw (← c.coils.ensures) never)
+    ]
+
+pub returns-in-None-clause-rows : goal.returns-in-None-clause-rows
+returns-in-None-clause-rows c = inside_none c.args.drawing.now c.requires.sound c.args.at c.args.rows.now c.found_number.new.rows c.requires.rows c.in-None.ensures.rows

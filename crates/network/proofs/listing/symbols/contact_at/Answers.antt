@@ -1,22 +1,32 @@
-use Rattle.std.proofs.Common.{◌≡◌, ◌∙◌, ◌<◌}
-use Rattle.network.proofs.Listed.FoundSymbols.{contact_there, no_contact, a_contact, inside_contact}
+use Rattle.std.proofs.Common.{Some, inl, inr}
+use Rattle.network.proofs.Listed.FoundSymbols.{symbol_there, no_contact, a_contact, inside_contact, inside_none}
 use Rattle.network.proofs.listing.symbols.contact_at.Goals as goal
 
-pub returns-in_default-clause-found : goal.returns-in_default-clause-found
-returns-in_default-clause-found c = no_contact c.args.drawing.now c.requires.sound c.args.at c.requires.mark (rw (← c.contacts-contacts.ensures) c.in_default.ensures)
-
-pub returns-in_err-number_of-clause-rows : goal.returns-in_err-number_of-clause-rows
-returns-in_err-number_of-clause-rows c =
-    let there = contact_there c.args.drawing.now.contacts c.args.at c.in-Some.k (rw (← c.contacts-contacts.ensures) c.in-Some.ensures) in
-    inside_contact c.args.drawing.now c.requires.sound c.args.at c.in-Some.k there.0 there.1 there.2 c.args.rows.now c.found.new.self c.requires.rows c.found.ensures
-
-pub returns-clause-found : goal.returns-clause-found
-returns-clause-found c =
+pub returns-in_err-number_of-in-Some-clause-rows : goal.returns-in_err-number_of-in-Some-clause-rows
+returns-in_err-number_of-in-Some-clause-rows c =
     let g = c.args.drawing.now in
-    let there = contact_there g.contacts c.args.at c.in-Some.k (rw (← c.contacts-contacts.ensures) c.in-Some.ensures) in
-    rw (c.in_ok-number_of.ensures, there.1) (a_contact g c.requires.sound c.args.at c.in-Some.k there.0 there.1 there.2)
+    let there = symbol_there g.contacts c.args.at c.in-Some.k (rw (← c.contacts.ensures) c.in-Some.ensures.number) in
+    inside_contact g c.requires.sound c.args.at c.in-Some.k there.0 there.1 there.2 c.args.rows.now c.found_number.new.rows (Some c.in-Some.k) c.requires.rows c.in-Some.ensures.rows
 
-pub returns-clause-rows : goal.returns-clause-rows
-returns-clause-rows c =
-    let there = contact_there c.args.drawing.now.contacts c.args.at c.in-Some.k (rw (← c.contacts-contacts.ensures) c.in-Some.ensures) in
-    inside_contact c.args.drawing.now c.requires.sound c.args.at c.in-Some.k there.0 there.1 there.2 c.args.rows.now c.found.new.self c.requires.rows c.found.ensures
+pub returns-in_ok-number_of-in-Some-clause-found : goal.returns-in_ok-number_of-in-Some-clause-found
+returns-in_ok-number_of-in-Some-clause-found c =
+    let g = c.args.drawing.now in
+    let there = symbol_there g.contacts c.args.at c.in-Some.k (rw (← c.contacts.ensures) c.in-Some.ensures.number) in
+    rw (c.in_ok-number_of-in-Some.ensures, there.1) (a_contact g c.requires.sound c.args.at c.in-Some.k there.0 there.1 there.2)
+
+pub returns-in_ok-number_of-in-Some-clause-rows : goal.returns-in_ok-number_of-in-Some-clause-rows
+returns-in_ok-number_of-in-Some-clause-rows c =
+    let g = c.args.drawing.now in
+    let there = symbol_there g.contacts c.args.at c.in-Some.k (rw (← c.contacts.ensures) c.in-Some.ensures.number) in
+    inside_contact g c.requires.sound c.args.at c.in-Some.k there.0 there.1 there.2 c.args.rows.now c.found_number.new.rows (Some c.in-Some.k) c.requires.rows c.in-Some.ensures.rows
+
+pub returns-in-None-clause-found : goal.returns-in-None-clause-found
+returns-in-None-clause-found c =
+    let g = c.args.drawing.now in
+    elim c.in-None.ensures.number [
+      | inl inside ↦ c.requires.rows c.args.at inside
+      | inr never ↦ no_contact g c.requires.sound c.args.at c.requires.mark (rw (← c.contacts.ensures) never)
+    ]
+
+pub returns-in-None-clause-rows : goal.returns-in-None-clause-rows
+returns-in-None-clause-rows c = inside_none c.args.drawing.now c.requires.sound c.args.at c.args.rows.now c.found_number.new.rows c.requires.rows c.in-None.ensures.rows
