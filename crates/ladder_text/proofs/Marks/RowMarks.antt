@@ -3,9 +3,9 @@ use Rattle.std.proofs.Common.{ℕ, ◌+◌, ◌-◌, ◌≤◌, ◌≡◌, ◌�
 use Rattle.std.specs.Option.{is_some}
 use Rattle.std.proofs.lemmas.Bool.{both_ways, and_right, ne_eqb, or_from}
 use Rattle.drawings.specs.declared.mark.Mark.{Mark}
-use Rattle.drawings.specs.declared.mark.Mark.TheVariants.{Blank, ContactPart, CoilPart}
+use Rattle.drawings.specs.declared.mark.Mark.TheVariants.{Blank, Wire, ContactPart, CoilPart}
 use Rattle.ladder_rows.specs.Rows.{upto, width, char_at}
-use Rattle.ladder_text.specs.Places.{Layout, contact_at, coil_at, in_box, in_contact, in_coil, is_rail_column, mark}
+use Rattle.ladder_text.specs.Places.{Layout, contact_at, coil_at, in_box, in_contact, in_coil, in_operand, is_rail_column, mark}
 use Rattle.ladder_text.proofs.Rows.Runs.{upto-more}
 use Rattle.ladder_text.proofs.Marks.SymbolPlaces.{contact_parts, coil_parts, contacts_same, coils_same, contact_off_coil, mark-contact, mark-coil, not_some, drawn_inside}
 
@@ -124,3 +124,10 @@ blank_mark p r c a b d dash bar cross =
     let f = ne_eqb (char_at p.rows r c) 124 bar in
     let g = ne_eqb (char_at p.rows r c) 43 cross in
     rw (a, b, d, e, f, g) (rw (and_right (is_rail_column p c) false refl) refl)
+
+-- a dash is a wire outside boxes, symbols and operands
+pub dash_mark : (p : Layout) (r c : ℕ) → in_box p r c ≡ false → in_contact p r c ≡ false → in_coil p r c ≡ false
+    → in_operand p r c ≡ false → char_at p.rows r c ≡ 45 → mark p r c ≡ Wire
+unfolding mark
+dash_mark p r c a b d operand dash =
+    rw (a, b, d, dash, operand) (rw (and_right (is_rail_column p c) false refl) refl)

@@ -31,6 +31,9 @@ impl MarkedGrid {
         requires coil { coil ≡ in_coil (layout_of self.now) row column }
         ensures { result ≡ mark (layout_of self.now) row column }
     {
+        if bare && c == b'-' && !contact && !coil {
+            return Mark::Wire;
+        }
         if bare && c != b'-' && c != b'|' && c != b'+' && !contact && !coil {
             return Mark::Blank;
         }
