@@ -1,8 +1,8 @@
 -- A line is that of one message alone, where the names of a plant are apart.
-use Rattle.std.proofs.Common.{arith, ◌≡◌, ◌≢◌, ℕ, ◌<◌, ◌≤◌, ◌==◌, ◌&&◌, ◌||◌, Bool, true, false, IsTrue, ◌++◌, ◌∷◌, [], List, length, map, get_or, Option, Some, None, sym, ap, refl, ◌∙◌, subst, append_assoc, rules, tests}
-use Rattle.std.specs.Prelude.{codes, slice_get}
+use Rattle.std.proofs.Common.{arith, ◌≡◌, ◌≢◌, ℕ, ◌<◌, ◌≤◌, Bool, true, false, IsTrue, ◌++◌, ◌∷◌, [], List, length, map, get_or, Option, Some, None, sym, ap, refl, ◌∙◌, subst, append_assoc, rules, tests}
+use Rattle.std.specs.Prelude.{codes, slice_get, slice_index_or}
 use Rattle.std.specs.Option.{option_map}
-use Rattle.std.specs.Str.{str_to_ascii_lowercase}
+use Rattle.std.specs.Str.{str_eq_ignore_ascii_case, str_to_ascii_lowercase}
 use Rattle.std.proofs.lemmas.Slice.Eq.{bytes_eq-Decides}
 use Rattle.std.proofs.lemmas.List.{append_cancel_left, length-map}
 use Rattle.std.proofs.lemmas.Option.{same_Some, slice_get_within, get_or_from_slice_get, slice_get-map}
@@ -13,8 +13,6 @@ use Rattle.lists.proofs.Members.{all_at}
 use Rattle.words.specs.Chars.{is_letter_or_digit, is_rest, is_identifier, is_plain_name}
 use Rattle.task_codes.specs.declared.task_ref.TaskRef.{TaskRef}
 use Rattle.task_codes.specs.CodeValue.{CodeValue, image_kinds}
-use Rattle.plant_grammar.specs.Lawful.{tasks_of}
-use Rattle.plant_grammar.specs.Names.{is_named, AreNamesApart}
 use Rattle.plant.specs.PlantValue.{TaskValue, ResourceValue, PlantValue, code_at}
 use Rattle.plant.specs.StandsFor.{task_value, IsCodeOf, IsResourceOf}
 use Rattle.plant.specs.PlantText.{IsPlantText}
@@ -54,11 +52,13 @@ plain_none : (stop : ℕ) (w : List ℕ) → stop < 48 → IsTrue (is_plain_name
 unfolding is_plain_name is_identifier
 plain_none stop w below h = rest_none stop w below (search (rules, tests))
 
-same_named : (a b : List ℕ) → a ≡ b → IsTrue (is_named a b)
+same_named : (a b : List ℕ) → a ≡ b → IsTrue (str_eq_ignore_ascii_case a b)
 same_named a b e = (bytes_eq-Decides (str_to_ascii_lowercase a) (str_to_ascii_lowercase b)).1 (ap str_to_ascii_lowercase e)
 
--- places whose names are equal are one
-one_place : {A : Type 0} (name_of : A → List ℕ) (xs : List A) (j k : ℕ) (x y : A) → AreNamesApart (map name_of xs) → slice_get xs j ≡ Some x → slice_get xs k ≡ Some y → name_of x ≡ name_of y → j ≡ k
+-- places whose names are equal are one, where no two places have one name in any case
+one_place : {A : Type 0} (name_of : A → List ℕ) (xs : List A) (j k : ℕ) (x y : A)
+    → ((i l : ℕ) (d : List ℕ) → i < length (map name_of xs) → l < length (map name_of xs) → IsTrue (str_eq_ignore_ascii_case (slice_index_or (map name_of xs) i d) (slice_index_or (map name_of xs) l d)) → i ≡ l)
+    → slice_get xs j ≡ Some x → slice_get xs k ≡ Some y → name_of x ≡ name_of y → j ≡ k
 one_place name_of xs j k x y apart at here same =
     let first : slice_get (map name_of xs) j ≡ Some (name_of x) = slice_get-map name_of xs j ∙ ap (option_map name_of) at in
     let second : slice_get (map name_of xs) k ≡ Some (name_of y) = slice_get-map name_of xs k ∙ ap (option_map name_of) here in
@@ -166,7 +166,7 @@ module _ (plant : PlantValue) (m n : MessageValue) (is : IsMessageOf plant m) (o
 pub coded_tasks : (text : List ℕ) (plant : PlantValue) → IsPlantText text plant → IsCoded plant
 coded_tasks text plant read = λ v k at.
     let r = zip_back (IsResourceOf read.tree plant) read.tree.resources plant.resources read.stands k v at in
-    sym (ap (λ (l : List TaskValue). length l) r.2.tasks_are ∙ length-map (tasks_of r.0) task_value ∙ zip_length (IsCodeOf read.tree plant r.0) (tasks_of r.0) v.codes r.2.codes_are)
+    sym (ap (λ (l : List TaskValue). length l) r.2.tasks_are ∙ length-map _ task_value ∙ zip_length (IsCodeOf read.tree plant r.0) _ v.codes r.2.codes_are)
 
 pub one_message : NamesAreApart → OneMessage
 one_message named text plant read m n is of e =

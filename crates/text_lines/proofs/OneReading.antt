@@ -1,5 +1,5 @@
 -- Texts of which what is written, and where it ends, is one thing.
-use Rattle.std.proofs.Common.{arith, ◌≡◌, ◌≢◌, ℕ, ◌<◌, ◌++◌, ◌∷◌, [], List, map, sym, ap, refl, ◌∙◌, append_assoc}
+use Rattle.std.proofs.Common.{arith, ◌≡◌, ℕ, ◌<◌, ◌++◌, ◌∷◌, [], List, map, sym, ap, refl, ◌∙◌, append_assoc}
 use Rattle.std.specs.Prelude.{codes, slice_get}
 use Rattle.std.specs.List.{AllZip, flat_map, zip}
 use Rattle.std.specs.Fmt.{decimal}

@@ -128,36 +128,21 @@ fn look_at_all<R: Threads + Sync>(
 fn all_made(looked: &[Looked]) -> bool
     ensures { IsTrue result ↔ All (λ l. IsTrue l.is_made) looked.now }
 {
-    for k in 0..looked.len() {
-        if !looked[k].is_made {
-            return false;
-        }
-    }
-    true
+    looked.iter().all(|look| look.is_made)
 }
 
 /// Whether each journal answers commands, and has heard of incarnations alone in which the resources were.
 fn all_honest(looked: &[Looked]) -> bool
     ensures { IsTrue result ↔ All (λ l. IsTrue l.is_honest) looked.now }
 {
-    for k in 0..looked.len() {
-        if !looked[k].is_honest {
-            return false;
-        }
-    }
-    true
+    looked.iter().all(|look| look.is_honest)
 }
 
 /// Whether the tickets of each journal rise.
 fn all_rising(looked: &[Looked]) -> bool
     ensures { IsTrue result ↔ All (λ l. IsTrue l.is_rising) looked.now }
 {
-    for k in 0..looked.len() {
-        if !looked[k].is_rising {
-            return false;
-        }
-    }
-    true
+    looked.iter().all(|look| look.is_rising)
 }
 
 /// What the looks at all journals find.

@@ -73,11 +73,6 @@ impl PendingEvaluation {
         ensures same { result ≡ self.journal }
         ensures lawful { IsLawful self.core.plant self.core.first self.core.max_number result }
     {
-        let PendingEvaluation {
-            core: _,
-            journal,
-            made: _,
-        } = self;
-        journal
+        self.journal
     }
 }

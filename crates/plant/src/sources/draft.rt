@@ -104,8 +104,7 @@ fn draft_programs(
 {
     let mut programs = Vec::new(alloc);
     for run in runs {
-        let program = draft_program(alloc, types, run)?;
-        programs.push(program)?;
+        programs.push(draft_program(alloc, types, run)?)?;
     }
     Ok(programs)
 }
@@ -142,8 +141,7 @@ fn draft_tasks(
 {
     let mut drafts = Vec::new(alloc);
     for task in tasks {
-        let draft = draft_task(alloc, types, resource, task)?;
-        drafts.push(draft)?;
+        drafts.push(draft_task(alloc, types, resource, task)?)?;
     }
     Ok(drafts)
 }
@@ -178,8 +176,7 @@ pub fn draft_resources(
 {
     let mut drafts = Vec::new(alloc);
     for resource in resources {
-        let draft = draft_resource(alloc, types, resource)?;
-        drafts.push(draft)?;
+        drafts.push(draft_resource(alloc, types, resource)?)?;
     }
     Ok(drafts)
 }

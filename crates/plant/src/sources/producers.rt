@@ -153,8 +153,7 @@ pub fn bindings_of(
 {
     let mut all = Vec::new(alloc);
     for of_program in feeds {
-        let found = bindings(alloc, producers, of_program)?;
-        all.push(found)?;
+        all.push(bindings(alloc, producers, of_program)?)?;
     }
     Ok(all)
 }

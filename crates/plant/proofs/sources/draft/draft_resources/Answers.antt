@@ -11,10 +11,10 @@ use Rattle.plant.proofs.sources.draft.draft_resources.Goals as goal
 
 pub loop-resource-preserved : goal.loop-resource-preserved
 loop-resource-preserved c =
-    zip_more (IsResourceDraft (programs_in c.args.types.now)) c.args.resources.now c.loop-resource.resource-index c.loop-resource.drafts.items c.push.new.self.items c.resource-item.result c.in_ok-draft.draft
-    c.loop-resource-test.true c.resource-item.is c.loop-resource.invariant c.in_ok-draft.ensures.ok c.in_ok-push.ensures.items
+    zip_more (IsResourceDraft (programs_in c.args.types.now)) c.args.resources.now c.loop-resource.resource-index c.loop-resource.drafts.items c.push.new.self.items c.resource-item.result c.in_ok-draft_resource.field-0
+    c.loop-resource-test.true c.resource-item.is c.loop-resource.invariant c.in_ok-draft_resource.ensures.ok c.in_ok-push.ensures.items
 
-pub returns-in_err-draft-clause-refused : goal.returns-in_err-draft-clause-refused
-returns-in_err-draft-clause-refused c =
-    kept_fault c.in_err-draft.field-0.0 (λ e. e.kind ≢ Memory → All (IsTypeKnown c.args.types.now) (flat_map uses_of c.args.resources.now) → ⊥) c.from_residual.result c.from_residual.ensures.1
-    (λ other each. c.in_err-draft.ensures.refused other (part_of (IsTypeKnown c.args.types.now) uses_of c.args.resources.now c.loop-resource.resource-index c.resource-item.result c.loop-resource-test.true c.resource-item.is each))
+pub returns-in_err-draft_resource-clause-refused : goal.returns-in_err-draft_resource-clause-refused
+returns-in_err-draft_resource-clause-refused c =
+    kept_fault c.in_err-draft_resource.field-0.0 (λ e. e.kind ≢ Memory → All (IsTypeKnown c.args.types.now) (flat_map uses_of c.args.resources.now) → ⊥) c.from_residual.result c.from_residual.ensures.1
+    (λ other each. c.in_err-draft_resource.ensures.refused other (part_of (IsTypeKnown c.args.types.now) uses_of c.args.resources.now c.loop-resource.resource-index c.resource-item.result c.loop-resource-test.true c.resource-item.is each))

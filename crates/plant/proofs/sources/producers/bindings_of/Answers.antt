@@ -22,5 +22,5 @@ bindings-requires c =
 pub loop-of_program-preserved : goal.loop-of_program-preserved
 loop-of_program-preserved c =
     zip_more_map (AllZip (IsPlacedBinding c.args.producers.now)) (λ (f : Vec Feed Global). f.items) (λ (b : Vec Binding Global). b.items) c.args.feeds.now c.loop-of_program.of_program-index
-    c.loop-of_program.all.items c.push.new.self.items c.of_program-item.result c.in_ok-found.found c.loop-of_program-test.true c.of_program-item.is c.loop-of_program.invariant
-    (rw c.deref.ensures.value at c.in_ok-found.ensures) c.in_ok-push.ensures.items
+    c.loop-of_program.all.items c.push.new.self.items c.of_program-item.result c.in_ok-bindings.field-0 c.loop-of_program-test.true c.of_program-item.is c.loop-of_program.invariant
+    (rw c.deref.ensures.value at c.in_ok-bindings.ensures) c.in_ok-push.ensures.items

@@ -19,9 +19,9 @@ use Rattle.plant_grammar.proofs.UnexpectedWords.{key_stuck, name_stuck}
 use Rattle.plant_grammar.proofs.MisplacedWords.{resources_expected, name_expected, configuration_expected, stuck_behind_read, meets_misplaced, stuck_no_plant, misplaced_behind}
 use Rattle.plant_grammar.specs.WellFormed.{IsTreeWellFormed}
 use Rattle.plant_grammar.proofs.StuckBehind.{stuck_after_key, stuck_after_name}
-use Rattle.plant_grammar.proofs.grammar.read_tree.read_tree.Goals as goal
+use Rattle.plant_grammar.proofs.grammar.read_tree.read_tree.Goals as read_tree_goals
 
-pub returns-clause-ok : goal.returns-clause-ok
+pub returns-clause-ok : read_tree_goals.returns-clause-ok
 returns-clause-ok c =
     let texts = c.programs.new.texts.items in
     let resources = c.in_ok-resources.resources.items in
@@ -35,16 +35,16 @@ returns-clause-ok c =
     (c.in_ok-resources.ensures.tally ∙ ap (λ t. tally_with t (flat_map uses_of resources)) c.new-tally.ensures)
     c.instances-instances.ensures.few c.binds-binds.ensures.few
 
-pub returns-clause-texts : goal.returns-clause-texts
+pub returns-clause-texts : read_tree_goals.returns-clause-texts
 returns-clause-texts c = begin_with_texts c.args.reader.now c.args.texts.now.items c.programs.new.texts.items c.programs.new.self.words c.programs.new.self.bodies c.requires c.in_ok-programs.ensures.ok c.in_ok-programs.ensures.lines
 
-pub returns-in_err-programs-clause-texts : goal.returns-in_err-programs-clause-texts
+pub returns-in_err-programs-clause-texts : read_tree_goals.returns-in_err-programs-clause-texts
 returns-in_err-programs-clause-texts c =
     let words = c.in_err-programs.ensures.err in
     let lines = c.in_err-programs.ensures.err_lines in
     begin_with_texts c.args.reader.now c.args.texts.now.items c.programs.new.texts.items words.0 lines.0 c.requires words.1 lines.1
 
-pub returns-in_err-programs-clause-name : goal.returns-in_err-programs-clause-name
+pub returns-in_err-programs-clause-name : read_tree_goals.returns-in_err-programs-clause-name
 returns-in_err-programs-clause-name c =
     let fault = c.in_err-programs.field-0.0 in
     let start = c.args.reader.now.words in
@@ -53,7 +53,7 @@ returns-in_err-programs-clause-name c =
     (λ all h of. further_program fault.kind programs start
     (subst (λ (ts : List TextValue). BeginWith (IsLineBefore all fault.line) (RefusesFurtherProgram programs fault.kind) (all_words ts start)) c.requires (c.in_err-programs.ensures.names all h of)))
 
-pub returns-in_err-resources-clause-name : goal.returns-in_err-resources-clause-name
+pub returns-in_err-resources-clause-name : read_tree_goals.returns-in_err-resources-clause-name
 returns-in_err-resources-clause-name c =
     let fault = c.in_err-resources.field-0.0 in
     let start = c.args.reader.now.words in
@@ -64,13 +64,13 @@ returns-in_err-resources-clause-name c =
     (λ all h of. in_configuration fault.kind (programs_of texts) c.in_ok-_name._name c.new-tally.result start one c.keyword.new.self.words c.name.new.self.words written c.in_ok-keyword.ensures.ok c.in_ok-_name.ensures.ok c.new-tally.ensures
     (subst (λ (ts : List TextValue). BeginWith (IsLineBefore all fault.line) (RefusesResources fault.kind c.new-tally.result.instances c.new-tally.result.binds (programs_of ts)) c.name.new.self.words) c.as_slice.ensures.value (c.in_err-resources.ensures.names all (c.in_ok-_name.ensures.left all (c.in_ok-keyword.ensures.left all (c.in_ok-programs.ensures.left all h))) of)))
 
-pub returns-in_err-programs-clause-refused : goal.returns-in_err-programs-clause-refused
+pub returns-in_err-programs-clause-refused : read_tree_goals.returns-in_err-programs-clause-refused
 returns-in_err-programs-clause-refused c =
     let fault = c.in_err-programs.field-0.0 in
     kept_fault fault (λ f. f.kind ≢ Memory → (tree : Tree) (rest : List Token) → c.args.reader.now.words ≡ words_of tree ++ rest → IsTreeLawful tree → ⊥) c.from_residual.result c.from_residual.ensures.1
     (λ known tree rest e lawful. programs_allowed c.args.texts.now.items tree c.args.reader.now.words rest c.requires e lawful (c.in_err-programs.ensures.other known))
 
-pub returns-in_err-keyword-clause-refused : goal.returns-in_err-keyword-clause-refused
+pub returns-in_err-keyword-clause-refused : read_tree_goals.returns-in_err-keyword-clause-refused
 returns-in_err-keyword-clause-refused c =
     let fault = c.in_err-keyword.field-0.0 in
     kept_fault fault (λ f. f.kind ≢ Memory → (tree : Tree) (rest : List Token) → c.args.reader.now.words ≡ words_of tree ++ rest → IsTreeLawful tree → ⊥) c.from_residual-in_err-keyword.result c.from_residual-in_err-keyword.ensures.1
@@ -78,7 +78,7 @@ returns-in_err-keyword-clause-refused c =
     let one = behind_programs c.args.texts.now.items c.programs.new.texts.items tree c.args.reader.now.words c.programs.new.self.words rest c.requires c.in_ok-programs.ensures.ok c.in_ok-programs.ensures.none e in
     c.in_err-keyword.ensures.other _ one.1)
 
-pub returns-in_err-_name-clause-refused : goal.returns-in_err-_name-clause-refused
+pub returns-in_err-_name-clause-refused : read_tree_goals.returns-in_err-_name-clause-refused
 returns-in_err-_name-clause-refused c =
     let fault = c.in_err-_name.field-0.0 in
     kept_fault fault (λ f. f.kind ≢ Memory → (tree : Tree) (rest : List Token) → c.args.reader.now.words ≡ words_of tree ++ rest → IsTreeLawful tree → ⊥) c.from_residual-in_err-_name.result c.from_residual-in_err-_name.ensures.1
@@ -86,7 +86,7 @@ returns-in_err-_name-clause-refused c =
     let one = behind_programs c.args.texts.now.items c.programs.new.texts.items tree c.args.reader.now.words c.programs.new.self.words rest c.requires c.in_ok-programs.ensures.ok c.in_ok-programs.ensures.none e in
     c.in_err-_name.ensures.other known tree.name _ (name_follows tree c.programs.new.self.words c.keyword.new.self.words rest one.1 c.in_ok-keyword.ensures.ok))
 
-pub returns-in_err-resources-clause-refused : goal.returns-in_err-resources-clause-refused
+pub returns-in_err-resources-clause-refused : read_tree_goals.returns-in_err-resources-clause-refused
 returns-in_err-resources-clause-refused c =
     let fault = c.in_err-resources.field-0.0 in
     kept_fault fault (λ f. f.kind ≢ Memory → (tree : Tree) (rest : List Token) → c.args.reader.now.words ≡ words_of tree ++ rest → IsTreeLawful tree → ⊥) c.from_residual-in_err-resources.result c.from_residual-in_err-resources.ensures.1
@@ -96,17 +96,17 @@ returns-in_err-resources-clause-refused c =
     (behind_name tree c.in_ok-_name._name c.programs.new.self.words c.keyword.new.self.words c.name.new.self.words rest one.1 c.in_ok-keyword.ensures.ok c.in_ok-_name.ensures.ok) lawful
     (c.in_err-resources.ensures.other known))
 
-pub returns-clause-only : goal.returns-clause-only
+pub returns-clause-only : read_tree_goals.returns-clause-only
 returns-clause-only c = λ tree rest e.
     read_alone tree c.programs.new.texts.items c.in_ok-resources.resources.items c.args.reader.now.words c.resources.new.self.words rest (returns-clause-ok c) e
 
-pub returns-in_err-programs-clause-syntax : goal.returns-in_err-programs-clause-syntax
+pub returns-in_err-programs-clause-syntax : read_tree_goals.returns-in_err-programs-clause-syntax
 returns-in_err-programs-clause-syntax c =
     let fault = c.in_err-programs.field-0.0 in
     kept_fault fault (λ f. f.kind ≡ Syntax → (tree : Tree) (rest : List Token) → c.args.reader.now.words ≡ words_of tree ++ rest → IsTreeWellFormed tree → ⊥) c.from_residual.result c.from_residual.ensures.1
     (λ syntax. stuck_no_plant c.args.reader.now fault.line (c.in_err-programs.ensures.stuck syntax configuration_expected))
 
-pub returns-in_err-keyword-clause-syntax : goal.returns-in_err-keyword-clause-syntax
+pub returns-in_err-keyword-clause-syntax : read_tree_goals.returns-in_err-keyword-clause-syntax
 returns-in_err-keyword-clause-syntax c =
     let fault = c.in_err-keyword.field-0.0 in
     kept_fault fault (λ f. f.kind ≡ Syntax → (tree : Tree) (rest : List Token) → c.args.reader.now.words ≡ words_of tree ++ rest → IsTreeWellFormed tree → ⊥) c.from_residual-in_err-keyword.result c.from_residual-in_err-keyword.ensures.1
@@ -115,7 +115,7 @@ returns-in_err-keyword-clause-syntax c =
     (begun_words c.args.texts.now.items c.programs.new.texts.items c.args.reader.now.words c.programs.new.self.words c.requires c.in_ok-programs.ensures.ok) c.in_ok-programs.ensures.left c.programs.ensures.declared.declared c.in_ok-programs.ensures.none
     (key_stuck key.Configuration name_expected c.programs.new.self fault c.in_err-keyword.ensures.err.0 c.in_err-keyword.ensures.other) syntax))
 
-pub returns-in_err-_name-clause-syntax : goal.returns-in_err-_name-clause-syntax
+pub returns-in_err-_name-clause-syntax : read_tree_goals.returns-in_err-_name-clause-syntax
 returns-in_err-_name-clause-syntax c =
     let fault = c.in_err-_name.field-0.0 in
     kept_fault fault (λ f. f.kind ≡ Syntax → (tree : Tree) (rest : List Token) → c.args.reader.now.words ≡ words_of tree ++ rest → IsTreeWellFormed tree → ⊥) c.from_residual-in_err-_name.result c.from_residual-in_err-_name.ensures.1
@@ -125,7 +125,7 @@ returns-in_err-_name-clause-syntax c =
     (stuck_after_key key.Configuration name_expected c.programs.new.self c.keyword.new.self fault c.in_ok-keyword.ensures.ok c.in_ok-keyword.ensures.left
     (name_stuck resources_expected c.keyword.new.self fault c.in_err-_name.ensures.err c.in_err-_name.ensures.other)) syntax))
 
-pub returns-in_err-resources-clause-syntax : goal.returns-in_err-resources-clause-syntax
+pub returns-in_err-resources-clause-syntax : read_tree_goals.returns-in_err-resources-clause-syntax
 returns-in_err-resources-clause-syntax c =
     let fault = c.in_err-resources.field-0.0 in
     kept_fault fault (λ f. f.kind ≡ Syntax → (tree : Tree) (rest : List Token) → c.args.reader.now.words ≡ words_of tree ++ rest → IsTreeWellFormed tree → ⊥) c.from_residual-in_err-resources.result c.from_residual-in_err-resources.ensures.1
@@ -136,13 +136,13 @@ returns-in_err-resources-clause-syntax c =
     (stuck_after_name c.in_ok-_name._name resources_expected c.keyword.new.self c.name.new.self fault c.in_ok-_name.ensures.ok c.in_ok-_name.ensures.left
     c.in_err-resources.ensures.stuck)) syntax))
 
-pub returns-in_err-programs-clause-misplaced : goal.returns-in_err-programs-clause-misplaced
+pub returns-in_err-programs-clause-misplaced : read_tree_goals.returns-in_err-programs-clause-misplaced
 returns-in_err-programs-clause-misplaced c =
     let fault = c.in_err-programs.field-0.0 in
     kept_fault fault (λ f. f.kind ≡ Syntax → length c.args.reader.now.words < 2 ^ 63 → MeetsMisplaced c.args.reader.now f.line) c.from_residual.result c.from_residual.ensures.1
     (λ syntax few. meets_misplaced c.args.reader.now fault.line few (c.in_err-programs.ensures.stuck syntax configuration_expected))
 
-pub returns-in_err-keyword-clause-misplaced : goal.returns-in_err-keyword-clause-misplaced
+pub returns-in_err-keyword-clause-misplaced : read_tree_goals.returns-in_err-keyword-clause-misplaced
 returns-in_err-keyword-clause-misplaced c =
     let fault = c.in_err-keyword.field-0.0 in
     kept_fault fault (λ f. f.kind ≡ Syntax → length c.args.reader.now.words < 2 ^ 63 → MeetsMisplaced c.args.reader.now f.line) c.from_residual-in_err-keyword.result c.from_residual-in_err-keyword.ensures.1
@@ -151,7 +151,7 @@ returns-in_err-keyword-clause-misplaced c =
     (begun_words c.args.texts.now.items c.programs.new.texts.items c.args.reader.now.words c.programs.new.self.words c.requires c.in_ok-programs.ensures.ok) c.in_ok-programs.ensures.left c.programs.ensures.declared.declared c.in_ok-programs.ensures.none
     (key_stuck key.Configuration name_expected c.programs.new.self fault c.in_err-keyword.ensures.err.0 c.in_err-keyword.ensures.other) syntax))
 
-pub returns-in_err-_name-clause-misplaced : goal.returns-in_err-_name-clause-misplaced
+pub returns-in_err-_name-clause-misplaced : read_tree_goals.returns-in_err-_name-clause-misplaced
 returns-in_err-_name-clause-misplaced c =
     let fault = c.in_err-_name.field-0.0 in
     kept_fault fault (λ f. f.kind ≡ Syntax → length c.args.reader.now.words < 2 ^ 63 → MeetsMisplaced c.args.reader.now f.line) c.from_residual-in_err-_name.result c.from_residual-in_err-_name.ensures.1
@@ -161,7 +161,7 @@ returns-in_err-_name-clause-misplaced c =
     (stuck_after_key key.Configuration name_expected c.programs.new.self c.keyword.new.self fault c.in_ok-keyword.ensures.ok c.in_ok-keyword.ensures.left
     (name_stuck resources_expected c.keyword.new.self fault c.in_err-_name.ensures.err c.in_err-_name.ensures.other)) syntax))
 
-pub returns-in_err-resources-clause-misplaced : goal.returns-in_err-resources-clause-misplaced
+pub returns-in_err-resources-clause-misplaced : read_tree_goals.returns-in_err-resources-clause-misplaced
 returns-in_err-resources-clause-misplaced c =
     let fault = c.in_err-resources.field-0.0 in
     kept_fault fault (λ f. f.kind ≡ Syntax → length c.args.reader.now.words < 2 ^ 63 → MeetsMisplaced c.args.reader.now f.line) c.from_residual-in_err-resources.result c.from_residual-in_err-resources.ensures.1
@@ -172,10 +172,10 @@ returns-in_err-resources-clause-misplaced c =
     (stuck_after_name c.in_ok-_name._name resources_expected c.keyword.new.self c.name.new.self fault c.in_ok-_name.ensures.ok c.in_ok-_name.ensures.left
     c.in_err-resources.ensures.stuck)) syntax))
 
-pub returns-clause-lined : goal.returns-clause-lined
+pub returns-clause-lined : read_tree_goals.returns-clause-lined
 returns-clause-lined c = λ all h. c.in_ok-resources.ensures.lined all (c.in_ok-_name.ensures.left all (c.in_ok-keyword.ensures.left all (c.in_ok-programs.ensures.left all h)))
 
-pub returns-clause-behind : goal.returns-clause-behind
+pub returns-clause-behind : read_tree_goals.returns-clause-behind
 returns-clause-behind c =
     let read = returns-clause-ok c in
     misplaced_behind (tree_written read.name c.programs.new.texts.items c.in_ok-resources.resources.items) c.args.reader.now c.resources.new.self read.written

@@ -18,22 +18,22 @@ use Rattle.plant_grammar.specs.Steps.Expected.{Mark, AName, ASource, bind_rest, 
 use Rattle.plant_grammar.proofs.UnexpectedWords.{mark_stuck}
 use Rattle.plant_grammar.proofs.WalkedResources.{stuck_more}
 use Rattle.plant_grammar.proofs.StuckBehind.{stuck_after_mark, stuck_after_name}
-use Rattle.plant_grammar.proofs.grammar.reader.Reader.bind.Goals as goal
+use Rattle.plant_grammar.proofs.grammar.reader.Reader.bind.Goals as bind_goals
 
-pub returns-in_err-input-clause-other : goal.returns-in_err-input-clause-other
+pub returns-in_err-input-clause-other : bind_goals.returns-in_err-input-clause-other
 returns-in_err-input-clause-other c =
     let fault = c.in_err-input.field-0.0 in
     kept_fault fault (λ f. f.kind ≢ Memory → (b : Bind) (rest : List Token) → c.args.self.now.words ≡ bind_words b ++ rest → IsOfInputKind (variables c.args.program.now.program) b → IsNew (λ (b : Bind). b.input) c.args.before.now b.input → c.args.tally.now.binds < 4096 → ⊥) c.from_residual.result c.from_residual.ensures.1
     (λ known b rest e is new few. c.in_err-input.ensures.other known b.input is.0 _ (bind_name b c.args.self.now.words rest e) is.1 new few)
 
-pub returns-in_err-input-clause-names : goal.returns-in_err-input-clause-names
+pub returns-in_err-input-clause-names : bind_goals.returns-in_err-input-clause-names
 returns-in_err-input-clause-names c =
     let fault = c.in_err-input.field-0.0 in
     let ds = variables c.args.program.now.program in
     kept_fault fault (BeginRefused (λ k. RefusesOneBind c.args.tally.now.binds ds c.args.before.now k) c.args.self.now) c.from_residual.result c.from_residual.ensures.1
     (λ all h of. input_refused fault.kind c.args.tally.now.binds ds c.args.before.now c.args.self.now.words (line_before all c.args.self.now fault.line h (c.in_err-input.ensures.line of)) c.in_err-input.ensures.tells of)
 
-pub returns-in_err-source-clause-names : goal.returns-in_err-source-clause-names
+pub returns-in_err-source-clause-names : bind_goals.returns-in_err-source-clause-names
 returns-in_err-source-clause-names c =
     let fault = c.in_err-source.field-0.0 in
     let ds = variables c.args.program.now.program in
@@ -41,21 +41,21 @@ returns-in_err-source-clause-names c =
     (λ all h of. address_refused fault.kind c.args.tally.now.binds ds c.args.before.now c.in_ok-input.input c.in_ok-input.kind c.args.self.now.words c.bound_input.new.self.words c.punctuation.new.self.words (line_before all c.punctuation.new.self fault.line (c.in_ok-punctuation.ensures.left all (c.in_ok-input.ensures.left all h)) (c.in_err-source.ensures.line of)) c.in_ok-input.ensures.ok c.in_ok-punctuation.ensures.ok c.in_ok-input.ensures.kind
     c.in_err-source.ensures.tells of)
 
-pub returns-clause-lined : goal.returns-clause-lined
+pub returns-clause-lined : bind_goals.returns-clause-lined
 returns-clause-lined c = (
   c.source_lines-parts.result,
   c.in_ok-push.ensures.items,
   λ all h. source_stands all c.punctuation.new.self _ c.source.new.self.words c.source_lines-parts.result (c.in_ok-punctuation.ensures.left all (c.in_ok-input.ensures.left all h)) c.in_ok-source.ensures.ok c.source_lines-parts.ensures,
 )
 
-pub returns-in_err-input-clause-stuck : goal.returns-in_err-input-clause-stuck
+pub returns-in_err-input-clause-stuck : bind_goals.returns-in_err-input-clause-stuck
 returns-in_err-input-clause-stuck c =
     let fault = c.in_err-input.field-0.0 in
     let start = c.args.self.now in
     kept_fault fault (GetsStuck (AName ∷ bind_rest) start) c.from_residual.result c.from_residual.ensures.1
     (stuck_more (AName ∷ []) (Mark mark.Assign ∷ ASource ∷ []) start fault c.in_err-input.ensures.stuck)
 
-pub returns-in_err-punctuation-clause-stuck : goal.returns-in_err-punctuation-clause-stuck
+pub returns-in_err-punctuation-clause-stuck : bind_goals.returns-in_err-punctuation-clause-stuck
 returns-in_err-punctuation-clause-stuck c =
     let fault = c.in_err-punctuation.field-0.0 in
     let start = c.args.self.now in
@@ -64,7 +64,7 @@ returns-in_err-punctuation-clause-stuck c =
     (stuck_after_name c.in_ok-input.input (Mark mark.Assign ∷ ASource ∷ []) start one fault c.in_ok-input.ensures.ok c.in_ok-input.ensures.left
     (mark_stuck mark.Assign (ASource ∷ []) one fault c.in_err-punctuation.ensures.err.0 c.in_err-punctuation.ensures.other))
 
-pub returns-in_err-source-clause-stuck : goal.returns-in_err-source-clause-stuck
+pub returns-in_err-source-clause-stuck : bind_goals.returns-in_err-source-clause-stuck
 returns-in_err-source-clause-stuck c =
     let fault = c.in_err-source.field-0.0 in
     let start = c.args.self.now in

@@ -24,16 +24,16 @@ use Rattle.plant_text.specs.declared.token.Punctuation.TheVariants as mark
 use Rattle.plant_grammar.specs.Steps.Expected.{Key, Mark, AName, MayHaveBinds, instance_rest, GetsStuck}
 use Rattle.plant_grammar.proofs.WalkedResources.{stuck_more, semicolon_stuck}
 use Rattle.plant_grammar.proofs.StuckBehind.{stuck_after_key_and_name, stuck_after_mark_and_name}
-use Rattle.plant_grammar.proofs.grammar.reader.Reader.instance.Goals as goal
+use Rattle.plant_grammar.proofs.grammar.reader.Reader.instance.Goals as instance_goals
 
-pub returns-clause-lawful : goal.returns-clause-lawful
+pub returns-clause-lawful : instance_goals.returns-clause-lawful
 returns-clause-lawful c = record {
   task_is = c.in_ok-task.ensures.known;
   type_is = found_type c.args.types.now _ _ (λ p. All (IsOfInputKind (variables p)) (bound_in c.in_ok-binds.binds)) c.in_ok-program.ensures.found c.in_ok-binds.ensures.kinds;
   apart = c.in_ok-binds.ensures.apart;
 }
 
-pub returns-in_err-binds-clause-names : goal.returns-in_err-binds-clause-names
+pub returns-in_err-binds-clause-names : instance_goals.returns-in_err-binds-clause-names
 returns-in_err-binds-clause-names c =
     let fault = c.in_err-binds.field-0.0 in
     let programs = programs_of c.args.types.now in
@@ -44,14 +44,14 @@ returns-in_err-binds-clause-names c =
     (found_type c.args.types.now _ _ (λ p. p ≡ _) c.in_ok-program.ensures.found refl)
     (ap (λ (t : TallyValue). t.binds) c.in_ok-instance.ensures.tally) (c.in_err-binds.ensures.names all (c.in_ok-program.ensures.left all (c.in_ok-task.ensures.left all (c.in_ok-instance.ensures.left all h))) of)))
 
-pub returns-in_err-instance-clause-names : goal.returns-in_err-instance-clause-names
+pub returns-in_err-instance-clause-names : instance_goals.returns-in_err-instance-clause-names
 returns-in_err-instance-clause-names c =
     let fault = c.in_err-instance.field-0.0 in
     let programs = programs_of c.args.types.now in
     kept_fault fault (BeginRefused (λ k. RefusesInstance k c.args.tally.now.instances c.args.tally.now.binds programs c.args.before.now) c.args.self.now) c.from_residual.result c.from_residual.ensures.1
     (c.in_err-instance.ensures.names programs)
 
-pub returns-in_err-task-clause-names : goal.returns-in_err-task-clause-names
+pub returns-in_err-task-clause-names : instance_goals.returns-in_err-task-clause-names
 returns-in_err-task-clause-names c =
     let fault = c.in_err-task.field-0.0 in
     let programs = programs_of c.args.types.now in
@@ -59,7 +59,7 @@ returns-in_err-task-clause-names c =
     (λ all h of. in_instance fault.kind c.args.tally.now.instances c.args.tally.now.binds programs c.args.before.now c.in_ok-instance.instance c.args.self.now.words c.instance_start.new.self.words c.in_ok-instance.ensures.ok
     (task_unknown fault.kind c.args.tally.now.binds programs c.args.before.now c.instance_start.new.self.words (c.in_err-task.ensures.names all (c.in_ok-instance.ensures.left all h) of)))
 
-pub returns-in_err-program-clause-names : goal.returns-in_err-program-clause-names
+pub returns-in_err-program-clause-names : instance_goals.returns-in_err-program-clause-names
 returns-in_err-program-clause-names c =
     let fault = c.in_err-program.field-0.0 in
     let programs = programs_of c.args.types.now in
@@ -67,7 +67,7 @@ returns-in_err-program-clause-names c =
     (λ all h of. in_instance fault.kind c.args.tally.now.instances c.args.tally.now.binds programs c.args.before.now c.in_ok-instance.instance c.args.self.now.words c.instance_start.new.self.words c.in_ok-instance.ensures.ok
     (type_unknown fault.kind c.args.tally.now.binds programs c.args.before.now c.in_ok-task.task c.instance_start.new.self.words c.task_of_instance.new.self.words c.in_ok-task.ensures.ok (c.in_err-program.ensures.names all (c.in_ok-task.ensures.left all (c.in_ok-instance.ensures.left all h)) of)))
 
-pub returns-in_err-program-clause-other : goal.returns-in_err-program-clause-other
+pub returns-in_err-program-clause-other : instance_goals.returns-in_err-program-clause-other
 returns-in_err-program-clause-other c =
     let fault = c.in_err-program.field-0.0 in
     kept_fault fault (λ f. f.kind ≢ Memory → (u : Use) (rest : List Token) → c.args.self.now.words ≡ use_words u ++ rest → AreTypesApart c.args.types.now → IsNew (λ (u : Use). u.instance) (flat_map use_of c.args.before.now) u.instance → IsUseLawful (types_alone c.args.types.now) c.args.before.now u → HasRoomFor c.args.tally.now (u ∷ []) → ⊥) c.from_residual-in_err-program.result c.from_residual-in_err-program.ensures.1
@@ -75,7 +75,7 @@ returns-in_err-program-clause-other c =
     let words = use_tasked u c.in_ok-instance.instance c.in_ok-task.task c.args.self.now.words c.instance_start.new.self.words c.task_of_instance.new.self.words rest c.in_ok-instance.ensures.ok c.in_ok-task.ensures.ok e in
     c.in_err-program.ensures.other known u.program _ words (some_type c.args.types.now u.program (λ (p : Program). All (IsOfInputKind (variables p)) (binds_of u)) lawful.type_is))
 
-pub returns-in_err-binds-clause-other : goal.returns-in_err-binds-clause-other
+pub returns-in_err-binds-clause-other : instance_goals.returns-in_err-binds-clause-other
 returns-in_err-binds-clause-other c =
     let fault = c.in_err-binds.field-0.0 in
     kept_fault fault (λ f. f.kind ≢ Memory → (u : Use) (rest : List Token) → c.args.self.now.words ≡ use_words u ++ rest → AreTypesApart c.args.types.now → IsNew (λ (u : Use). u.instance) (flat_map use_of c.args.before.now) u.instance → IsUseLawful (types_alone c.args.types.now) c.args.before.now u → HasRoomFor c.args.tally.now (u ∷ []) → ⊥) c.from_residual-in_err-binds.result c.from_residual-in_err-binds.ensures.1
@@ -84,7 +84,7 @@ returns-in_err-binds-clause-other c =
     c.in_err-binds.ensures.other known (binds_listed u.binds) rest typed.1 lawful.apart (kinds_of_type c.args.types.now u _ _ apart c.in_ok-program.ensures.found typed.0 lawful.type_is)
     (room_for_binds c.args.tally.now c.instance_start.new.tally u c.in_ok-instance.ensures.tally room))
 
-pub returns-in_err-punctuation-clause-other : goal.returns-in_err-punctuation-clause-other
+pub returns-in_err-punctuation-clause-other : instance_goals.returns-in_err-punctuation-clause-other
 returns-in_err-punctuation-clause-other c =
     let fault = c.in_err-punctuation.field-0.0 in
     kept_fault fault (λ f. f.kind ≢ Memory → (u : Use) (rest : List Token) → c.args.self.now.words ≡ use_words u ++ rest → AreTypesApart c.args.types.now → IsNew (λ (u : Use). u.instance) (flat_map use_of c.args.before.now) u.instance → IsUseLawful (types_alone c.args.types.now) c.args.before.now u → HasRoomFor c.args.tally.now (u ∷ []) → ⊥) c.from_residual-in_err-punctuation.result c.from_residual-in_err-punctuation.ensures.1
@@ -92,26 +92,26 @@ returns-in_err-punctuation-clause-other c =
     let typed = use_typed u c.in_ok-instance.instance c.in_ok-task.task _ c.args.self.now.words c.instance_start.new.self.words c.task_of_instance.new.self.words c.type_of_instance.new.self.words rest c.in_ok-instance.ensures.ok c.in_ok-task.ensures.ok c.in_ok-program.ensures.ok e in
     c.in_err-punctuation.ensures.other rest (c.in_ok-binds.ensures.only (binds_listed u.binds) rest typed.1))
 
-pub returns-clause-lined : goal.returns-clause-lined
+pub returns-clause-lined : instance_goals.returns-clause-lined
 returns-clause-lined c = λ all h.
     subst (λ (rest : List Token). AreBindsOn all (bound_in c.in_ok-binds.binds) c.some_binds.new.lines.items (mark_word Close ∷ rest)) c.in_ok-punctuation.ensures.ok
     (c.in_ok-binds.ensures.lined all (c.in_ok-program.ensures.left all (c.in_ok-task.ensures.left all (c.in_ok-instance.ensures.left all h))))
 
-pub returns-in_err-task-clause-other : goal.returns-in_err-task-clause-other
+pub returns-in_err-task-clause-other : instance_goals.returns-in_err-task-clause-other
 returns-in_err-task-clause-other c =
     let fault = c.in_err-task.field-0.0 in
     kept_fault fault (λ f. f.kind ≢ Memory → (u : Use) (rest : List Token) → c.args.self.now.words ≡ use_words u ++ rest → AreTypesApart c.args.types.now → IsNew (λ (u : Use). u.instance) (flat_map use_of c.args.before.now) u.instance → IsUseLawful (types_alone c.args.types.now) c.args.before.now u → HasRoomFor c.args.tally.now (u ∷ []) → ⊥) c.from_residual-in_err-task.result c.from_residual-in_err-task.ensures.1
     (λ known u rest e apart new lawful room.
     c.in_err-task.ensures.other known u.task _ (use_started u c.in_ok-instance.instance c.args.self.now.words c.instance_start.new.self.words rest c.in_ok-instance.ensures.ok e) lawful.task_is)
 
-pub returns-in_err-instance-clause-stuck : goal.returns-in_err-instance-clause-stuck
+pub returns-in_err-instance-clause-stuck : instance_goals.returns-in_err-instance-clause-stuck
 returns-in_err-instance-clause-stuck c =
     let fault = c.in_err-instance.field-0.0 in
     let start = c.args.self.now in
     kept_fault fault (GetsStuck (Key key.Program ∷ instance_rest) c.args.self.now) c.from_residual.result c.from_residual.ensures.1
     (stuck_more (Key key.Program ∷ AName ∷ []) (Key key.With ∷ AName ∷ Mark mark.Colon ∷ AName ∷ MayHaveBinds ∷ Mark mark.Semicolon ∷ []) start fault c.in_err-instance.ensures.stuck)
 
-pub returns-in_err-task-clause-stuck : goal.returns-in_err-task-clause-stuck
+pub returns-in_err-task-clause-stuck : instance_goals.returns-in_err-task-clause-stuck
 returns-in_err-task-clause-stuck c =
     let fault = c.in_err-task.field-0.0 in
     let start = c.args.self.now in
@@ -120,7 +120,7 @@ returns-in_err-task-clause-stuck c =
     (stuck_after_key_and_name key.Program c.in_ok-instance.instance (Key key.With ∷ AName ∷ Mark mark.Colon ∷ AName ∷ MayHaveBinds ∷ Mark mark.Semicolon ∷ []) start one fault c.in_ok-instance.ensures.ok c.in_ok-instance.ensures.left
     (stuck_more (Key key.With ∷ AName ∷ []) (Mark mark.Colon ∷ AName ∷ MayHaveBinds ∷ Mark mark.Semicolon ∷ []) one fault c.in_err-task.ensures.stuck))
 
-pub returns-in_err-program-clause-stuck : goal.returns-in_err-program-clause-stuck
+pub returns-in_err-program-clause-stuck : instance_goals.returns-in_err-program-clause-stuck
 returns-in_err-program-clause-stuck c =
     let fault = c.in_err-program.field-0.0 in
     let start = c.args.self.now in
@@ -131,7 +131,7 @@ returns-in_err-program-clause-stuck c =
     (stuck_after_key_and_name key.With c.in_ok-task.task (Mark mark.Colon ∷ AName ∷ MayHaveBinds ∷ Mark mark.Semicolon ∷ []) one two fault c.in_ok-task.ensures.ok c.in_ok-task.ensures.left
     (stuck_more (Mark mark.Colon ∷ AName ∷ []) (MayHaveBinds ∷ Mark mark.Semicolon ∷ []) two fault c.in_err-program.ensures.stuck)))
 
-pub returns-in_err-binds-clause-stuck : goal.returns-in_err-binds-clause-stuck
+pub returns-in_err-binds-clause-stuck : instance_goals.returns-in_err-binds-clause-stuck
 returns-in_err-binds-clause-stuck c =
     let fault = c.in_err-binds.field-0.0 in
     let start = c.args.self.now in
@@ -144,7 +144,7 @@ returns-in_err-binds-clause-stuck c =
     (stuck_after_mark_and_name mark.Colon c.in_ok-program.program (MayHaveBinds ∷ Mark mark.Semicolon ∷ []) two three fault c.in_ok-program.ensures.ok c.in_ok-program.ensures.left
     (stuck_more (MayHaveBinds ∷ []) (Mark mark.Semicolon ∷ []) three fault c.in_err-binds.ensures.stuck))))
 
-pub returns-in_err-punctuation-clause-stuck : goal.returns-in_err-punctuation-clause-stuck
+pub returns-in_err-punctuation-clause-stuck : instance_goals.returns-in_err-punctuation-clause-stuck
 returns-in_err-punctuation-clause-stuck c =
     let fault = c.in_err-punctuation.field-0.0 in
     let start = c.args.self.now in

@@ -10,33 +10,33 @@ use Rattle.plant_grammar.proofs.RefusedNames.{memory_no_name}
 use Rattle.plant_grammar.proofs.ReadLines.{line_before}
 use Rattle.plant_grammar.proofs.RefusedPlaces.{name_of_list, type_of_list}
 use Rattle.plant_grammar.proofs.StuckBehind.{stuck_after_mark}
-use Rattle.plant_grammar.proofs.grammar.reader.Reader.list.Goals as goal
+use Rattle.plant_grammar.proofs.grammar.reader.Reader.list.Goals as list_goals
 
-pub returns-in_err-add_list-clause-names : goal.returns-in_err-add_list-clause-names
+pub returns-in_err-add_list-clause-names : list_goals.returns-in_err-add_list-clause-names
 returns-in_err-add_list-clause-names c =
     let fault = c.in_err-add_list.field-0.0 in
     kept_fault fault (BeginRefused (λ k. RefusesOneList c.args.section c.args.variables.now k) c.args.self.now) c.from_residual-in_err-add_list.result c.from_residual-in_err-add_list.ensures.1
     (λ all h of. absurd (c.in_err-add_list.ensures.other (λ m. memory_no_name fault m of) c.in_ok-names.ensures.may))
 
-pub returns-in_err-names-clause-names : goal.returns-in_err-names-clause-names
+pub returns-in_err-names-clause-names : list_goals.returns-in_err-names-clause-names
 returns-in_err-names-clause-names c =
     let fault = c.in_err-names.field-0.0 in
     kept_fault fault (BeginRefused (λ k. RefusesOneList c.args.section c.args.variables.now k) c.args.self.now) c.from_residual.result c.from_residual.ensures.1
     (λ all h of. name_of_list fault.kind c.args.section c.args.variables.now c.args.self.now.words (c.in_err-names.ensures.names all h of))
 
-pub returns-in_err-type_name-clause-names : goal.returns-in_err-type_name-clause-names
+pub returns-in_err-type_name-clause-names : list_goals.returns-in_err-type_name-clause-names
 returns-in_err-type_name-clause-names c =
     let fault = c.in_err-type_name.field-0.0 in
     kept_fault fault (BeginRefused (λ k. RefusesOneList c.args.section c.args.variables.now k) c.args.self.now) c.from_residual-in_err-type_name.result c.from_residual-in_err-type_name.ensures.1
     (λ all h of. type_of_list fault.kind c.args.section c.args.variables.now c.in_ok-names.names.items c.args.self.now.words c.names.new.self.words c.punctuation.new.self.words (line_before all c.punctuation.new.self fault.line (c.in_ok-punctuation.ensures.left all (c.in_ok-names.ensures.left all h)) (c.in_err-type_name.ensures.line of)) c.in_ok-names.ensures.ok c.in_ok-punctuation.ensures.ok c.in_err-type_name.ensures.tells of)
 
-pub returns-in_err-names-clause-stuck : goal.returns-in_err-names-clause-stuck
+pub returns-in_err-names-clause-stuck : list_goals.returns-in_err-names-clause-stuck
 returns-in_err-names-clause-stuck c =
     let fault = c.in_err-names.field-0.0 in
     kept_fault fault (GetsStuck (AName ∷ list_rest) c.args.self.now) c.from_residual.result c.from_residual.ensures.1
     (λ syntax behind. c.in_err-names.ensures.stuck syntax (Mark Colon ∷ AType ∷ Mark Semicolon ∷ behind))
 
-pub returns-in_err-punctuation-clause-stuck : goal.returns-in_err-punctuation-clause-stuck
+pub returns-in_err-punctuation-clause-stuck : list_goals.returns-in_err-punctuation-clause-stuck
 returns-in_err-punctuation-clause-stuck c =
     let fault = c.in_err-punctuation.field-0.0 in
     let names = c.in_ok-names.ensures in
@@ -44,7 +44,7 @@ returns-in_err-punctuation-clause-stuck c =
     (stuck_after_names c.in_ok-names.names.items (Mark Colon ∷ AType ∷ Mark Semicolon ∷ []) c.args.self.now c.names.new.self fault names.some names.ok names.left names.none
     (mark_stuck Colon (AType ∷ Mark Semicolon ∷ []) c.names.new.self fault c.in_err-punctuation.ensures.err.0 c.in_err-punctuation.ensures.other))
 
-pub returns-in_err-type_name-clause-stuck : goal.returns-in_err-type_name-clause-stuck
+pub returns-in_err-type_name-clause-stuck : list_goals.returns-in_err-type_name-clause-stuck
 returns-in_err-type_name-clause-stuck c =
     let fault = c.in_err-type_name.field-0.0 in
     let names = c.in_ok-names.ensures in
@@ -53,7 +53,7 @@ returns-in_err-type_name-clause-stuck c =
     (stuck_after_mark Colon (AType ∷ Mark Semicolon ∷ []) c.names.new.self c.punctuation.new.self fault c.in_ok-punctuation.ensures.ok c.in_ok-punctuation.ensures.left
     (λ syntax behind. c.in_err-type_name.ensures.stuck syntax (Mark Semicolon ∷ behind))))
 
-pub returns-in_err-punctuation-2-clause-stuck : goal.returns-in_err-punctuation-2-clause-stuck
+pub returns-in_err-punctuation-2-clause-stuck : list_goals.returns-in_err-punctuation-2-clause-stuck
 returns-in_err-punctuation-2-clause-stuck c =
     let fault = c.in_err-punctuation-2.field-0.0 in
     let names = c.in_ok-names.ensures in
@@ -63,7 +63,7 @@ returns-in_err-punctuation-2-clause-stuck c =
     (stuck_after_type c.in_ok-type_name.type_name (Mark Semicolon ∷ []) c.punctuation.new.self c.type_name.new.self fault c.in_ok-type_name.ensures.ok c.in_ok-type_name.ensures.left
     (mark_stuck Semicolon [] c.type_name.new.self fault c.in_err-punctuation-2.ensures.err.0 c.in_err-punctuation-2.ensures.other))))
 
-pub returns-in_err-add_list-clause-stuck : goal.returns-in_err-add_list-clause-stuck
+pub returns-in_err-add_list-clause-stuck : list_goals.returns-in_err-add_list-clause-stuck
 returns-in_err-add_list-clause-stuck c =
     let fault = c.in_err-add_list.field-0.0 in
     kept_fault fault (GetsStuck (AName ∷ list_rest) c.args.self.now) c.from_residual-in_err-add_list.result c.from_residual-in_err-add_list.ensures.1

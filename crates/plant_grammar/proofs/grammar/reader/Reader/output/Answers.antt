@@ -4,16 +4,16 @@ use Rattle.plant_text.specs.declared.token.Punctuation.TheVariants as mark
 use Rattle.plant_grammar.specs.Steps.Expected.{Mark, AName, GetsStuck}
 use Rattle.plant_grammar.proofs.UnexpectedWords.{mark_stuck, name_stuck}
 use Rattle.plant_grammar.proofs.StuckBehind.{stuck_after_mark, stuck_after_name}
-use Rattle.plant_grammar.proofs.grammar.reader.Reader.output.Goals as goal
+use Rattle.plant_grammar.proofs.grammar.reader.Reader.output.Goals as output_goals
 
-pub returns-in_err-resource-clause-stuck : goal.returns-in_err-resource-clause-stuck
+pub returns-in_err-resource-clause-stuck : output_goals.returns-in_err-resource-clause-stuck
 returns-in_err-resource-clause-stuck c =
     let fault = c.in_err-resource.field-0.0 in
     let start = c.args.self.now in
     kept_fault fault (GetsStuck (AName ∷ Mark mark.Dot ∷ AName ∷ Mark mark.Dot ∷ AName ∷ []) start) c.from_residual.result c.from_residual.ensures.1
     (name_stuck (Mark mark.Dot ∷ AName ∷ Mark mark.Dot ∷ AName ∷ []) start fault c.in_err-resource.ensures.err c.in_err-resource.ensures.other)
 
-pub returns-in_err-punctuation-clause-stuck : goal.returns-in_err-punctuation-clause-stuck
+pub returns-in_err-punctuation-clause-stuck : output_goals.returns-in_err-punctuation-clause-stuck
 returns-in_err-punctuation-clause-stuck c =
     let fault = c.in_err-punctuation.field-0.0 in
     let start = c.args.self.now in
@@ -22,7 +22,7 @@ returns-in_err-punctuation-clause-stuck c =
     (stuck_after_name c.in_ok-resource.resource (Mark mark.Dot ∷ AName ∷ Mark mark.Dot ∷ AName ∷ []) start one fault c.in_ok-resource.ensures.ok c.in_ok-resource.ensures.left
     (mark_stuck mark.Dot (AName ∷ Mark mark.Dot ∷ AName ∷ []) one fault c.in_err-punctuation.ensures.err.0 c.in_err-punctuation.ensures.other))
 
-pub returns-in_err-instance-clause-stuck : goal.returns-in_err-instance-clause-stuck
+pub returns-in_err-instance-clause-stuck : output_goals.returns-in_err-instance-clause-stuck
 returns-in_err-instance-clause-stuck c =
     let fault = c.in_err-instance.field-0.0 in
     let start = c.args.self.now in
@@ -33,7 +33,7 @@ returns-in_err-instance-clause-stuck c =
     (stuck_after_mark mark.Dot (AName ∷ Mark mark.Dot ∷ AName ∷ []) one two fault c.in_ok-punctuation.ensures.ok c.in_ok-punctuation.ensures.left
     (name_stuck (Mark mark.Dot ∷ AName ∷ []) two fault c.in_err-instance.ensures.err c.in_err-instance.ensures.other)))
 
-pub returns-in_err-punctuation-2-clause-stuck : goal.returns-in_err-punctuation-2-clause-stuck
+pub returns-in_err-punctuation-2-clause-stuck : output_goals.returns-in_err-punctuation-2-clause-stuck
 returns-in_err-punctuation-2-clause-stuck c =
     let fault = c.in_err-punctuation-2.field-0.0 in
     let start = c.args.self.now in
@@ -46,7 +46,7 @@ returns-in_err-punctuation-2-clause-stuck c =
     (stuck_after_name c.in_ok-instance.instance (Mark mark.Dot ∷ AName ∷ []) two three fault c.in_ok-instance.ensures.ok c.in_ok-instance.ensures.left
     (mark_stuck mark.Dot (AName ∷ []) three fault c.in_err-punctuation-2.ensures.err.0 c.in_err-punctuation-2.ensures.other))))
 
-pub returns-in_err-output-clause-stuck : goal.returns-in_err-output-clause-stuck
+pub returns-in_err-output-clause-stuck : output_goals.returns-in_err-output-clause-stuck
 returns-in_err-output-clause-stuck c =
     let fault = c.in_err-output.field-0.0 in
     let start = c.args.self.now in

@@ -6,15 +6,15 @@ use Rattle.plant_grammar.specs.Steps.Expected.{Key, ANumber, priority_rest, Gets
 use Rattle.plant_grammar.proofs.RefusedNames.{both_told}
 use Rattle.plant_grammar.proofs.UnexpectedWords.{key_stuck, mark_stuck, number_stuck}
 use Rattle.plant_grammar.proofs.StuckBehind.{stuck_after_key, stuck_after_mark}
-use Rattle.plant_grammar.proofs.grammar.reader.Reader.priority.Goals as goal
+use Rattle.plant_grammar.proofs.grammar.reader.Reader.priority.Goals as priority_goals
 
-pub returns-in_err-keyword-clause-stuck : goal.returns-in_err-keyword-clause-stuck
+pub returns-in_err-keyword-clause-stuck : priority_goals.returns-in_err-keyword-clause-stuck
 returns-in_err-keyword-clause-stuck c =
     let fault = c.in_err-keyword.field-0.0 in
     kept_fault fault (GetsStuck (Key key.Priority ∷ priority_rest) c.args.self.now) c.from_residual.result c.from_residual.ensures.1
     (key_stuck key.Priority priority_rest c.args.self.now fault c.in_err-keyword.ensures.err.0 c.in_err-keyword.ensures.other)
 
-pub returns-in_err-punctuation-clause-stuck : goal.returns-in_err-punctuation-clause-stuck
+pub returns-in_err-punctuation-clause-stuck : priority_goals.returns-in_err-punctuation-clause-stuck
 returns-in_err-punctuation-clause-stuck c =
     let fault = c.in_err-punctuation.field-0.0 in
     let one = c.keyword.new.self in
@@ -22,7 +22,7 @@ returns-in_err-punctuation-clause-stuck c =
     (stuck_after_key key.Priority priority_rest c.args.self.now one fault c.in_ok-keyword.ensures.ok c.in_ok-keyword.ensures.left
     (mark_stuck mark.Assign (ANumber ∷ []) one fault c.in_err-punctuation.ensures.err.0 c.in_err-punctuation.ensures.other))
 
-pub returns-clause-stuck : goal.returns-clause-stuck
+pub returns-clause-stuck : priority_goals.returns-clause-stuck
 returns-clause-stuck c =
     let one = c.keyword.new.self in
     let two = c.punctuation.new.self in

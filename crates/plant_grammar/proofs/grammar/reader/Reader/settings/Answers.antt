@@ -7,15 +7,15 @@ use Rattle.plant_grammar.specs.Steps.Expected.{Key, TheSettings, interval_rest, 
 use Rattle.plant_grammar.proofs.UnexpectedWords.{mark_stuck}
 use Rattle.plant_grammar.proofs.WalkedResources.{behind_interval, behind_priority, first_interval_walked, first_priority_walked, stuck_in_interval, stuck_in_priority}
 use Rattle.plant_grammar.proofs.StuckBehind.{stuck_after, stuck_after_mark}
-use Rattle.plant_grammar.proofs.grammar.reader.Reader.settings.Goals as goal
+use Rattle.plant_grammar.proofs.grammar.reader.Reader.settings.Goals as settings_goals
 
-pub returns-in_err-interval-clause-stuck : goal.returns-in_err-interval-clause-stuck
+pub returns-in_err-interval-clause-stuck : settings_goals.returns-in_err-interval-clause-stuck
 returns-in_err-interval-clause-stuck c =
     let fault = c.in_err-interval.field-0.0 in
     kept_fault fault (GetsStuck (TheSettings ∷ []) c.args.self.now) c.from_residual.result c.from_residual.ensures.1
     (stuck_in_interval c.args.self.now fault (c.if-sees_keyword.ensures.yes refl) c.in_err-interval.ensures.stuck)
 
-pub returns-in_err-punctuation-clause-stuck : goal.returns-in_err-punctuation-clause-stuck
+pub returns-in_err-punctuation-clause-stuck : settings_goals.returns-in_err-punctuation-clause-stuck
 returns-in_err-punctuation-clause-stuck c =
     let fault = c.in_err-punctuation.field-0.0 in
     let one = c.interval.new.self in
@@ -24,7 +24,7 @@ returns-in_err-punctuation-clause-stuck c =
     (λ behind. first_interval_walked c.in_ok-interval.interval behind c.in_ok-interval.ensures.positive)
     (mark_stuck mark.Comma (Key key.Priority ∷ priority_rest) one fault c.in_err-punctuation.ensures.err.0 c.in_err-punctuation.ensures.other))
 
-pub returns-in_err-priority-clause-stuck : goal.returns-in_err-priority-clause-stuck
+pub returns-in_err-priority-clause-stuck : settings_goals.returns-in_err-priority-clause-stuck
 returns-in_err-priority-clause-stuck c =
     let fault = c.in_err-priority.field-0.0 in
     let one = c.interval.new.self in
@@ -34,13 +34,13 @@ returns-in_err-priority-clause-stuck c =
     (λ behind. first_interval_walked c.in_ok-interval.interval behind c.in_ok-interval.ensures.positive)
     (stuck_after_mark mark.Comma (Key key.Priority ∷ priority_rest) one two fault c.in_ok-punctuation.ensures.ok c.in_ok-punctuation.ensures.left c.in_err-priority.ensures.stuck))
 
-pub returns-in_err-priority-2-clause-stuck : goal.returns-in_err-priority-2-clause-stuck
+pub returns-in_err-priority-2-clause-stuck : settings_goals.returns-in_err-priority-2-clause-stuck
 returns-in_err-priority-2-clause-stuck c =
     let fault = c.in_err-priority-2.field-0.0 in
     kept_fault fault (GetsStuck (TheSettings ∷ []) c.args.self.now) c.from_residual-in_err-priority-2.result c.from_residual-in_err-priority-2.ensures.1
     (stuck_in_priority c.args.self.now fault (c.if-sees_keyword.ensures.no refl) c.in_err-priority-2.ensures.stuck)
 
-pub returns-in_err-punctuation-2-clause-stuck : goal.returns-in_err-punctuation-2-clause-stuck
+pub returns-in_err-punctuation-2-clause-stuck : settings_goals.returns-in_err-punctuation-2-clause-stuck
 returns-in_err-punctuation-2-clause-stuck c =
     let fault = c.in_err-punctuation-2.field-0.0 in
     let one = c.priority-else-sees_keyword.new.self in
@@ -49,7 +49,7 @@ returns-in_err-punctuation-2-clause-stuck c =
     (first_priority_walked c.in_ok-priority-2.priority)
     (mark_stuck mark.Comma (Key key.Interval ∷ interval_rest) one fault c.in_err-punctuation-2.ensures.err.0 c.in_err-punctuation-2.ensures.other))
 
-pub returns-in_err-interval-2-clause-stuck : goal.returns-in_err-interval-2-clause-stuck
+pub returns-in_err-interval-2-clause-stuck : settings_goals.returns-in_err-interval-2-clause-stuck
 returns-in_err-interval-2-clause-stuck c =
     let fault = c.in_err-interval-2.field-0.0 in
     let one = c.priority-else-sees_keyword.new.self in

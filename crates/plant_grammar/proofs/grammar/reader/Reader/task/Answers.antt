@@ -11,22 +11,22 @@ use Rattle.plant_grammar.specs.Steps.Expected.{Key, Mark, AName, TheSettings, ta
 use Rattle.plant_grammar.proofs.UnexpectedWords.{key_stuck, mark_stuck}
 use Rattle.plant_grammar.proofs.WalkedResources.{stuck_more, settings_walked}
 use Rattle.plant_grammar.proofs.StuckBehind.{stuck_after, stuck_after_key, stuck_after_mark, stuck_after_name}
-use Rattle.plant_grammar.proofs.grammar.reader.Reader.task.Goals as goal
+use Rattle.plant_grammar.proofs.grammar.reader.Reader.task.Goals as task_goals
 
-pub returns-in_err-name-clause-names : goal.returns-in_err-name-clause-names
+pub returns-in_err-name-clause-names : task_goals.returns-in_err-name-clause-names
 returns-in_err-name-clause-names c =
     let fault = c.in_err-name.field-0.0 in
     kept_fault fault (BeginRefused (λ k. RefusesTask k c.args.before.now) c.args.self.now) c.from_residual-in_err-name.result c.from_residual-in_err-name.ensures.1
     (λ all h of. task_refused fault.kind c.args.before.now c.args.self.now.words c.keyword.new.self.words (line_before all c.keyword.new.self fault.line (c.in_ok-keyword.ensures.left all h) (c.in_err-name.ensures.line of)) c.in_ok-keyword.ensures.ok c.in_err-name.ensures.tells of)
 
-pub returns-in_err-keyword-clause-stuck : goal.returns-in_err-keyword-clause-stuck
+pub returns-in_err-keyword-clause-stuck : task_goals.returns-in_err-keyword-clause-stuck
 returns-in_err-keyword-clause-stuck c =
     let fault = c.in_err-keyword.field-0.0 in
     let start = c.args.self.now in
     kept_fault fault (GetsStuck (Key key.Task ∷ task_rest) start) c.from_residual.result c.from_residual.ensures.1
     (key_stuck key.Task (AName ∷ Mark mark.Open ∷ TheSettings ∷ Mark mark.Close ∷ Mark mark.Semicolon ∷ []) start fault c.in_err-keyword.ensures.err.0 c.in_err-keyword.ensures.other)
 
-pub returns-in_err-name-clause-stuck : goal.returns-in_err-name-clause-stuck
+pub returns-in_err-name-clause-stuck : task_goals.returns-in_err-name-clause-stuck
 returns-in_err-name-clause-stuck c =
     let fault = c.in_err-name.field-0.0 in
     let start = c.args.self.now in
@@ -35,7 +35,7 @@ returns-in_err-name-clause-stuck c =
     (stuck_after_key key.Task (AName ∷ Mark mark.Open ∷ TheSettings ∷ Mark mark.Close ∷ Mark mark.Semicolon ∷ []) start one fault c.in_ok-keyword.ensures.ok c.in_ok-keyword.ensures.left
     (stuck_more (AName ∷ []) (Mark mark.Open ∷ TheSettings ∷ Mark mark.Close ∷ Mark mark.Semicolon ∷ []) one fault c.in_err-name.ensures.stuck))
 
-pub returns-in_err-punctuation-clause-stuck : goal.returns-in_err-punctuation-clause-stuck
+pub returns-in_err-punctuation-clause-stuck : task_goals.returns-in_err-punctuation-clause-stuck
 returns-in_err-punctuation-clause-stuck c =
     let fault = c.in_err-punctuation.field-0.0 in
     let start = c.args.self.now in
@@ -46,7 +46,7 @@ returns-in_err-punctuation-clause-stuck c =
     (stuck_after_name c.in_ok-name.name (Mark mark.Open ∷ TheSettings ∷ Mark mark.Close ∷ Mark mark.Semicolon ∷ []) one two fault c.in_ok-name.ensures.ok c.in_ok-name.ensures.left
     (mark_stuck mark.Open (TheSettings ∷ Mark mark.Close ∷ Mark mark.Semicolon ∷ []) two fault c.in_err-punctuation.ensures.err.0 c.in_err-punctuation.ensures.other)))
 
-pub returns-in_err-order-clause-stuck : goal.returns-in_err-order-clause-stuck
+pub returns-in_err-order-clause-stuck : task_goals.returns-in_err-order-clause-stuck
 returns-in_err-order-clause-stuck c =
     let fault = c.in_err-order.field-0.0 in
     let start = c.args.self.now in
@@ -59,7 +59,7 @@ returns-in_err-order-clause-stuck c =
     (stuck_after_mark mark.Open (TheSettings ∷ Mark mark.Close ∷ Mark mark.Semicolon ∷ []) two three fault c.in_ok-punctuation.ensures.ok c.in_ok-punctuation.ensures.left
     (stuck_more (TheSettings ∷ []) (Mark mark.Close ∷ Mark mark.Semicolon ∷ []) three fault c.in_err-order.ensures.stuck))))
 
-pub returns-in_err-punctuation-2-clause-stuck : goal.returns-in_err-punctuation-2-clause-stuck
+pub returns-in_err-punctuation-2-clause-stuck : task_goals.returns-in_err-punctuation-2-clause-stuck
 returns-in_err-punctuation-2-clause-stuck c =
     let fault = c.in_err-punctuation-2.field-0.0 in
     let start = c.args.self.now in
@@ -74,7 +74,7 @@ returns-in_err-punctuation-2-clause-stuck c =
     (stuck_after (TheSettings ∷ Mark mark.Close ∷ Mark mark.Semicolon ∷ []) (Mark mark.Close ∷ Mark mark.Semicolon ∷ []) (settings c.in_ok-order.order c.in_ok-order.interval c.in_ok-order.priority) three four fault c.in_ok-order.ensures.ok c.in_ok-order.ensures.left (λ behind. settings_walked c.in_ok-order.order c.in_ok-order.interval c.in_ok-order.priority (Mark mark.Close ∷ Mark mark.Semicolon ∷ behind) c.in_ok-order.ensures.positive)
     (mark_stuck mark.Close (Mark mark.Semicolon ∷ []) four fault c.in_err-punctuation-2.ensures.err.0 c.in_err-punctuation-2.ensures.other)))))
 
-pub returns-in_err-punctuation-3-clause-stuck : goal.returns-in_err-punctuation-3-clause-stuck
+pub returns-in_err-punctuation-3-clause-stuck : task_goals.returns-in_err-punctuation-3-clause-stuck
 returns-in_err-punctuation-3-clause-stuck c =
     let fault = c.in_err-punctuation-3.field-0.0 in
     let start = c.args.self.now in

@@ -13,9 +13,9 @@ use Rattle.plant_text.specs.declared.token.Punctuation.TheVariants as mark
 use Rattle.plant_grammar.specs.Steps.Expected.{Mark, AName, GetsStuck}
 use Rattle.plant_grammar.proofs.UnexpectedWords.{mark_stuck, name_stuck}
 use Rattle.plant_grammar.proofs.StuckBehind.{stuck_after_mark}
-use Rattle.plant_grammar.proofs.grammar.reader.Reader.type_of_instance.Goals as goal
+use Rattle.plant_grammar.proofs.grammar.reader.Reader.type_of_instance.Goals as type_of_instance_goals
 
-pub returns-clause-names : goal.returns-clause-names
+pub returns-clause-names : type_of_instance_goals.returns-clause-names
 returns-clause-names c = λ all h of.
     let programs = programs_of c.args.types.now in
     let fault = c.at.result in
@@ -25,14 +25,14 @@ returns-clause-names c = λ all h of.
     (unknown_here fault.kind (ap (λ (f : GrammarFault). f.kind) c.at.ensures) now.words (line_before all now fault.line (c.in_ok-punctuation.ensures.left all h) (line ∙ c.line-line.ensures)) (λ (p : Program). p.name) programs
     (c.in_ok-name.name, c.name.new.self.words, c.in_ok-name.ensures.ok, missed_type c.args.types.now c.in_ok-name.name (sym c.in-None.ensures)))
 
-pub returns-in_err-punctuation-clause-stuck : goal.returns-in_err-punctuation-clause-stuck
+pub returns-in_err-punctuation-clause-stuck : type_of_instance_goals.returns-in_err-punctuation-clause-stuck
 returns-in_err-punctuation-clause-stuck c =
     let fault = c.in_err-punctuation.field-0.0 in
     let start = c.args.self.now in
     kept_fault fault (GetsStuck (Mark mark.Colon ∷ AName ∷ []) start) c.from_residual.result c.from_residual.ensures.1
     (mark_stuck mark.Colon (AName ∷ []) start fault c.in_err-punctuation.ensures.err.0 c.in_err-punctuation.ensures.other)
 
-pub returns-in_err-name-clause-stuck : goal.returns-in_err-name-clause-stuck
+pub returns-in_err-name-clause-stuck : type_of_instance_goals.returns-in_err-name-clause-stuck
 returns-in_err-name-clause-stuck c =
     let fault = c.in_err-name.field-0.0 in
     let start = c.args.self.now in
