@@ -21,15 +21,11 @@ fn are_same(frames: &[Frame], others: &[Frame]) -> bool
     requires { AreOfOneCode frames.now others.now }
     ensures { IsTrue result ↔ (frames.now ≡ others.now) }
 {
-    if frames.len() != others.len() {
-        return false;
-    }
-    for i in 0..frames.len() {
-        if !are_equal(&frames[i], &others[i]) {
-            return false;
-        }
-    }
-    true
+    let same = |frame: &Frame, other: &Frame| -> bool
+        requires { frame.now.name.task ≡ other.now.name.task → frame.now.code ≡ other.now.code }
+        ensures { IsTrue result ↔ (frame.now ≡ other.now) }
+    { are_equal(frame, other) };
+    lists::are_same(frames, others, same)
 }
 
 /// The first incarnation of each resource.
