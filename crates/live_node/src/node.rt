@@ -174,13 +174,7 @@ impl<K: Keeper, N: Notes> Node<K, N> {
     pub fn into_notes(self) -> N
         ensures { result ≡ self.notes }
     {
-        let Node {
-            alloc: _,
-            state: _,
-            keeper: _,
-            notes,
-        } = self;
-        notes
+        self.notes
     }
 
     /// Notes a line that is done next.
