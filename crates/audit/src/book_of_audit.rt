@@ -91,11 +91,6 @@ impl BookOfAudit {
         ensures same { result ≡ self.book }
         ensures of_plant { AreOfPlant self.plant result.entries }
     {
-        let BookOfAudit {
-            plant: _,
-            book,
-            present: _,
-        } = self;
-        book
+        self.book
     }
 }
