@@ -129,15 +129,15 @@ module _ (g : Picture) (sound : IsSound g) (at : Place) where
       → BeginNowhereInside g old → GainsInside old new at found → BeginNowhereInside g new
   inside_contact k c there is old new found were each =
       inside_element (Contact c) (the_element g sound (Contact c) at (contains_at g.contacts k c there) is).drawn is
-        (λ p behind. let b : IsBehind (place c.row c.column) p = subst (λ q. IsBehind q p) (sym is) behind in inr (inl (b.0, (let l = b.1 in omega arith), b.2)))
-        old new found were each
+      (λ p behind. let b : IsBehind (place c.row c.column) p = subst (λ q. IsBehind q p) (sym is) behind in inr (inl (b.0, (let l = b.1 in omega arith), b.2)))
+      old new found were each
 
   pub inside_coil : (k : ℕ) (c : CoilRecord) → slice_get g.coils k ≡ Some c → place c.row c.column ≡ at → (old new : List SymbolRow) (found : Option ℕ)
       → BeginNowhereInside g old → GainsInside old new at found → BeginNowhereInside g new
   inside_coil k c there is old new found were each =
       inside_element (Coil c) (the_element g sound (Coil c) at (contains_at g.coils k c there) is).drawn is
-        (λ p behind. let b : IsBehind (place c.row c.column) p = subst (λ q. IsBehind q p) (sym is) behind in inr (inl (b.0, (let l = b.1 in omega arith), b.2)))
-        old new found were each
+      (λ p behind. let b : IsBehind (place c.row c.column) p = subst (λ q. IsBehind q p) (sym is) behind in inr (inl (b.0, (let l = b.1 in omega arith), b.2)))
+      old new found were each
 
   -- where nothing was found, the rows keep what they had
   pub inside_none : (old new : List SymbolRow) → BeginNowhereInside g old → GainsInside old new at None → BeginNowhereInside g new

@@ -87,11 +87,7 @@ fn symbol_number<Kind>(symbols: &[Symbol<Kind>], next: usize, at: Place) -> Opti
 }
 
 /// The number of the symbol that begins at a place, which is noted; none where the place is inside one that was found.
-fn found_number<Kind>(
-    symbols: &[Symbol<Kind>],
-    rows: &mut SymbolRows,
-    at: Place,
-) -> Option<usize>
+fn found_number<Kind>(symbols: &[Symbol<Kind>], rows: &mut SymbolRows, at: Place) -> Option<usize>
     ensures number { TellsNumberOutside rows.old (symbol_places symbols.now) at result }
     ensures rows { GainsInside rows.old rows.new at result }
 {

@@ -13,11 +13,12 @@ loop-near-preserved c =
     let p = layout_of c.args.worded.now in
     let r = c.args.row in
     let items = c.symbols-symbol-items.result.now in
-    let none : Span = record { first = 0; end = 0 } in
-    (filter_map-step_behind (λ (s : Span). contact_here p r s.first) items c.loop-near.near none _ c.args.self.now.contacts.items c.loop-near.self.contacts.items c.push.new.self.contacts.items
-        c.loop-near-test.true refl c.loop-near.invariant.0 c.in_ok-push.ensures.contacts,
+    let none : Span = record { first = 0; end = 0 } in (
+      filter_map-step_behind (λ (s : Span). contact_here p r s.first) items c.loop-near.near none _ c.args.self.now.contacts.items c.loop-near.self.contacts.items c.push.new.self.contacts.items
+          c.loop-near-test.true refl c.loop-near.invariant.0 c.in_ok-push.ensures.contacts,
       filter_map-step_behind (λ (s : Span). coil_here p r s.first) items c.loop-near.near none _ c.args.self.now.coils.items c.loop-near.self.coils.items c.push.new.self.coils.items
-        c.loop-near-test.true refl c.loop-near.invariant.1 c.in_ok-push.ensures.coils)
+          c.loop-near-test.true refl c.loop-near.invariant.1 c.in_ok-push.ensures.coils,
+    )
 
 pub returns-clause-contacts : goal.returns-clause-contacts
 returns-clause-contacts c =
