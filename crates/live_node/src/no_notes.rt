@@ -1,15 +1,17 @@
-ghost use Rattle.std.specs.Prelude.{None};
+ghost use Rattle.std.specs.Prelude.{◌≡◌, None, Ok};
 
 use crate::notes::{NoteFault, Notes};
 
-/// Notes nothing.
+/// Notes nothing, and so has no fault.
 #[derive(Drop)]
 pub struct NoNotes;
 
 impl Notes for NoNotes {
     ghost noted = { λ _. None };
 
-    fn note(&mut self, _bytes: &[u8]) -> Result<(), NoteFault> {
+    fn note(&mut self, _bytes: &[u8]) -> Result<(), NoteFault>
+        ensures { result ≡ Ok tt }
+    {
         Ok(())
     }
 }

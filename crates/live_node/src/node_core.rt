@@ -28,7 +28,8 @@ impl Model for NodeCore {
     ghost invariant = { λ s. IsNodeOf s.plant.value s.resource (node_of s.core s.lines s.made) };
 }
 
-ghost use Rattle.std.specs.Prelude.{◌≡◌, ◌<◌, IfOk, OnOk, MatchOption, length, replicate};
+ghost use Rattle.std.specs.Prelude.{◌≡◌, ◌<◌, IfOk, IfErr, OnOk, OnErr, MatchOption, length, replicate};
+ghost use Rattle.exchange_core.specs.MessageCoreValue.{IsEvalFault};
 ghost use Rattle.exchange_core.specs.Openings.{AreOpeningOf};
 ghost use Rattle.live_node.specs.NodeValue.{IsStarted};
 ghost use Rattle.live_node.specs.NodeSteps.{HasTaken, HasHeardOf, HasRisen, HasMade, IsTaskRefusal, IsNotRefused, IsPlaceRefusal, is_behind};
@@ -130,7 +131,7 @@ impl NodeCore {
         }
     }
 
-    /// Evaluates a task: the line's place since the start is the ticket. Memory: nothing has changed.
+    /// Evaluates a task: the line's place since the start is the ticket. After a fault nothing has changed; faults come as those of [`MessageCore::evaluate`].
     pub fn evaluate(
         &mut self,
         alloc: Global,
@@ -141,6 +142,8 @@ impl NodeCore {
         requires { self.old.lines < 18446744073709551615 }
         ensures made { IfOk result (HasMade self.old self.new task dt inputs.now) }
         ensures heard { IfOk result (λ f. length f.heard ≡ length self.new.core.plant.resources) }
+        ensures err { OnErr result (self.new ≡ self.old) }
+        ensures fault { IfErr result (IsEvalFault self.old.core task) }
     {
         let ticket = self.lines + 1;
         let frame = self.core.evaluate(alloc, ticket, task, dt, inputs)?;
@@ -180,7 +183,8 @@ impl NodeCore {
     /// Restarts in a greater incarnation. Without memory nothing has changed.
     pub fn restart(&mut self, alloc: Global, incarnation: u32) -> Result<(), AllocError>
         requires { self.old.lines < 18446744073709551615 }
-        ensures { OnOk result (HasRisen self.old self.new incarnation) }
+        ensures ok { OnOk result (HasRisen self.old self.new incarnation) }
+        ensures err { OnErr result (self.new ≡ self.old) }
     {
         let core = self.core.restarted(alloc, incarnation)?;
         self.core = core;
