@@ -1,3 +1,4 @@
+mod TicketMarks
 pub mod Greatest
 pub mod Standing
 pub mod Stations

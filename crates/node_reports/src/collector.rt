@@ -62,7 +62,7 @@ pub fn collect<R: Threads + Sync>(
     if !found.are_honest {
         return Err(RunFault::Stranger);
     }
-    let unanswered = unanswered_tickets(alloc, commands, book.entries())?;
+    let unanswered = unanswered_tickets(rt, alloc, commands, book.entries())?;
     let node_faults = told_faults(
         alloc,
         plant,

@@ -47,6 +47,11 @@ abbrev pub AreMarkedAlso : (ℕ → Bool) → List Bool → List Bool → Type 0
 AreMarkedAlso test old new =
     (k : ℕ) → k < length old → slice_index_or new k false ≡ (slice_index_or old k false || test (k + 1))
 
+-- for each place, whether its ticket, which is one more than the place, is among these
+pub record AreTicketMarks (count : ℕ) (tickets : List ℕ) (marks : List Bool) : Type 0 where
+  pub many : length marks ≡ count
+  pub each : (k : ℕ) → k < count → slice_index_or marks k false ≡ list_any (λ t. t == k + 1) tickets
+
 -- for each place, whether an entry has its ticket, which is one more than the place
 pub record AreMarks (count : ℕ) (entries : List Evaluated) (marks : List Bool) : Type 0 where
   pub many : length marks ≡ count

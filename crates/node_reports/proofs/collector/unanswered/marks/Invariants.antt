@@ -1,7 +1,7 @@
--- The marks tell of the entries before the present one.
+-- The marks tell of the tickets before the present one.
 use Rattle.std.proofs.Common.{take}
-use Rattle.node_reports.specs.Steps.Collecting.{AreMarks}
+use Rattle.node_reports.specs.Steps.Collecting.{AreTicketMarks}
 use Rattle.node_reports.proofs.collector.unanswered.marks.Given as goal
 
 abbrev pub invariant-loop-k : goal.invariant-loop-k
-invariant-loop-k l = AreMarks l.count (take l.k l.entries) l.marks.items
+invariant-loop-k l = AreTicketMarks l.count (take l.k l.tickets) l.marks.items

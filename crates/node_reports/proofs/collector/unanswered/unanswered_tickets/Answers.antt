@@ -11,7 +11,7 @@ use Rattle.node_reports.proofs.collector.unanswered.unanswered_tickets.Goals as 
 use Rattle.node_reports.proofs.collector.unanswered.unanswered_tickets.Goals.{then-is_left+in_ok-push, else-is_left}
 
 pub loop-k-preserved : goal.loop-k-preserved
-loop-k-preserved c =
+loop-k-preserved g c =
     let x = c.index-commands-k.result in
     let marks = c.in_ok-answered.ensures in
     let many = marks.many in
@@ -31,6 +31,6 @@ loop-k-preserved c =
     ]
 
 pub returns-clause-rising : goal.returns-clause-rising
-returns-clause-rising c =
+returns-clause-rising g c =
     let all : take c.loop-k.k c.args.commands.now ≡ c.args.commands.now = take_all _ _ (omega arith) in
     subst IsStrictlyIncreasing (sym (c.loop-k.invariant ∙ ap (λ (cs : List Command). unanswered_of cs c.args.entries.now) all)) (unanswered_rise c.args.commands.now c.args.entries.now c.requires)

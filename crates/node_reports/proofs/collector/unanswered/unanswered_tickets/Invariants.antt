@@ -4,4 +4,4 @@ use Rattle.node_reports.specs.Reports.{unanswered_of}
 use Rattle.node_reports.proofs.collector.unanswered.unanswered_tickets.Given as goal
 
 abbrev pub invariant-loop-k : goal.invariant-loop-k
-invariant-loop-k l = l.tickets ≡ unanswered_of (take l.k l.commands) l.entries
+invariant-loop-k g l = l.tickets ≡ unanswered_of (take l.k l.commands) l.entries
