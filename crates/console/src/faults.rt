@@ -2,25 +2,15 @@ use crate::command_fault::CommandFault;
 use crate::shown::Shown;
 use crate::status::{DIFFERS, FAILED, TEXT_REFUSED, WORD_REFUSED};
 use evaluation::InputFault;
-use guidance::{Refusal, help_with, help_with_a_word};
+use guidance::{help_with, help_with_a_schedule, help_with_a_word};
+use std::alloc::AllocError;
 use std::io;
 use text_commands::{Difference, TextFault, WordFault, WordFaultKind};
 use world::{LiveFault, SimFault};
 
-/// What is refused, for what helps to mend it.
-fn refusal_of(fault: TextFault) -> Refusal {
-    match fault {
-        TextFault::Draw(fault) => Refusal::Drawing(fault),
-        TextFault::Graph(fault) => Refusal::Networks(fault),
-        TextFault::Bind(fault) => Refusal::Names(fault),
-        TextFault::Plant(fault) => Refusal::Plant(fault),
-        TextFault::TooLong => Refusal::Plan,
-    }
-}
-
 /// Tells what helps to mend a text. The fault was told before: what can't be told here is left out.
-fn print_help<R: Eprint + AllocGlobal>(rt: &R, text: &str, refusal: Refusal) {
-    if let Ok(help) = help_with(rt.alloc(), text, refusal) {
+fn print_help<R: Eprint>(rt: &R, help: Result<String, AllocError>) {
+    if let Ok(help) = help {
         let _told = rt.eprint(help.as_str());
     }
 }
@@ -37,15 +27,13 @@ fn print_text_fault<R: Eprint + AllocGlobal>(
         TextFault::TooLong => eprintln!(rt; "{fault}")?,
         _ => eprintln!(rt; "{file}:{fault}")?,
     }
-    print_help(rt, text, refusal_of(fault));
+    print_help(rt, help_with(rt.alloc(), text, fault));
     Ok(TEXT_REFUSED)
 }
 
 /// Tells the nearest names of a drawing's variables. What can't be told here is left out.
 pub(crate) fn print_nearest<R: Eprint + AllocGlobal>(rt: &R, text: &str, word: &str) {
-    if let Ok(help) = help_with_a_word(rt.alloc(), text, word) {
-        let _told = rt.eprint(help.as_str());
-    }
+    print_help(rt, help_with_a_word(rt.alloc(), text, word));
 }
 
 /// Tells why a word is refused; the status.
@@ -124,7 +112,7 @@ pub(crate) fn print_sim_fault<R: Eprint + AllocGlobal>(
         SimFault::Syntax { line } => {
             let file = Shown(file);
             eprintln!(rt; "{file}:{fault}")?;
-            print_help(rt, schedule, Refusal::Schedule { line });
+            print_help(rt, help_with_a_schedule(rt.alloc(), schedule, line));
             Ok(TEXT_REFUSED)
         }
         SimFault::Write => print_failure(rt, CommandFault::Write),
@@ -144,7 +132,7 @@ pub(crate) fn print_live_fault<R: Eprint + AllocGlobal>(
         LiveFault::Syntax { .. } | LiveFault::TooLong { .. } => {
             eprintln!(rt; "{file}:{fault}")?;
             let text = str::from_utf8(line).unwrap_or("");
-            print_help(rt, text, Refusal::Schedule { line: 1 });
+            print_help(rt, help_with_a_schedule(rt.alloc(), text, 1));
             Ok(TEXT_REFUSED)
         }
         LiveFault::Read => {

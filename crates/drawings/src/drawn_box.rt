@@ -100,9 +100,10 @@ impl Pins {
         Ok(())
     }
 
-    /// Adds further pins behind these.
+    /// Adds further pins behind these; where there is no memory, the pins stay as they were.
     pub fn append(&mut self, more: Pins) -> Result<(), AllocError>
-        ensures { OnOk result (self.new ≡ self.old ++ more) }
+        ensures added { OnOk result (self.new ≡ self.old ++ more) }
+        ensures unchanged { OnErr result (self.new ≡ self.old) }
     {
         let mut pins = more.pins;
         self.pins.append(&mut pins)?;

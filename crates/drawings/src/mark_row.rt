@@ -1,4 +1,4 @@
-ghost use Rattle.std.specs.Prelude.{◌≡◌, ◌<◌, ◌^◌, [], ◌∷◌, ◌++◌, IfOk, OnOk, slice_index_or};
+ghost use Rattle.std.specs.Prelude.{◌≡◌, ◌<◌, ◌^◌, [], ◌∷◌, ◌++◌, IfOk, OnOk, OnErr, slice_index_or};
 
 use crate::mark::Mark;
 use std::alloc::{AllocError, Global};
@@ -30,16 +30,19 @@ impl MarkRow {
         Ok(MarkRow { marks })
     }
 
+    /// Adds a mark; where there is no memory, the row stays as it was.
     pub fn push(&mut self, mark: Mark) -> Result<(), AllocError>
-        ensures { OnOk result (self.new ≡ self.old ++ mark ∷ []) }
+        ensures added { OnOk result (self.new ≡ self.old ++ mark ∷ []) }
+        ensures unchanged { OnErr result (self.new ≡ self.old) }
     {
         self.marks.push(mark)?;
         Ok(())
     }
 
-    /// The three places of a symbol.
+    /// Adds the three places of a symbol; where there is no memory, the row stays as it was.
     pub fn push_symbol(&mut self, part: Mark) -> Result<(), AllocError>
-        ensures { OnOk result (self.new ≡ self.old ++ part ∷ part ∷ part ∷ []) }
+        ensures added { OnOk result (self.new ≡ self.old ++ part ∷ part ∷ part ∷ []) }
+        ensures unchanged { OnErr result (self.new ≡ self.old) }
     {
         self.marks.extend_from_slice(&[part, part, part])?;
         Ok(())

@@ -1,11 +1,11 @@
 ghost use Rattle.std.specs.Prelude.{◌≡◌, ◌++◌, OnOk, IfOk, string_bytes, codes};
 ghost use Rattle.guidance.specs.Topics.{told_of, of_plant};
 ghost use Rattle.guidance.specs.Helping.{TellsTopic, TellsOf, topic_of};
+ghost use Rattle.guidance.specs.declared.topic.Topic.TheVariants.{ScheduleSyntax};
 
 use crate::excerpt::{Place, excerpt, line_of, whole_of};
 use crate::mentions::mentions_of;
 use crate::nearest::{beginning, nearest_names};
-use crate::refusal::Refusal;
 use crate::topic::Topic;
 use crate::unknown_word::{declared_for_a_body, unknown_in_a_drawing, unknown_in_a_plant};
 use ladder_text::{Drawing, ReadText};
@@ -14,6 +14,7 @@ use network::Graph;
 use plant::PlantFault;
 use power_flow::{Declarations, Declared, Kind};
 use std::alloc::{AllocError, Global};
+use text_commands::TextFault;
 use words::is_plain_name;
 
 /// The names that a drawing declares by their use. `None`: its names aren't reached, or there was no memory left.
@@ -202,28 +203,32 @@ fn help_with_a_plant(alloc: Global, text: &str, fault: PlantFault) -> Result<Str
     help_of(shown, topic, more.as_str())
 }
 
-/// What helps to mend a text that is refused: the line with the place, what is wrong there, and names that were meant
-/// perhaps. It is empty for want of memory.
-pub fn help_with(alloc: Global, text: &str, refusal: Refusal) -> Result<String, AllocError>
-    ensures { IfOk result (λ help. TellsOf (topic_of refusal) (string_bytes help)) }
+/// What helps to mend a text that a command refused: the line with the place, what is wrong there, and names that were
+/// meant perhaps. It is empty for want of memory.
+pub fn help_with(alloc: Global, text: &str, fault: TextFault) -> Result<String, AllocError>
+    ensures { IfOk result (λ help. TellsOf (topic_of fault) (string_bytes help)) }
 {
-    match refusal {
-        Refusal::Drawing(fault) => {
+    match fault {
+        TextFault::Draw(fault) => {
             let topic = Topic::of_drawing(fault.kind);
             help_at(alloc, text, topic, fault.line, fault.column)
         }
-        Refusal::Networks(fault) => {
+        TextFault::Graph(fault) => {
             let topic = Topic::of_networks(fault.kind);
             help_at(alloc, text, topic, fault.line, fault.column)
         }
-        Refusal::Names(fault) => {
+        TextFault::Bind(fault) => {
             let topic = Topic::of_names(fault.kind);
             help_at(alloc, text, topic, fault.line, fault.column)
         }
-        Refusal::Plant(fault) => help_with_a_plant(alloc, text, fault),
-        Refusal::Plan => help_of(String::new(alloc), Topic::TooLong, ""),
-        Refusal::Schedule { line } => {
-            help_of(line_marked(alloc, text, line)?, Topic::ScheduleSyntax, "")
-        }
+        TextFault::Plant(fault) => help_with_a_plant(alloc, text, fault),
+        TextFault::TooLong => help_of(String::new(alloc), Topic::TooLong, ""),
     }
+}
+
+/// What helps to mend a schedule of which this line is no event: the line, and what is wrong there.
+pub fn help_with_a_schedule(alloc: Global, text: &str, line: u64) -> Result<String, AllocError>
+    ensures { IfOk result (λ help. TellsTopic ScheduleSyntax (string_bytes help)) }
+{
+    help_of(line_marked(alloc, text, line)?, Topic::ScheduleSyntax, "")
 }

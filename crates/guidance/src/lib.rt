@@ -9,12 +9,10 @@ mod mention;
 mod mentions;
 mod nearest;
 mod plant_word;
-mod refusal;
 mod remarks;
 mod table;
 mod topic;
 mod unknown_word;
 
 pub use explanation::{explain, kinds};
-pub use help::{help_with, help_with_a_word};
-pub use refusal::Refusal;
+pub use help::{help_with, help_with_a_schedule, help_with_a_word};

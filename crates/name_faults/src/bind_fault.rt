@@ -1,7 +1,7 @@
 use thiserror::Error;
 
 /// The kinds of faults of names, in the order in which they are sought.
-#[derive(Clone, Copy, Debug, PartialEq, Eq)]
+#[derive(Clone, Copy, Debug, PartialEq, Eq, PartialOrd, Ord)]
 pub enum BindKind {
     /// A name, or the part before its dot, isn't declared.
     UnknownName,

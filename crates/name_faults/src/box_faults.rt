@@ -3,7 +3,7 @@ ghost use Rattle.std.specs.List.{list_any};
 ghost use Rattle.std_blocks.specs.Pins.{pin_of};
 ghost use Rattle.drawings.specs.declared.drawn_box.DrawnPin.{DrawnPin};
 ghost use Rattle.name_faults.specs.Steps.ElementFindings.{IsFirstFinding};
-ghost use Rattle.name_faults.specs.Steps.BoxFindings.{same_kind, wants, output_kind, declared_kind, name_kind, read_name_fault, literal_of, literal_fault, literal_kind_fault, stored_name_fault, read_fault_at, store_declared_fault, store_fault_at, operand_fault, field_on, own_field, kind_at, fault_here, fault_if, type_number, instance_fault, same_side, is_bit, has_bit, same_field, same_pin, is_among, pin_fault, operand_finding, is_beside, has_line, line_fault, pin_findings, corner_findings, pins_findings, box_findings, side_place, corner};
+ghost use Rattle.name_faults.specs.Steps.BoxFindings.{wants, output_kind, declared_kind, name_kind, read_name_fault, literal_of, literal_fault, literal_kind_fault, stored_name_fault, read_fault_at, store_declared_fault, store_fault_at, operand_fault, field_on, own_field, kind_at, fault_here, fault_if, instance_fault, same_side, is_bit, has_bit, same_pin, is_among, pin_fault, operand_finding, is_beside, has_line, line_fault, pin_findings, corner_findings, pins_findings, box_findings, side_place, corner};
 
 use crate::bind_fault::BindKind;
 use crate::finding::{Finding, earlier};
@@ -16,20 +16,11 @@ use network::Element;
 use std_blocks::{BlockType, Field, Pin};
 use words::Text;
 
-fn is_same_kind(kind: Kind, other: Kind) -> bool
-    ensures { result ≡ same_kind kind other }
-{
-    match (kind, other) {
-        (Kind::Bool, Kind::Bool) | (Kind::Int, Kind::Int) | (Kind::Time, Kind::Time) => true,
-        _ => false,
-    }
-}
-
 fn is_wanted(want: Option<Kind>, kind: Kind) -> bool
     ensures { result ≡ wants want kind }
 {
     match want {
-        Some(wanted) => is_same_kind(wanted, kind),
+        Some(wanted) => wanted == kind,
         None => true,
     }
 }
@@ -105,10 +96,7 @@ pub fn read_name_fault(want: Option<Kind>, name: Result<Option<Kind>, BindKind>)
         (Err(fault), _) => Some(fault),
         (Ok(_), None) => None,
         (Ok(None), Some(_)) => Some(BindKind::WrongKind),
-        (Ok(Some(kind)), Some(wanted)) => fault_if(
-            !is_same_kind(wanted, kind),
-            BindKind::WrongKind,
-        ),
+        (Ok(Some(kind)), Some(wanted)) => fault_if(wanted != kind, BindKind::WrongKind),
     }
 }
 
@@ -119,7 +107,7 @@ fn literal_kind_fault(want: Option<Kind>, kind: Kind, fits: bool) -> Option<Bind
     match want {
         None => None,
         Some(wanted) => {
-            if is_same_kind(wanted, kind) {
+            if wanted == kind {
                 fault_if(!fits, BindKind::LiteralOutOfRange)
             } else {
                 Some(BindKind::WrongKind)
@@ -238,42 +226,13 @@ fn side_place(drawn: &DrawnBox, row: usize, side: Side) -> Place
     }
 }
 
-fn type_number(block: BlockType) -> u8
-    ensures { result ≡ type_number block }
-{
-    match block {
-        BlockType::SR => 0,
-        BlockType::RS => 1,
-        BlockType::CTU => 2,
-        BlockType::CTD => 3,
-        BlockType::CTUD => 4,
-        BlockType::TP => 5,
-        BlockType::TON => 6,
-        BlockType::TOF => 7,
-    }
-}
-
 fn instance_fault(block: BlockType, declared: Option<Declared>) -> Option<BindKind>
     ensures { result ≡ instance_fault block declared }
 {
     match declared {
         None => Some(BindKind::UnknownName),
-        Some(Declared::Instance(found)) => {
-            fault_if(
-                type_number(found) != type_number(block),
-                BindKind::WrongKind,
-            )
-        }
+        Some(Declared::Instance(found)) => fault_if(found != block, BindKind::WrongKind),
         Some(_) => Some(BindKind::WrongKind),
-    }
-}
-
-fn is_same_side(side: Side, other: Side) -> bool
-    ensures { result ≡ same_side side other }
-{
-    match (side, other) {
-        (Side::Left, Side::Left) | (Side::Right, Side::Right) => true,
-        _ => false,
     }
 }
 
@@ -290,7 +249,7 @@ fn is_bit(field: Option<Field>) -> bool
 fn is_bit_on(drawn: &DrawnBox, side: Side, pin: &DrawnPin) -> bool
     ensures { result ≡ (same_side side pin.now.side && is_bit (own_field drawn.now pin.now)) }
 {
-    is_same_side(side, pin.side) && is_bit(own_field(drawn, pin))
+    side == pin.side && is_bit(own_field(drawn, pin))
 }
 
 /// Whether a Boolean pin of the type is drawn on this side.
@@ -305,25 +264,11 @@ fn has_bit(drawn: &DrawnBox, side: Side) -> bool
         .any(|pin| is_bit_on(drawn, side, pin))
 }
 
-fn is_same_field(field: Field, other: Field) -> bool
-    ensures { result ≡ same_field field other }
-{
-    match (field, other) {
-        (Field::Bit(k), Field::Bit(other)) => k == other,
-        (Field::Int, Field::Int) => true,
-        (Field::Time, Field::Time) => true,
-        _ => false,
-    }
-}
-
 fn is_same_pin(pin: Option<Pin>, other: Option<Pin>) -> bool
     ensures { result ≡ same_pin pin other }
 {
     match (pin, other) {
-        (Some(pin), Some(other)) => {
-            (if pin.left { other.left } else { !other.left })
-                && is_same_field(pin.field, other.field)
-        }
+        (Some(pin), Some(other)) => pin == other,
         _ => false,
     }
 }

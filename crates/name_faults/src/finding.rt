@@ -1,31 +1,16 @@
 ghost use Rattle.std.specs.Prelude.{◌≡◌};
 ghost use Rattle.std.specs.Bool.{OnTrue, OnFalse};
-ghost use Rattle.name_faults.specs.Findings.{kind_rank, ComesNoLater, bind_fault};
+ghost use Rattle.name_faults.specs.Findings.{ComesNoLater, bind_fault};
 ghost use Rattle.name_faults.specs.Steps.Earlier.{IsEarlierFinding};
 
 use crate::bind_fault::{BindFault, BindKind};
 
-/// A fault, by its kind and then by its place.
-#[derive(Clone, Copy)]
+/// A fault, in the order in which faults are sought: by kind, then by row, then by column.
+#[derive(Clone, Copy, PartialEq, Eq, PartialOrd, Ord)]
 pub struct Finding {
     pub kind: BindKind,
     pub row: usize,
     pub column: usize,
-}
-
-/// The place of a kind in the order in which the kinds are sought.
-fn kind_rank(kind: BindKind) -> u8
-    ensures { result ≡ kind_rank kind }
-{
-    match kind {
-        BindKind::UnknownName => 1,
-        BindKind::WrongKind => 2,
-        BindKind::WritesInput => 3,
-        BindKind::UnknownPin => 4,
-        BindKind::PinMissing => 5,
-        BindKind::LiteralOutOfRange => 6,
-        BindKind::Memory => 7,
-    }
 }
 
 /// Whether a fault comes no later than another: by kind, then by row, then by column.
@@ -33,15 +18,7 @@ fn is_up_to(one: Finding, other: Finding) -> bool
     ensures yes { OnTrue result (ComesNoLater one other) }
     ensures no { OnFalse result (ComesNoLater other one) }
 {
-    let first = kind_rank(one.kind);
-    let second = kind_rank(other.kind);
-    if first != second {
-        return first < second;
-    }
-    if one.row != other.row {
-        return one.row < other.row;
-    }
-    one.column <= other.column
+    one <= other
 }
 
 /// The one that comes first.

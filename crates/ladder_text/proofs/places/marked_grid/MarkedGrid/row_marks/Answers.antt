@@ -12,7 +12,7 @@ loop-column-preserved-then-begins_contact c =
     let done = contact_passed (layout_of c.args.self.now) c.args.row c.loop-column.column (sym c.begins_contact.ensures ∙ c.if-begins_contact.true) in
     record {
       within = omega (arith, done.inside, c.last-last.ensures.last, ap (λ (d : Rows). width d) c.self.view_is);
-      marks = c.in_ok-push_symbol.ensures ∙ ap (λ (l : List Mark). l ++ ContactPart ∷ ContactPart ∷ ContactPart ∷ []) c.loop-column.invariant.marks ∙ ap (λ (l : List Mark). Blank ∷ l) (sym done.marks);
+      marks = c.in_ok-push_symbol.ensures.added ∙ ap (λ (l : List Mark). l ++ ContactPart ∷ ContactPart ∷ ContactPart ∷ []) c.loop-column.invariant.marks ∙ ap (λ (l : List Mark). Blank ∷ l) (sym done.marks);
       quiet = done.quiet;
     }
 
@@ -22,6 +22,6 @@ loop-column-preserved-then-begins_coil c =
     let done = coil_passed (layout_of c.args.self.now) c.args.row c.loop-column.column (sym c.begins_coil.ensures ∙ c.if-begins_coil.true) in
     record {
       within = omega (arith, done.inside, c.last-last.ensures.last, ap (λ (d : Rows). width d) c.self.view_is);
-      marks = c.in_ok-push_symbol-2.ensures ∙ ap (λ (l : List Mark). l ++ CoilPart ∷ CoilPart ∷ CoilPart ∷ []) c.loop-column.invariant.marks ∙ ap (λ (l : List Mark). Blank ∷ l) (sym done.marks);
+      marks = c.in_ok-push_symbol-2.ensures.added ∙ ap (λ (l : List Mark). l ++ CoilPart ∷ CoilPart ∷ CoilPart ∷ []) c.loop-column.invariant.marks ∙ ap (λ (l : List Mark). Blank ∷ l) (sym done.marks);
       quiet = done.quiet;
     }
