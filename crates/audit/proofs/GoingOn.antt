@@ -22,7 +22,7 @@ use Rattle.node_reports.specs.declared.journal.Journal.{Journal}
 use Rattle.node_reports.specs.Journals.{made, received, incarnation_after, with_step, firsts_of, IsLawful}
 use Rattle.node_reports.specs.Stations.{StationValue, PendingValue, IsReceived, IsTold, IsRestarted, IsPending, IsNoted}
 use Rattle.node_reports.specs.declared.run_fault.RunFault.{RunFault}
-use Rattle.node_reports.specs.declared.run_fault.RunFault.TheVariants.{BookDisagrees}
+use Rattle.node_reports.specs.declared.run_fault.RunFault.TheVariants as run
 use Rattle.node_reports.specs.Reports.{entries_of, Agree, IsAgreeFault}
 use Rattle.audit.specs.declared.standing.Standing.{Standing}
 use Rattle.audit.specs.declared.standing.Standing.TheVariants.{Going, Ended}
@@ -530,5 +530,11 @@ pub audited_agree : (plant : PlantValue) (start b : AuditedBook) (followers all 
 audited_agree plant start b followers all journals is same many as_many last stand ends =
     all_agree plant b journals (same.plant_is ∙ ap (λ (x : AuditedBook). x.plant) is) (same.first_is ∙ ap (λ (x : AuditedBook). x.book.first) is) (last ∙ as_many ∙ many) (ends b stand)
 
-pub disagrees_not : (plant : PlantValue) (book : BookValue) (journals : List Journal) (fault : RunFault) → fault ≡ BookDisagrees → IsAgreeFault plant book journals fault → Agree plant book journals → ⊥
-disagrees_not plant book journals fault is given agree = subst (λ (f : RunFault). IsAgreeFault plant book journals f) is given agree
+-- where they agree, there is no reason why they don't
+pub disagrees_not : (plant : PlantValue) (book : BookValue) (journals : List Journal) (fault : RunFault) → IsAgreeFault plant book journals fault → Agree plant book journals → ⊥
+disagrees_not plant book journals run.Memory given agree = given
+disagrees_not plant book journals run.Spawn given agree = given
+disagrees_not plant book journals run.BookDisagrees given agree = given agree
+disagrees_not plant book journals run.Stranger given agree = given
+disagrees_not plant book journals run.Doubled given agree = given
+disagrees_not plant book journals run.Keeper given agree = given

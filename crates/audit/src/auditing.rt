@@ -16,7 +16,7 @@ use crate::reading::{Readings, read_journals};
 use crate::reason::Unshown;
 use crate::telling::{all_unshown, all_without};
 use book::Book;
-use node_reports::{Journal, Journals, PlantBook, RunFault, agreed};
+use node_reports::{Journal, Journals, PlantBook, agreed};
 use plant::Plant;
 use std::alloc::{AllocError, Global};
 use std::sync::Arc;
@@ -145,7 +145,6 @@ pub fn audit(alloc: Global, plant: Arc<Plant>, files: &[JournalFile]) -> Result<
             without,
         }),
         // What each resource makes is entered, so the journals and the book agree.
-        Err(RunFault::BookDisagrees) => unreachable!(),
-        Err(_) => Err(AllocError),
+        Err(_) => unreachable!(),
     }
 }

@@ -183,7 +183,7 @@ text_app =
     with_subcommand (with_subcommand (with_subcommand (with_subcommand plc eval_app.top) verify_app.top) check_app.top)
     plan_app.top
 
--- `plc`, and one of the eight
+-- `plc`, and one of the nine
 abbrev pub plc_app : App
 plc_app =
     let run = with_subcommand (with_subcommand text_app sim_app.top) run_app.top in

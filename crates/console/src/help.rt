@@ -56,13 +56,14 @@ pub const VERIFY_HELP: &str = "\
 Each --never NAME claims that the BOOL variable NAME is never TRUE after a scan, whatever the inputs do and however long
 the drawing runs. The inputs are the BOOL variables that no coil and no output pin stores: each has any value in each scan,
 unless a word NAME=BIT holds it at 0 or 1. At most 20 may be free. A claim is a rung: draw a coil that turns ON where what
-must not happen has happened.
+must not happen has happened. Each scan comes --dt MS after the one before; without --dt no timer ever runs, so give the
+time of your scans wherever there are timers.
 
 A line is written for each claim, in the order given:
 
   HOLDS      it is never TRUE; how many states and scans were looked at
-  FAILS      it is TRUE after a run of scans, and after no shorter one; the words for plc eval and the lines that it
-             writes follow (of at most 1,000 scans)
+  FAILS      it is TRUE after a run of scans, and after no shorter one; the lines of the run follow, and before them,
+             of at most 1,000 scans and with an input, the words with which plc eval makes it
   UNDECIDED  more than N states were met, and the claim is broken in no run of so many scans or fewer
 
 Example:
@@ -191,7 +192,7 @@ use the same DIR or FILE meanwhile.
 
 Example:
 
-  $ printf 'HELLO R2 1\\nEVAL R1.FAST 10 %IX0=1\\n' | plc node examples/pair.plant R1
+  $ printf 'HELLO R2 1\\nEVAL R1.FAST 10 %%IX0=1\\n' | plc node examples/pair.plant R1
   SEND R2 HELLO R1 1
   START R1 1
   HELLO R2 1 new
@@ -227,8 +228,9 @@ memory left.";
 /// What `plc explain --help` tells behind the words.
 pub const EXPLAIN_HELP: &str = "\
 KIND is the kind of a fault as the first line of a message tells it, in either case: Crossing in drawing.ladder:3:14: Crossing;
-or that of a line REFUSED, FAULT or UNSHOWN. What is wrong and how it is mended is written, of a text with an example. A kind that is
-met in several places is told for each of them. Without KIND all kinds are listed, with where they are met.
+or that of a line REFUSED, FAULT or UNSHOWN, of a run without a report, or of a file of a folder of state. What is wrong and
+how it is mended is written, of a text with an example. A kind that is met in several places is told for each of them.
+Without KIND all kinds are listed, with where they are met.
 
 Example:
 

@@ -154,7 +154,7 @@ const STATES: [Remark; 3] = [
     },
     Remark {
         kind: "Unwritable",
-        sentence: "The folder is missing, or NAME.inc can't be replaced in it. No incarnation is lost: make room or leave to write, and run again.",
+        sentence: "The folder is missing, or a file can't be replaced in it: NAME.inc, or at a node NAME.K.ret. No incarnation is used twice, and one may be skipped: make room or leave to write, and begin again.",
     },
     Remark {
         kind: "Spent",

@@ -334,7 +334,7 @@ RESOURCE R1 ON NODE
 END_RESOURCE";
 
 pub const PLANT_WRONG_KIND: &str =
-    "A source on this line isn't of the kind of its input (%IX is a BOOL, %IW an INT, an output what it is declared as), or a block type stands outside VAR or behind RETAIN; bind what has the input's kind.";
+    "A source on this line isn't of the kind of its input (%IX is a BOOL, %IW an INT, an output what it is declared as), or a block type stands outside VAR or behind RETAIN; bind what has the input's kind, and declare blocks in VAR without RETAIN.";
 
 pub const PLANT_WRONG_KIND_REFUSED: &str = "\
 PROGRAM A WITH FAST : COUNT(UP := %IW0);";

@@ -1,4 +1,4 @@
-ghost use Rattle.std.specs.Prelude.{◌≡◌, Ok};
+ghost use Rattle.std.specs.Prelude.{◌≡◌, ◌≤◌, Ok};
 
 use crate::gate::Gate;
 use crate::out_of_turns::OutOfTurns;
@@ -14,7 +14,9 @@ pub struct PacedGate {
 
 impl PacedGate {
     /// A gate that waits for at most so many turns. A turn is one look and one yield.
-    pub fn new(turns: u64) -> PacedGate {
+    pub fn new(turns: u64) -> PacedGate
+        ensures { result.turns ≡ turns }
+    {
         PacedGate {
             turns,
             done: AtomicU64::new(0),
@@ -24,7 +26,9 @@ impl PacedGate {
 
 impl Gate for PacedGate {
     /// Waits until the command before this one is done with.
-    fn issue(&self, ticket: u64) -> Result<(), OutOfTurns> {
+    fn issue(&self, ticket: u64) -> Result<(), OutOfTurns>
+        ensures first { ticket ≤ 1 → result ≡ Ok tt }
+    {
         if ticket <= 1 {
             return Ok(());
         }

@@ -84,7 +84,7 @@ made_again plant max_number book journals fit agree lawful bounds =
 -- where a book and journals don't agree, no report is collected
 pub agree_fault : (plant : PlantValue) (commands : List Command) (book : BookValue) (journals : List Journal) (noted : List NodeFault) (found : RunFault) → IsAgreeFault plant book journals found
     → IsCollectFault plant commands book journals noted found
-agree_fault plant commands book journals noted run.Memory found = tt
+agree_fault plant commands book journals noted run.Memory found = absurd found
 agree_fault plant commands book journals noted run.Spawn found = found
 agree_fault plant commands book journals noted run.BookDisagrees found = found
 agree_fault plant commands book journals noted run.Stranger found = absurd found

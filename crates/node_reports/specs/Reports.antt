@@ -246,9 +246,9 @@ pub record Agree (plant : PlantValue) (book : BookValue) (journals : List Journa
   pub first_is : book.first ≡ firsts_of journals
   pub in_book : AreInBook book.entries journals
 
--- Why a book and journals aren't those of one run: they don't agree. Want of memory may stand in its place.
+-- why a book and journals aren't those of one run: they don't agree
 abbrev pub IsAgreeFault : PlantValue → BookValue → List Journal → RunFault → Type 0
-IsAgreeFault plant book journals run.Memory = Unit {0}
+IsAgreeFault plant book journals run.Memory = ⊥
 IsAgreeFault plant book journals run.Spawn = ⊥
 IsAgreeFault plant book journals run.BookDisagrees = ¬ (Agree plant book journals)
 IsAgreeFault plant book journals run.Stranger = ⊥

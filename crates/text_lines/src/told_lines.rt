@@ -1,3 +1,5 @@
+ghost use Rattle.std.specs.Prelude.{◌≡◌};
+
 use crate::how_far::{HowFar, Progress};
 use std::io;
 use std::io::Write;
@@ -12,7 +14,9 @@ pub struct ToldLines<W, P> {
 
 impl<W: Write, P: Progress> ToldLines<W, P> {
     /// No line went out yet.
-    pub fn new(to: W, progress: P) -> Self {
+    pub fn new(to: W, progress: P) -> Self
+        ensures { result.to ≡ to }
+    {
         ToldLines {
             to,
             progress,
@@ -21,7 +25,9 @@ impl<W: Write, P: Progress> ToldLines<W, P> {
     }
 
     /// No more goes out.
-    pub fn end(&mut self) {
+    pub fn end(&mut self)
+        ensures { self.new.to ≡ self.old.to }
+    {
         self.progress.end();
     }
 }

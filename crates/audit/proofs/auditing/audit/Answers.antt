@@ -29,12 +29,12 @@ agreed-requires-clause-lawful c =
     c.in_ok-followers-2.ensures.plant c.in_ok-followers.ensures.many c.in_ok-followers-2.ensures.many c.in_ok-journals.ensures.many c.in_ok-followers-2.ensures.stand c.in_ok-journals.ensures.journals in
     subst (λ (p : PlantValue). All (IsLawful p (firsts_of journals) 4294967295) journals) (sym c.deref-2.ensures) all.lawful
 
-pub returns-in-Ok-clause-again : goal.returns-in-Ok-clause-again
-returns-in-Ok-clause-again c =
+pub returns-clause-again : goal.returns-clause-again
+returns-clause-again c =
     subst (λ (p : PlantValue). RunsAgain p 4294967295 c.in-Ok.field-0.book c.in-Ok.field-0.journals) c.deref-2.ensures c.in-Ok.ensures.again
 
-pub returns-in-Ok-clause-delivered : goal.returns-in-Ok-clause-delivered
-returns-in-Ok-clause-delivered c =
+pub returns-clause-delivered : goal.returns-clause-delivered
+returns-clause-delivered c =
     let journals = c.in_ok-journals.journals.items in
     let kept = c.in-Ok.ensures.kept in
     let begins : c.in_ok-book.book ≡ empty_book c.args.plant.value = c.in_ok-book.ensures ∙ ap (λ (p : PlantValue). empty_book p) c.in_ok-try_clone.ensures in
@@ -46,16 +46,16 @@ returns-in-Ok-clause-delivered c =
 pub unreachable-requires : goal.unreachable-requires
 unreachable-requires c =
     let journals = c.in_ok-journals.journals.items in
-    let fault = c.in-Err-BookDisagrees.field-0 in
+    let fault = c.in-Err.field-0 in
     let begins : c.in_ok-book.book ≡ empty_book c.args.plant.value = c.in_ok-book.ensures ∙ ap (λ (p : PlantValue). empty_book p) c.in_ok-try_clone.ensures in
     let all = audited_agree c.args.plant.value c.in_ok-book.book c.go_on.new.book c.in_ok-followers.followers.items c.in_ok-followers-2.followers.items journals begins
     c.in_ok-followers-2.ensures.plant c.in_ok-followers.ensures.many c.in_ok-followers-2.ensures.many c.in_ok-journals.ensures.many c.in_ok-followers-2.ensures.stand c.in_ok-journals.ensures.journals in
     let given = subst (λ (p : PlantValue). IsAgreeFault p c.go_on.new.book.book journals fault) c.deref-2.ensures
-    (subst (λ (k : BookValue). IsAgreeFault c.deref-2.result.now k journals fault) c.into_book.ensures.same c.in-Err-BookDisagrees.ensures.fault) in
-    disagrees_not c.args.plant.value c.go_on.new.book.book journals fault c.in-Err-BookDisagrees.field-0-is given all.agree
+    (subst (λ (k : BookValue). IsAgreeFault c.deref-2.result.now k journals fault) c.into_book.ensures.same c.in-Err.ensures.fault) in
+    disagrees_not c.args.plant.value c.go_on.new.book.book journals fault given all.agree
 
-pub returns-in-Ok-clause-told : goal.returns-in-Ok-clause-told
-returns-in-Ok-clause-told c =
+pub returns-clause-told : goal.returns-clause-told
+returns-clause-told c =
     let p = c.args.plant.value in
     let files = c.args.files.now in
     let fs = c.in_ok-followers-2.followers.items in
