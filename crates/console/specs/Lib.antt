@@ -1,6 +1,8 @@
 pub mod CommandLine
 pub mod Answers
 pub mod FieldWords
+pub mod NodeWords
+pub mod Statuses
 pub mod Giving
 pub mod Verifying
 pub mod TracedRun

@@ -1,3 +1,5 @@
+ghost use Rattle.std.specs.Prelude.{◌≡◌};
+
 use traces::TraceTexts;
 
 /// The status of a command, and the texts for the files of its trace.
@@ -9,7 +11,9 @@ pub struct Answered {
 
 impl Answered {
     /// A status, and no texts.
-    pub fn with(status: u8) -> Answered {
+    pub fn with(status: u8) -> Answered
+        ensures { result.status ≡ status }
+    {
         Answered {
             status,
             texts: TraceTexts::none(),

@@ -1,3 +1,6 @@
+ghost use Rattle.std.specs.Prelude.{◌≡◌, IfOk};
+ghost use Rattle.console.specs.Statuses.{status_of_fault, status_of_inputs, status_of_lines, status_of_schedule};
+
 use crate::command_fault::CommandFault;
 use crate::shown::Shown;
 use crate::status::{DIFFERS, FAILED, TEXT_REFUSED, WORD_REFUSED};
@@ -21,7 +24,9 @@ fn print_text_fault<R: Eprint + AllocGlobal>(
     file: &str,
     text: &str,
     fault: TextFault,
-) -> io::Result<u8> {
+) -> io::Result<u8>
+    ensures { IfOk result (λ status. status ≡ 1) }
+{
     let file = Shown(file);
     match fault {
         TextFault::TooLong => eprintln!(rt; "{fault}")?,
@@ -42,7 +47,9 @@ fn print_word_fault<R: Eprint + AllocGlobal>(
     text: &str,
     words: &[&str],
     fault: WordFault,
-) -> io::Result<u8> {
+) -> io::Result<u8>
+    ensures { IfOk result (λ status. status ≡ 2) }
+{
     let word = words.get(fault.number).copied().unwrap_or("");
     let shown = Shown(word);
     eprintln!(rt; "plc: {shown}: {fault}")?;
@@ -53,7 +60,9 @@ fn print_word_fault<R: Eprint + AllocGlobal>(
 }
 
 /// Tells that the output failed, or the threads, or memory; the status.
-pub fn print_failure<R: Eprint>(rt: &R, fault: CommandFault) -> io::Result<u8> {
+pub fn print_failure<R: Eprint>(rt: &R, fault: CommandFault) -> io::Result<u8>
+    ensures { IfOk result (λ status. status ≡ 3) }
+{
     eprintln!(rt; "plc: {fault}")?;
     Ok(FAILED)
 }
@@ -65,7 +74,9 @@ pub fn print_fault<R: Eprint + AllocGlobal>(
     text: &str,
     words: &[&str],
     fault: CommandFault,
-) -> io::Result<u8> {
+) -> io::Result<u8>
+    ensures { IfOk result (λ status. status ≡ status_of_fault fault) }
+{
     match fault {
         CommandFault::Text(fault) => print_text_fault(rt, file, text, fault),
         CommandFault::Word(fault) => print_word_fault(rt, text, words, fault),
@@ -80,14 +91,18 @@ pub(crate) fn print_difference<R: Eprint>(
     rt: &R,
     file: &str,
     difference: &Difference,
-) -> io::Result<u8> {
+) -> io::Result<u8>
+    ensures { IfOk result (λ status. status ≡ 4) }
+{
     let file = Shown(file);
     eprintln!(rt; "{file}: {difference}")?;
     Ok(DIFFERS)
 }
 
 /// Tells why words of field inputs are refused; the status.
-pub(crate) fn print_input_fault<R: Eprint>(rt: &R, fault: InputFault) -> io::Result<u8> {
+pub(crate) fn print_input_fault<R: Eprint>(rt: &R, fault: InputFault) -> io::Result<u8>
+    ensures { IfOk result (λ status. status ≡ status_of_inputs fault) }
+{
     match fault {
         InputFault::Syntax => {
             eprintln!(rt; "plc: a word is no ADDRESS=VALUE such as %IX0=1 or %IW2=-7")?;
@@ -107,7 +122,9 @@ pub(crate) fn print_sim_fault<R: Eprint + AllocGlobal>(
     file: &str,
     schedule: &str,
     fault: SimFault,
-) -> io::Result<u8> {
+) -> io::Result<u8>
+    ensures { IfOk result (λ status. status ≡ status_of_schedule fault) }
+{
     match fault {
         SimFault::Syntax { line } => {
             let file = Shown(file);
@@ -127,7 +144,9 @@ pub(crate) fn print_live_fault<R: Eprint + AllocGlobal>(
     file: &str,
     line: &[u8],
     fault: LiveFault,
-) -> io::Result<u8> {
+) -> io::Result<u8>
+    ensures { IfOk result (λ status. status ≡ status_of_lines fault) }
+{
     match fault {
         LiveFault::Syntax { .. } | LiveFault::TooLong { .. } => {
             eprintln!(rt; "{file}:{fault}")?;

@@ -1,4 +1,6 @@
-ghost use Rattle.std.specs.Prelude.{◌<◌, IfOk, IfSome, length};
+ghost use Rattle.std.specs.Prelude.{IfOk};
+ghost use Rattle.plant.specs.Find.{Finds};
+ghost use Rattle.console.specs.NodeWords.{NamesResource};
 
 use crate::files::file_plant;
 use crate::request::NodeRequest;
@@ -19,7 +21,7 @@ pub struct PreparedNode {
 
 /// The place of the resource of a name; None where the plant has none.
 fn place_of(plant: &Plant, name: &str) -> Option<usize>
-    ensures { IfSome result (λ n. n < length plant.now.resources) }
+    ensures { Finds (NamesResource plant.now name.now) result }
 {
     let place = resource_of(plant, name.as_bytes())?;
     if place < plant.resources() {
@@ -34,7 +36,7 @@ pub fn prepare_node<R: Files + Eprint + AllocGlobal>(
     rt: &R,
     request: &NodeRequest<'_>,
 ) -> io::Result<Result<PreparedNode, u8>>
-    ensures { IfOk result (λ prepared. IfOk prepared (λ p. p.resource < length p.plant.value.resources)) }
+    ensures { IfOk result (λ prepared. IfOk prepared (λ p. NamesResource p.plant.value request.now.resource.now p.resource)) }
 {
     let plant = match file_plant(rt, request.plant)? {
         Ok(plant) => plant,

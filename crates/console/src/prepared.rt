@@ -1,3 +1,7 @@
+ghost use Rattle.std.specs.Prelude.{IfOk};
+ghost use Rattle.evaluation.specs.InputTexts.{IsRead};
+ghost use Rattle.console.specs.FieldWords.{one_text_of};
+
 use crate::faults::print_input_fault;
 use crate::field_words::read_field_words;
 use crate::files::file_plant;
@@ -19,7 +23,9 @@ pub struct Prepared {
 pub fn prepare<R: Files + Eprint + AllocGlobal>(
     rt: &R,
     request: &RunRequest<'_>,
-) -> io::Result<Result<Prepared, u8>> {
+) -> io::Result<Result<Prepared, u8>>
+    ensures { IfOk result (λ prepared. IfOk prepared (λ p. IsRead (one_text_of request.now.words.items) p.inputs)) }
+{
     let inputs = match read_field_words(rt.alloc(), &request.words) {
         Ok(inputs) => inputs,
         Err(fault) => return Ok(Err(print_input_fault(rt, fault)?)),

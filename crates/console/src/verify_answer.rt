@@ -1,5 +1,6 @@
-ghost use Rattle.std.specs.Prelude.{IfOk, IfErr};
+ghost use Rattle.std.specs.Prelude.{◌≡◌, IfOk, IfErr};
 ghost use Rattle.verifying.specs.VerifyText.{ExplainsAnswer, WritesAnswer};
+ghost use Rattle.console.specs.Statuses.{status_of, status_of_question};
 ghost use Rattle.console.specs.Verifying.{asked_question};
 
 use crate::command_fault::CommandFault;
@@ -41,7 +42,9 @@ pub fn obey_verify<W: Write, P: Progress>(
 }
 
 /// The status after all claims were answered.
-fn status_of(summary: Summary) -> u8 {
+fn status_of(summary: Summary) -> u8
+    ensures { result ≡ status_of summary }
+{
     match summary {
         Summary::AllHold => 0,
         Summary::OneFails => CLAIM_FAILS,
@@ -55,7 +58,9 @@ fn print_claim_fault<R: Eprint + AllocGlobal>(
     text: &str,
     names: &[&str],
     fault: ClaimFault,
-) -> io::Result<u8> {
+) -> io::Result<u8>
+    ensures { IfOk result (λ status. status ≡ 2) }
+{
     let name = names.get(fault.number).copied().unwrap_or("");
     let shown = Shown(name);
     eprintln!(rt; "plc: {shown}: {fault}")?;
@@ -66,7 +71,9 @@ fn print_claim_fault<R: Eprint + AllocGlobal>(
 }
 
 /// Tells why a word holds no input; the status.
-fn print_held_fault<R: Eprint>(rt: &R, words: &[&str], fault: HeldFault) -> io::Result<u8> {
+fn print_held_fault<R: Eprint>(rt: &R, words: &[&str], fault: HeldFault) -> io::Result<u8>
+    ensures { IfOk result (λ status. status ≡ 2) }
+{
     let word = Shown(words.get(fault.number).copied().unwrap_or(""));
     eprintln!(rt; "plc: {word}: {fault}")?;
     Ok(WORD_REFUSED)
@@ -78,7 +85,9 @@ fn print_verify_fault<R: Eprint + AllocGlobal>(
     request: &VerifyRequest<'_>,
     text: &str,
     fault: VerifyFault,
-) -> io::Result<u8> {
+) -> io::Result<u8>
+    ensures { IfOk result (λ status. status ≡ status_of_question fault) }
+{
     match fault {
         VerifyFault::Command(fault) => {
             print_fault(rt, request.drawing, text, &request.words, fault.into())

@@ -1,2 +1,3 @@
 pub mod RunExplaining
 pub mod AuditExplaining
+pub mod KeeperNames

@@ -1,5 +1,5 @@
 -- What `plc audit` writes.
-use Rattle.std.specs.Prelude.{ℕ, ◌⊎◌, Bool, List, Option}
+use Rattle.std.specs.Prelude.{◌≡◌, ℕ, ◌⊎◌, Bool, List, Option, map, string_bytes}
 use Rattle.std.specs.Io.KnownBytes.{Keeps}
 use Rattle.plant.specs.PlantValue.{PlantValue}
 use Rattle.node_reports.specs.Reports.{IsFittingBook, AreJournalsOf, AreInBook, RunsAgain, CanBeMadeAgain}
@@ -11,6 +11,10 @@ use Rattle.console.specs.declared.command_fault.CommandFault.{CommandFault}
 use Rattle.console.specs.declared.command_fault.CommandFault.TheVariants.{Text, Word, Write, Run, Memory}
 use Rattle.text_lines.specs.declared.send_fault.SendFault.TheVariants as sending
 use Rattle.run_texts.specs.AuditText.{TellsAudit, TellsAuditPart}
+
+-- the journals have these names, in order
+abbrev pub AreNamed : List JournalFile → List (List ℕ) → Type 0
+AreNamed files names = map (λ (f : JournalFile). string_bytes f.name) files ≡ names
 
 -- What an audit of journals is: what is shown is what they tell, and what isn't is told. Its book fits, its journals are
 -- lawful and made the book's entries, which are a run and could have been made one after the other, and each evaluation

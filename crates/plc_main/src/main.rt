@@ -7,8 +7,13 @@ mod run_command;
 mod told_run;
 mod trace_files;
 
-ghost use Rattle.std.specs.Prelude.{◌≡◌, length, vec_len, IfOk, IfErr};
-ghost use Rattle.plc_main.specs.RunText.{WritesReport, ExplainsRun};
+ghost use Rattle.std.specs.Prelude.{◌≡◌, All, length, map, string_bytes, vec_len, IfOk, IfErr};
+ghost use Rattle.evaluation.specs.InputTexts.{IsRead};
+ghost use Rattle.text_lines.specs.LineParts.{resource_text};
+ghost use Rattle.text_commands.specs.Rows.{texts};
+ghost use Rattle.console.specs.FieldWords.{one_text_of};
+ghost use Rattle.plc_main.specs.AuditCommand.{AreNamed};
+ghost use Rattle.plc_main.specs.RunText.{WritesAskedRun, ExplainsRun};
 
 use audit::JournalFile;
 use audit_command::audit_text;
@@ -32,17 +37,17 @@ use std::process::ExitCode;
 use std::rt::{Clock, Env, Files};
 use std::sync::{Arc, Mutex, Wait};
 use std::thread::Threads;
-use text_lines::OnTerminal;
+use text_lines::{OnTerminal, resource_name};
 use told_run::{ToldGate, UntoldWriter};
 use trace_files::write_files;
-use traces::Wanted;
 
 /// How often a paced command looks, at most, whether the one before it is done.
 const TURNS: u64 = 10_000_000;
 
 /// A keeper for each resource, in memory. The first incarnations are 1, and no retained variables are kept yet.
 fn memory_keepers(alloc: Global, plant: &Plant) -> Result<Vec<MemoryKeeper>, AllocError>
-    ensures { IfOk result (λ keepers. vec_len keepers ≡ length plant.now.resources) }
+    ensures count { IfOk result (λ keepers. vec_len keepers ≡ length plant.now.resources) }
+    ensures first { IfOk result (λ keepers. All (λ k. k.last ≡ 0) keepers.items) }
 {
     let mut keepers = Vec::with_capacity(alloc, plant.resources())?;
     for _resource in 0..plant.resources() {
@@ -58,8 +63,10 @@ fn keeper_in(
     plant: &Plant,
     resource: usize,
     folder: &str,
-) -> Result<FileKeeper<SystemFolder<HostRuntime>>, AllocError> {
-    let name = plant.resource_name(resource).unwrap_or("");
+) -> Result<FileKeeper<SystemFolder<HostRuntime>>, AllocError>
+    ensures { IfOk result (λ k. string_bytes k.resource ≡ resource_text plant.now resource) }
+{
+    let name = resource_name(plant, resource);
     let folder = SystemFolder::new(host.clone()?, folder)?;
     FileKeeper::new(alloc, folder, name)
 }
@@ -71,7 +78,9 @@ fn keepers_in(
     plant: &Plant,
     folder: &str,
 ) -> Result<Vec<FileKeeper<SystemFolder<HostRuntime>>>, AllocError>
-    ensures { IfOk result (λ keepers. vec_len keepers ≡ length plant.now.resources) }
+    ensures count { IfOk result (λ keepers. vec_len keepers ≡ length plant.now.resources) }
+    ensures named { IfOk result (λ keepers.
+        map (λ k. string_bytes k.resource) keepers.items ≡ map (λ r. r.name) plant.now.resources) }
 {
     let mut keepers = Vec::with_capacity(alloc, plant.resources())?;
     for resource in 0..plant.resources() {
@@ -80,25 +89,27 @@ fn keepers_in(
     Ok(keepers)
 }
 
-/// Runs a plant up to the moment that is asked for, and writes what its threads did; whether there was a fault in them.
+/// Runs a plant up to the moment that is asked for, and writes what its threads did; whether there was a fault in them, and
+/// the texts for the files that are asked for.
 fn obey_run<R: AllocGlobal + Threads + Wait + Sync, K: Keeper, G: Gate, W: Write>(
     rt: &R,
     request: &RunRequest<'_>,
     prepared: Prepared,
     keepers: Vec<K>,
     gate: &G,
-    wanted: Wanted<'_>,
     writer: &mut W,
 ) -> Result<Ran, CommandFault>
-    requires { vec_len keepers ≡ length prepared.plant.value.resources }
+    requires keepers { vec_len keepers ≡ length prepared.plant.value.resources }
+    requires words { IsRead (one_text_of request.now.words.items) prepared.inputs }
     ensures ok { IfOk result
-        (WritesReport prepared.plant.value request.now.until prepared.inputs wanted.entry
+        (WritesAskedRun K.last keepers.items prepared.plant.value request.now
         (W.contents writer.old) (W.contents writer.new)) }
     ensures fault { IfErr result
-        (ExplainsRun prepared.plant.value request.now.until prepared.inputs
+        (ExplainsRun K.last keepers.items prepared.plant.value request.now.until prepared.inputs
         (W.contents writer.old) (W.contents writer.new)) }
 {
     let Prepared { plant, inputs } = prepared;
+    let wanted = wanted_for(request.plant, request.files);
     run_text(
         rt,
         rt.alloc(),
@@ -122,14 +133,14 @@ fn run_through<R: Clock + Print + Eprint + AllocGlobal + Threads + Wait + Sync, 
     keepers: Vec<K>,
     gate: &G,
 ) -> Result<Ran, CommandFault>
-    requires { vec_len keepers ≡ length prepared.plant.value.resources }
+    requires keepers { vec_len keepers ≡ length prepared.plant.value.resources }
+    requires words { IsRead (one_text_of request.now.words.items) prepared.inputs }
 {
     let terminal = Mutex::new(OnTerminal::new(rt, told));
     let progress = if told { Some(&terminal) } else { None };
     let gate = ToldGate::new(gate, progress);
     let mut writer = UntoldWriter::new(io::writer(rt), progress);
-    let wanted = wanted_for(request.plant, request.files);
-    let ran = obey_run(rt, request, prepared, keepers, &gate, wanted, &mut writer);
+    let ran = obey_run(rt, request, prepared, keepers, &gate, &mut writer);
     writer.end();
     ran
 }
@@ -143,7 +154,8 @@ fn run_plant<R: Clock + Print + Eprint + AllocGlobal + Threads + Wait + Sync, K:
     prepared: Prepared,
     keepers: Vec<K>,
 ) -> Result<Ran, CommandFault>
-    requires { vec_len keepers ≡ length prepared.plant.value.resources }
+    requires keepers { vec_len keepers ≡ length prepared.plant.value.resources }
+    requires words { IsRead (one_text_of request.now.words.items) prepared.inputs }
 {
     if request.paced {
         let gate = PacedGate::new(TURNS);
@@ -178,7 +190,9 @@ fn run_anew<R: Clock + Print + Eprint + AllocGlobal + Threads + Wait + Sync>(
     told: bool,
     request: &RunRequest<'_>,
     prepared: Prepared,
-) -> io::Result<Answered> {
+) -> io::Result<Answered>
+    requires { IsRead (one_text_of request.now.words.items) prepared.inputs }
+{
     match memory_keepers(rt.alloc(), &prepared.plant) {
         Ok(keepers) => tell_run(rt, run_plant(rt, told, request, prepared, keepers)),
         Err(_) => failed(rt, CommandFault::Memory),
@@ -233,7 +247,7 @@ fn print_resource_faults<R: Eprint + AllocGlobal>(
     folder: &str,
     keeper: &FileKeeper<SystemFolder<HostRuntime>>,
 ) -> io::Result<()> {
-    let name = plant.resource_name(resource).unwrap_or("");
+    let name = resource_name(plant, resource);
     let path = format!(in rt.alloc(); "{folder}/{name}")?;
     if let Err(fault) = keeper.next_number() {
         eprintln!(rt; "plc: {path}.inc: {fault}")?;
@@ -264,7 +278,9 @@ fn run_kept<R: Clock + Print + Eprint + AllocGlobal + Threads + Wait + Sync>(
     request: &RunRequest<'_>,
     prepared: Prepared,
     folder: &str,
-) -> io::Result<Answered> {
+) -> io::Result<Answered>
+    requires { IsRead (one_text_of request.now.words.items) prepared.inputs }
+{
     let _lock = match FolderLock::take(host, folder) {
         Ok(lock) => lock,
         Err(fault) => return Ok(Answered::with(print_lock_fault(rt, folder, fault)?)),
@@ -306,7 +322,9 @@ fn answer_run<R: Files + Clock + Print + Eprint + AllocGlobal + Threads + Wait +
 fn file_journal<R: Files + Eprint + AllocGlobal>(
     rt: &R,
     name: &str,
-) -> io::Result<Result<JournalFile, u8>> {
+) -> io::Result<Result<JournalFile, u8>>
+    ensures { IfOk result (λ read. IfOk read (λ journal. string_bytes journal.name ≡ name.now)) }
+{
     let text = match file_bytes(rt, name)? {
         Ok(text) => text,
         Err(status) => return Ok(Err(status)),
@@ -319,7 +337,9 @@ fn file_journal<R: Files + Eprint + AllocGlobal>(
 fn file_journals<R: Files + Eprint + AllocGlobal>(
     rt: &R,
     names: &[&str],
-) -> io::Result<Result<Vec<JournalFile>, u8>> {
+) -> io::Result<Result<Vec<JournalFile>, u8>>
+    ensures { IfOk result (λ read. IfOk read (λ journals. AreNamed journals.items (texts names.now))) }
+{
     let mut journals = Vec::new(rt.alloc());
     for name in names {
         match file_journal(rt, name)? {

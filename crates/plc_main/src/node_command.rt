@@ -4,6 +4,7 @@ ghost use Rattle.std.specs.Prelude.{◌≡◌, ◌<◌, length, IfOk, IfErr};
 ghost use Rattle.live_node.specs.LiveNode.{WritesNode};
 ghost use Rattle.live_node.specs.NodeAnswers.{a_keeper_gives};
 ghost use Rattle.live_node.specs.Stops.{StopsNode};
+ghost use Rattle.console.specs.NodeWords.{NamesResource};
 ghost use Rattle.plc_main.specs.NodeCommand.{RunsNode, StopsRunning};
 
 use crate::{keeper_in, print_lock_fault, print_resource_faults};
@@ -15,6 +16,7 @@ use std::io;
 use std::io::{BufReader, Read, Write};
 use std::rt::Files;
 use std::sync::Arc;
+use text_lines::resource_name;
 
 /// Why a node isn't run to the end of its lines.
 #[derive(Clone, Copy, Debug, PartialEq, Eq)]
@@ -107,7 +109,7 @@ fn run_noting<R: Input + Print + AllocGlobal, K: Keeper>(
     prepared: PreparedNode,
     keeper: K,
 ) -> Result<(), NodeFault>
-    requires { prepared.resource < length prepared.plant.value.resources }
+    requires { NamesResource prepared.plant.value request.now.resource.now prepared.resource }
 {
     let Some(journal) = request.journal else {
         return run_with(rt, prepared, keeper, NoNotes);
@@ -143,11 +145,11 @@ fn run_kept<R: Input + Print + Eprint + AllocGlobal>(
     prepared: PreparedNode,
     folder: &str,
 ) -> io::Result<u8>
-    requires { prepared.resource < length prepared.plant.value.resources }
+    requires { NamesResource prepared.plant.value request.now.resource.now prepared.resource }
 {
     let resource = prepared.resource;
     let plant = Arc::try_clone(&prepared.plant)?;
-    let name = plant.resource_name(resource).unwrap_or("");
+    let name = resource_name(&plant, resource);
     let _lock = match ResourceLock::take(host, rt.alloc(), folder, name) {
         Ok(lock) => lock,
         Err(fault) => return print_lock_fault(rt, folder, fault),
