@@ -40,10 +40,10 @@ abbrev pub HasFaultlessWords : Tree → Type 0
 HasFaultlessWords tree = (t : Tree) × (words_of t ≡ words_of tree) × IsTreeFaultless t
 
 -- Where the text, but for a carriage return at its end, spells a tree as the grammar has it, whatever its names, of at
--- most 64 program types, and then further words, no body among these: there is such a word, and the tree is without fault.
+-- most 65 program types, and then further words, no body among these: there is such a word, and the tree is without fault.
 abbrev pub IsNotOfGrammar : List ℕ → Type 0
 IsNotOfGrammar text =
-    (tree : Tree) (more : List Token) → length tree.programs ≤ 64 → IsTreeWellFormed tree → list_all is_plain more ≡ true
+    (tree : Tree) (more : List Token) → length tree.programs ≤ 65 → IsTreeWellFormed tree → list_all is_plain more ≡ true
     → Spells (without_last 13 text) (words_of tree ++ more) → (more ≢ []) × HasFaultlessWords tree
 
 -- The text, but for a carriage return at its end, begins with these words, each on its line. A plant, as the grammar has it,
