@@ -263,7 +263,7 @@ returns-in_err-resources-clause-syntax c =
       no_plant = λ tree more few formed plain spelled.
           let start : c.new-reader.result.words ≡ words_of tree ++ more = sym words ∙ c.in_ok-words.ensures.every (words_of tree ++ more) (c.words_behind_are_in_place.ensures tree more few plain) spelled in
           absurd (c.in_err-resources.ensures.syntax (of_syntax word.kind syntax) tree more start formed);
-      first = syntax_first c.args.text.now ws c.new-reader.result word.line words left c.in_ok-words.ensures.spelled c.in_ok-words.ensures.begun c.in_ok-words.ensures.stops c.in_ok-words.ensures.known
+      first = syntax_first c.args.text.now ws c.new-reader.result word.line words left c.in_ok-words.ensures.spelled c.in_ok-words.ensures.begun c.in_ok-words.ensures.stops c.in_ok-words.ensures.known c.in_ok-words.ensures.placed
           (c.in_err-resources.ensures.misplaced (of_syntax word.kind syntax) (subst (λ (r : ReaderValue). length r.words < 2 ^ 63) (sym c.new-reader.ensures) (subst (λ n. n < 2 ^ 63) (sym (length-map c.words-2.result.now (λ (w : WordValue). w.token))) c.words-2.ensures.few)));
     })
 
@@ -301,6 +301,6 @@ returns-in_err-end-clause-syntax c =
           } in
           let of_faultless : HasFaultlessWords tree = (found, append_cancel_right (words_of found) (words_of tree) more both, faultless) in
           ((λ none. c.in_err-end.ensures.err.1 (left ∙ none)), of_faultless);
-      first = syntax_first c.args.text.now ws c.new-reader.result word.line words left c.in_ok-words.ensures.spelled c.in_ok-words.ensures.begun c.in_ok-words.ensures.stops c.in_ok-words.ensures.known
+      first = syntax_first c.args.text.now ws c.new-reader.result word.line words left c.in_ok-words.ensures.spelled c.in_ok-words.ensures.begun c.in_ok-words.ensures.stops c.in_ok-words.ensures.known c.in_ok-words.ensures.placed
           (subst (λ n. MeetsMisplaced c.new-reader.result n) (sym (ap (λ (f : GrammarFault). f.line) c.in_err-end.ensures.err.0)) (c.in_ok-resources.ensures.behind c.in_err-end.ensures.err.1));
     })
