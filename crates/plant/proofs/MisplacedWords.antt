@@ -71,9 +71,9 @@ none_due : (before : List Token) (t : Token) → FitsPlace (is_body_due before) 
 none_due before t fits misfit = elim (cases_Bool (is_body_due before)) [
   | inl due ↦
       let may : may_be_due t ≡ true = subst (λ b. FitsPlace b t) due fits in
-      let no : may_be_due t ≡ false = misfit due in
+      let misses : may_be_due t ≡ false = misfit due in
       absurd cc
-  | inr no ↦ no
+  | inr misses ↦ misses
 ]
 
 -- a word that is no body is plain

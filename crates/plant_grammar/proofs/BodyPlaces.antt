@@ -244,8 +244,8 @@ due_stands _ h n = cc (h)
 -- a word that can't stand where a body is due is none, and begins no block
 pub misfits : (words : List Token) (es : List Expected) (t : Token) → walk whole_plant words ≡ Some es → step es t ≡ None → is_body_due words ≡ true → may_be_due t ≡ false
 misfits words es t e none due = elim (cases_Bool (may_be_due t)) [
-  | inl yes ↦ absurd (due_stands t yes (ap (λ fs. step fs t) (sym (due_expects words es e due)) ∙ none))
-  | inr no ↦ no
+  | inl may ↦ absurd (due_stands t may (ap (λ fs. step fs t) (sym (due_expects words es e due)) ∙ none))
+  | inr misses ↦ misses
 ]
 
 -- no body is due behind a whole plant

@@ -1,23 +1,20 @@
 -- Words stand where they may: a body or a block where a body is due, and a body nowhere else.
-use Rattle.std.proofs.Common.{◌≡◌, ◌≢◌, ◌==◌, ◌<◌, ℕ, Bool, true, false, List, [], ◌∷◌, ◌++◌, length, get_or, map, take_while, codes, Option, Some, None, IfSome, Result, Ok, Err, IfOk, ◌⊎◌, inl, inr, refl, ap, sym, subst, ◌∙◌, append_assoc, arith}
+use Rattle.std.proofs.Common.{◌≡◌, ◌≢◌, ◌==◌, ℕ, true, false, List, [], ◌∷◌, ◌++◌, map, codes, Option, Some, None, IfSome, Result, Ok, Err, IfOk, ◌⊎◌, inl, inr, refl, ap, sym, subst, ◌∙◌, append_assoc}
 use Rattle.std.specs.Char.{to_ascii_lowercase}
 use Rattle.std.proofs.lemmas.Bool.{and_parts, cases_Bool, ne_eqb}
-use Rattle.std.proofs.lemmas.List.{append-nil}
 use Rattle.std.proofs.lemmas.Slice.Eq.{bytes_eq-Decides}
-use Rattle.words.specs.Chars.{same_word}
 use Rattle.words.proofs.DurationWords.{duration_spelled}
 use Rattle.plant_text.specs.declared.token.Token.{Token}
 use Rattle.plant_text.specs.declared.token.Token.TheVariants as token
 use Rattle.plant_text.specs.declared.token.Keyword.{Keyword}
 use Rattle.plant_text.specs.declared.token.Keyword.TheVariants as key
-use Rattle.plant_text.specs.declared.lexer.Stage.TheVariants as stage
 use Rattle.plant_text.specs.Words.{is_name_char, program_keyword, configuration_keyword, task_keyword, keyword, word_of}
 use Rattle.plant_text.specs.Spelling.{is_parted, IsGap, BeginsNoBlock}
-use Rattle.plant_text.specs.Places.{is_due, is_body, may_be_due, FitsPlace, stage_after_all, is_body_due}
+use Rattle.plant_text.specs.Places.{is_due, is_body, may_be_due, FitsPlace, is_body_due}
 use Rattle.plant_text.specs.Lines.{WordValue, AreInTheirPlaces}
 use Rattle.plant_text.specs.Steps.Gaps.{IsBehindGap}
 use Rattle.plant_text.specs.Steps.Lexing.{letters, begins_block, is_section, LexerValue, IsWordThen, IsNoBodyThere, StandsInPlace}
-use Rattle.plant_text.proofs.FirstWords.{are_letters, IsLetters, keyword_letters, keyword-word_of, word_of-body, letters_end, parted_letters, lower_letter, take_while-yes, take_while-no}
+use Rattle.plant_text.proofs.FirstWords.{are_letters, keyword-word_of, word_of-body, letters_end, parted_letters, lower_letter, take_while-yes, take_while-no}
 use Rattle.plant_text.proofs.WordShapes.{IsOfKind, known_kind, is_mark}
 use Rattle.plant_text.proofs.BodyLines.{begins_none}
 use Rattle.plant_text.proofs.LineCounts.{tokens, AreKnown}
@@ -33,15 +30,15 @@ letters_before : (u f x : List ℕ) → are_letters u ≡ true → map to_ascii_
 letters_before [] [] x h e = absurd cc
 letters_before [] (c ∷ f) x h e =
     let first : to_ascii_lowercase c ≡ 35 = cc in
-    let no : is_name_char c ≡ false = sym (lower_letter c) ∙ ap is_name_char first in
-    ap (map to_ascii_lowercase) (take_while-no is_name_char c (f ++ x) no)
+    let misses : is_name_char c ≡ false = sym (lower_letter c) ∙ ap is_name_char first in
+    ap (map to_ascii_lowercase) (take_while-no is_name_char c (f ++ x) misses)
 letters_before (d ∷ u) [] x h e = absurd cc
 letters_before (d ∷ u) (c ∷ f) x h e =
     let parts = and_parts (is_name_char d) (are_letters u) h in
     let first : to_ascii_lowercase c ≡ d = cc in
     let more : map to_ascii_lowercase f ≡ u ++ 35 ∷ [] = cc in
-    let yes : is_name_char c ≡ true = sym (lower_letter c) ∙ ap is_name_char first ∙ parts.0 in
-    ap (map to_ascii_lowercase) (take_while-yes is_name_char c (f ++ x) yes) ∙ ap (λ b. b ∷ map to_ascii_lowercase (letters (f ++ x))) first ∙ ap (λ bs. d ∷ bs) (letters_before u f x parts.1 more)
+    let holds : is_name_char c ≡ true = sym (lower_letter c) ∙ ap is_name_char first ∙ parts.0 in
+    ap (map to_ascii_lowercase) (take_while-yes is_name_char c (f ++ x) holds) ∙ ap (λ b. b ∷ map to_ascii_lowercase (letters (f ++ x))) first ∙ ap (λ bs. d ∷ bs) (letters_before u f x parts.1 more)
 
 -- what begins with letters before a `#` that are no keyword of a block begins no block
 no_block_before : (u f x : List ℕ) → are_letters u ≡ true → map to_ascii_lowercase u ≡ u → begins_block (keyword u) ≡ false → map to_ascii_lowercase f ≡ u ++ 35 ∷ [] → begins_block (keyword (letters (f ++ x))) ≡ false
@@ -60,25 +57,25 @@ unfolding keyword program_keyword configuration_keyword task_keyword
 nothing_is_none = refl
 
 no_letter : (c : ℕ) (x : List ℕ) → is_name_char c ≡ false → begins_block (keyword (letters (c ∷ x))) ≡ false
-no_letter c x no = ap (λ w. begins_block (keyword w)) (take_while-no is_name_char c x no) ∙ nothing_is_none
+no_letter c x misses = ap (λ w. begins_block (keyword w)) (take_while-no is_name_char c x misses) ∙ nothing_is_none
 
 mark_no_letter : (c : ℕ) → is_mark c ≡ true → is_name_char c ≡ false
 mark_no_letter c m = elim (cases_Bool (is_name_char c)) [
-  | inl yes ↦ absurd (no_both yes)
-  | inr no ↦ no
+  | inl holds ↦ absurd (no_both holds)
+  | inr misses ↦ misses
 ]
   where
     apart : (k : ℕ) → is_name_char c ≡ true → is_name_char k ≡ false → (c == k) ≡ false
-    apart k yes no = ne_eqb c k (λ e. let same : is_name_char c ≡ is_name_char k = ap is_name_char e in absurd cc)
+    apart k holds misses = ne_eqb c k (λ e. let same : is_name_char c ≡ is_name_char k = ap is_name_char e in absurd cc)
 
     no_both : is_name_char c ≡ true → ⊥
-    no_both yes =
-        let a = apart 40 yes refl in
-        let b = apart 41 yes refl in
-        let d = apart 58 yes refl in
-        let f = apart 59 yes refl in
-        let g = apart 44 yes refl in
-        let h = apart 46 yes refl in
+    no_both holds =
+        let a = apart 40 holds refl in
+        let b = apart 41 holds refl in
+        let d = apart 58 holds refl in
+        let f = apart 59 holds refl in
+        let g = apart 44 holds refl in
+        let h = apart 46 holds refl in
         let none : is_mark c ≡ false = rw (a, b, d, f, g, h) refl in
         cc
 
@@ -120,8 +117,8 @@ word_there old passing new inner front w ei g ep then known =
     let is_known : word_of h.0 ≢ token.Unknown = λ u. known (sym h.2 ∙ u) in (
       no_body_word w.token (λ b e. word_of-body h.0 b (h.2 ∙ e)),
       λ block. elim (cases_Bool (begins_block (keyword (letters front)))) [
-        | inl yes ↦ ap is_section (sym h.2) ∙ block_word h.0 new.text is_known h.3 (subst (λ x. begins_block (keyword (letters x)) ≡ true) text yes)
-        | inr no ↦ absurd (block (subst BeginsNoBlock (sym ei) (begins_none inner front g no)))
+        | inl holds ↦ ap is_section (sym h.2) ∙ block_word h.0 new.text is_known h.3 (subst (λ x. begins_block (keyword (letters x)) ≡ true) text holds)
+        | inr misses ↦ absurd (block (subst BeginsNoBlock (sym ei) (begins_none inner front g misses)))
       ],
     )
 
@@ -139,8 +136,8 @@ no_gap = ([], tt, refl)
 pub placed_elsewhere : (old : LexerValue) (found : Option WordValue) → (is_due old.stage ≡ true → old.text ≡ []) → (IsGap old.text → found ≡ None) → IfSome found (λ w. IsNoBodyThere old w) → IfSome found (λ w. StandsInPlace old w)
 placed_elsewhere old None due none there = tt
 placed_elsewhere old (Some w) due none there = λ known. elim (cases_Bool (is_due old.stage)) [
-  | inl yes ↦ absurd (let nothing : ◌≡◌ {A = Option WordValue} (Some w) None = none (subst IsGap (sym (due yes)) no_gap) in cc)
-  | inr no ↦ subst (λ b. FitsPlace b w.token) (sym no) (there known).0
+  | inl holds ↦ absurd (let nothing : ◌≡◌ {A = Option WordValue} (Some w) None = none (subst IsGap (sym (due holds)) no_gap) in cc)
+  | inr misses ↦ subst (λ b. FitsPlace b w.token) (sym misses) (there known).0
 ]
 
 section_may : (t : Token) → is_section t ≡ true → may_be_due t ≡ true
