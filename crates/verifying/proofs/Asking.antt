@@ -119,18 +119,22 @@ held_refused drawing q ds networks marks rows (Held fault) ladder are read refus
       };
     }
 
-claims_refused : (drawing : List ℕ) (q : QuestionValue) (ds : List Declaration) (networks : List Diagram) (marks : List Bool) (fault : VerifyFault) → IsLadderOfDrawing drawing ds networks
-    → AreLadderMarks ds networks marks → ClaimsRefused ds marks q.claims fault → RefusesPreparing drawing q fault
-claims_refused drawing q ds networks marks (Command (Text fault)) ladder are refused = absurd refused
-claims_refused drawing q ds networks marks (Command (Word fault)) ladder are refused = absurd refused
-claims_refused drawing q ds networks marks (Command Write) ladder are refused = absurd refused
-claims_refused drawing q ds networks marks (Command Memory) ladder are refused = tt
-claims_refused drawing q ds networks marks (Held fault) ladder are refused = absurd refused
-claims_refused drawing q ds networks marks (TooManyInputs count) ladder are refused = absurd refused
-claims_refused drawing q ds networks marks (Claim fault) ladder are refused = record {
+claims_refused : (drawing : List ℕ) (q : QuestionValue) (ds : List Declaration) (networks : List Diagram) (marks : List Bool) (held : List Setting) (fault : VerifyFault) → IsLadderOfDrawing drawing ds networks
+    → AreLadderMarks ds networks marks → AreHeldBy ds marks q.words held → ClaimsRefused ds marks q.claims fault → RefusesPreparing drawing q fault
+claims_refused drawing q ds networks marks held (Command (Text fault)) ladder are by refused = absurd refused
+claims_refused drawing q ds networks marks held (Command (Word fault)) ladder are by refused = absurd refused
+claims_refused drawing q ds networks marks held (Command Write) ladder are by refused = absurd refused
+claims_refused drawing q ds networks marks held (Command Memory) ladder are by refused = tt
+claims_refused drawing q ds networks marks held (Held fault) ladder are by refused = absurd refused
+claims_refused drawing q ds networks marks held (TooManyInputs count) ladder are by refused = absurd refused
+claims_refused drawing q ds networks marks held (Claim fault) ladder are by refused = record {
   declarations = ds;
   networks = networks;
   ladder = ladder;
+  rows = by.rows;
+  read = by.read;
+  held = held;
+  holds = held_of ds networks marks q.words by.rows held are by.read.each by.each;
   first = record {
     name = refused.name;
     at = refused.at;
@@ -185,15 +189,15 @@ holding_refused drawing q ds networks marks (Claim fault) ladder are refused = a
 holding_refused drawing q ds networks marks (Held fault) ladder are refused = held_refused drawing q ds networks marks refused.rows (Held fault) ladder are refused.read refused.first
 holding_refused drawing q ds networks marks (TooManyInputs count) ladder are refused = absurd refused
 
-free_refused : (drawing : List ℕ) (q : QuestionValue) (ds : List Declaration) (networks : List Diagram) (marks : List Bool) (held : List Setting) (fault : VerifyFault) → IsLadderOfDrawing drawing ds networks
-    → AreLadderMarks ds networks marks → AreHeldBy ds marks q.words held → RefusesFree ds marks held fault → RefusesPreparing drawing q fault
-free_refused drawing q ds networks marks held (Command (Text fault)) ladder are by refused = absurd refused
-free_refused drawing q ds networks marks held (Command (Word fault)) ladder are by refused = absurd refused
-free_refused drawing q ds networks marks held (Command Write) ladder are by refused = absurd refused
-free_refused drawing q ds networks marks held (Command Memory) ladder are by refused = tt
-free_refused drawing q ds networks marks held (Claim fault) ladder are by refused = absurd refused
-free_refused drawing q ds networks marks held (Held fault) ladder are by refused = absurd refused
-free_refused drawing q ds networks marks held (TooManyInputs count) ladder are by refused = record {
+free_refused : (drawing : List ℕ) (q : QuestionValue) (ds : List Declaration) (networks : List Diagram) (marks : List Bool) (held : List Setting) (places : List ℕ) (fault : VerifyFault) → IsLadderOfDrawing drawing ds networks
+    → AreLadderMarks ds networks marks → AreHeldBy ds marks q.words held → ClaimsRead ds marks q.claims places → RefusesFree ds marks held fault → RefusesPreparing drawing q fault
+free_refused drawing q ds networks marks held places (Command (Text fault)) ladder are by claimed refused = absurd refused
+free_refused drawing q ds networks marks held places (Command (Word fault)) ladder are by claimed refused = absurd refused
+free_refused drawing q ds networks marks held places (Command Write) ladder are by claimed refused = absurd refused
+free_refused drawing q ds networks marks held places (Command Memory) ladder are by claimed refused = tt
+free_refused drawing q ds networks marks held places (Claim fault) ladder are by claimed refused = absurd refused
+free_refused drawing q ds networks marks held places (Held fault) ladder are by claimed refused = absurd refused
+free_refused drawing q ds networks marks held places (TooManyInputs count) ladder are by claimed refused = record {
   declarations = ds;
   networks = networks;
   ladder = ladder;
@@ -201,6 +205,8 @@ free_refused drawing q ds networks marks held (TooManyInputs count) ladder are b
   read = by.read;
   held = held;
   holds = held_of ds networks marks q.words by.rows held are by.read.each by.each;
+  places = places;
+  claims = claims_of ds networks marks q.claims places are claimed;
   free = refused.free;
   are_free = free_of ds networks marks held refused.free are refused.are;
   many = refused.many;
@@ -210,8 +216,8 @@ free_refused drawing q ds networks marks held (TooManyInputs count) ladder are b
 pub asking_refused : (drawing : List ℕ) (q : QuestionValue) (ds : List Declaration) (networks : List Diagram) (marks : List Bool) (fault : VerifyFault) → IsLadderOfDrawing drawing ds networks
     → AreLadderMarks ds networks marks → RefusesAsking ds marks q fault → RefusesPreparing drawing q fault
 asking_refused drawing q ds networks marks fault ladder are (inl refused) = holding_refused drawing q ds networks marks fault ladder are refused
-asking_refused drawing q ds networks marks fault ladder are (inr (inl refused)) = claims_refused drawing q ds networks marks fault ladder are refused
-asking_refused drawing q ds networks marks fault ladder are (inr (inr refused)) = free_refused drawing q ds networks marks refused.held fault ladder are refused.by refused.refused
+asking_refused drawing q ds networks marks fault ladder are (inr (inl refused)) = claims_refused drawing q ds networks marks refused.held fault ladder are refused.by refused.refused
+asking_refused drawing q ds networks marks fault ladder are (inr (inr refused)) = free_refused drawing q ds networks marks refused.held refused.claims fault ladder are refused.by refused.claimed refused.refused
 
 inputs_of : (ds : List Declaration) (networks : List Diagram) (words : List (List ℕ)) (rows : List RowValue) (held : List Setting) (free : List ℕ) → AllZip (IsRow ds) words rows
     → AllZip (HoldsInput ds networks) rows held → AreFree ds networks held free → length free ≤ 20 → AreInputs ds networks free held
