@@ -274,20 +274,20 @@ leads_whole : (u : SetupValue) (s : Moment) (rows : List (List Bool)) (t : Momen
 leads_whole u s [] t leads = λ k d lt. absurd (omega arith)
 leads_whole u s (row ∷ rows) t (between, scan, rest) = λ k d lt. whole_more u row rows scan.whole (leads_whole u between rows t rest) k d lt
 
-fits_of : (u : SetupValue) (most place : ℕ) (v : Verdict) → IsVerdict u most place v → FitsSetup u v
-fits_of u most place Holds is = tt
-fits_of u most place (Fails rows) is = leads_whole u _ rows.items is.last is.run
-fits_of u most place (Undecided depth) is = tt
+fits_of : (u : SetupValue) (most scans place : ℕ) (v : Verdict) → IsVerdict u most scans place v → FitsSetup u v
+fits_of u most scans place Holds is = tt
+fits_of u most scans place (Fails rows) is = leads_whole u _ rows.items is.last is.run
+fits_of u most scans place (Undecided depth) is = tt
 
-pub verdicts_fit : (u : SetupValue) (most : ℕ) (places : List ℕ) (verdicts : List Verdict) → AreVerdicts u most places verdicts → All (FitsSetup u) verdicts
-verdicts_fit u most places verdicts are = λ k d lt.
+pub verdicts_fit : (u : SetupValue) (most scans : ℕ) (places : List ℕ) (verdicts : List Verdict) → AreVerdicts u most scans places verdicts → All (FitsSetup u) verdicts
+verdicts_fit u most scans places verdicts are = λ k d lt.
     let inside : k < length places = let l = are.long in omega arith in
-    fits_of u most (get_or places k 0) (get_or verdicts k d) (are.each k (get_or places k 0) (get_or verdicts k d) (slice_get-get_or places k 0 inside) (slice_get-get_or verdicts k d lt))
+    fits_of u most scans (get_or places k 0) (get_or verdicts k d) (are.each k (get_or places k 0) (get_or verdicts k d) (slice_get-get_or places k 0 inside) (slice_get-get_or verdicts k d lt))
 
 -- a verdict for each name
-pub names_long : (u : SetupValue) (most : ℕ) (names : List (Bor (List ℕ))) (places : List ℕ) (verdicts : List Verdict) → AllZip (IsClaim u.ladder.declarations u.ladder.networks) (texts names) places
-    → AreVerdicts u most places verdicts → length verdicts ≡ length names
-names_long u most names places verdicts claims are =
+pub names_long : (u : SetupValue) (most scans : ℕ) (names : List (Bor (List ℕ))) (places : List ℕ) (verdicts : List Verdict) → AllZip (IsClaim u.ladder.declarations u.ladder.networks) (texts names) places
+    → AreVerdicts u most scans places verdicts → length verdicts ≡ length names
+names_long u most scans names places verdicts claims are =
     are.long ∙ sym (zip_length (IsClaim u.ladder.declarations u.ladder.networks) (texts names) places claims) ∙ length-map names (λ w. w.now)
 
 -- before anything is written

@@ -40,9 +40,9 @@ pub record IsAnswer (drawing : List ℕ) (q : QuestionValue) (text : List ℕ) :
   pub places : List ℕ
   pub claims : AllZip (IsClaim setup.ladder.declarations setup.ladder.networks) q.claims places
   pub verdicts : List Verdict
-  pub proved : AreVerdicts setup q.most_states places verdicts
   pub states : ℕ
   pub scans : ℕ
+  pub proved : AreVerdicts setup q.most_states scans places verdicts
   pub counts : All (AreCounts setup q.most_states states scans) verdicts
   pub texts : AreTexts setup q.file states scans q.claims verdicts text
 
