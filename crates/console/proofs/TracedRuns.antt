@@ -12,6 +12,7 @@ use Rattle.world.specs.declared.simulation.Simulated.{Simulated}
 use Rattle.world.specs.Simulated.{HasRun, WritesFirst, WritesRun, from_one}
 use Rattle.world.specs.LiveRun.{EndsLiveRun, HasLiveRun}
 use Rattle.world.specs.declared.live_fault.LiveFault.TheVariants.{Memory}
+use Rattle.world.proofs.LiveEnding.{words_of_each}
 use Rattle.traces.specs.declared.texts.TraceTexts.{TraceTexts}
 use Rattle.traces.specs.Moments.{of_events}
 use Rattle.traces.specs.Texts.{AreOutputTexts}
@@ -33,9 +34,15 @@ run_first plant most schedule old new r =
 pub no_texts : (plant : PlantValue) (most : ℕ) (schedule : List ℕ) (old new : Option (List ℕ)) (ended : Simulated) → HasRun plant most schedule old new ended → WritesFirst plant most schedule old new
 no_texts plant most schedule old new ended h = run_first plant most schedule old new h.run
 
-pub no_live_texts : (plant : PlantValue) (most : ℕ) (given left old new : Option (List ℕ)) (ended : Simulated) → HasLiveRun plant most given left old new ended → EndsLiveRun plant most given left old new Memory
-no_live_texts plant most given left old new ended h =
-    record { schedule = h.schedule; read = h.read; stops = run_first plant most h.schedule old new h.run.run }
+pub no_live_texts : (plant : PlantValue) (most : ℕ) (given left : Option (List ℕ)) (last : List ℕ) (old new : Option (List ℕ)) (ended : Simulated) → HasLiveRun plant most given left old new ended
+    → EndsLiveRun plant most given left last old new Memory
+unfolding run_first
+no_live_texts plant most given left last old new ended h =
+    record {
+      schedule = h.schedule;
+      read = h.read;
+      stops = (run_first plant most h.schedule old new h.run.run, omega (arith, words_of_each h.schedule));
+    }
 
 -- the texts of what stands at the end are those of the schedule's events
 texts_of : (plant : PlantValue) (request : SimRequest) (schedule : List ℕ) (old new : Option (List ℕ)) (ended : Simulated) (texts : TraceTexts) (h : HasRun plant request.max_number schedule old new ended) → AreEndTexts request ended texts

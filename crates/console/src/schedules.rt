@@ -87,7 +87,7 @@ pub fn obey_lines<R: Read, W: Write>(
         (WritesTracedLines plant.value request.now (R.remaining input.old) (R.remaining input.new)
         (W.contents writer.old) (W.contents writer.new)) }
     ensures fault { IfErr result
-        (EndsLiveRun plant.value request.now.max_number (R.remaining input.old) (R.remaining input.new)
+        (EndsLiveRun plant.value request.now.max_number (R.remaining input.old) (R.remaining input.new) line.new.items
         (W.contents writer.old) (W.contents writer.new)) }
 {
     let ended = simulate_world_in_turns(alloc, plant, request.max_number, line, input, writer)?;

@@ -1,12 +1,15 @@
 -- Where a Syntax stands.
-use Rattle.std.proofs.Common.{◌≡◌, ◌≢◌, ◌⊎◌, inl, inr, ℕ, List, [], ◌∷◌, ◌++◌, map, length, refl, sym, ap, subst, ◌∙◌, append_assoc, arith}
-use Rattle.std.proofs.lemmas.List.{length-append, map-append}
+use Rattle.std.proofs.Common.{◌≡◌, ◌≢◌, ◌⊎◌, inl, inr, ℕ, true, false, List, [], ◌∷◌, ◌++◌, map, length, refl, sym, ap, subst, ◌∙◌, append_assoc, arith}
+use Rattle.std.proofs.lemmas.Bool.{cases_Bool}
+use Rattle.std.proofs.lemmas.List.{append_cancel_left, length-append, map-append}
 use Rattle.std.proofs.lemmas.List.Elements.{All-head}
 use Rattle.lists.proofs.Members.{all_first, all_last}
 use Rattle.words.specs.Lines.{without_last}
 use Rattle.plant_text.specs.declared.token.Token.{Token}
 use Rattle.plant_text.specs.declared.token.Token.TheVariants as token
-use Rattle.plant_text.specs.Lines.{WordValue, IsSpelledBy, IsBegunBy, BeginsWithWordsThen, HasNoWordBehind, IsStoppedBy, AreWordsButLast}
+use Rattle.plant_text.specs.Places.{is_body, may_be_due, FitsPlace, is_body_due}
+use Rattle.plant_text.specs.Lines.{WordValue, IsSpelledBy, IsBegunBy, BeginsWithWordsThen, HasNoWordBehind, IsStoppedBy, AreWordsButLast, AreInTheirPlaces}
+use Rattle.plant_grammar.specs.WellFormed.{is_plain}
 use Rattle.plant_grammar.specs.GoesOn.{GoesOn, IsLastMisplaced}
 use Rattle.plant_grammar.specs.Steps.Lines.{ReaderValue, HasLinesOf}
 use Rattle.plant_grammar.specs.Steps.Declaring.{BeginWith, IsLineBefore}
@@ -56,33 +59,61 @@ unknown_last ws before (b ∷ back) w words e unknown =
     let known : AreKnown (map token_of before ++ w.token ∷ map token_of l.0) = subst AreKnown (map-append token_of before (w ∷ l.0)) (words (before ++ w ∷ l.0) l.1 parts) in
     absurd (All-head IsKnown w.token (map token_of l.0) (all_last IsKnown (map token_of before) (w.token ∷ map token_of l.0) known) unknown)
 
+-- lists with an item behind them that are one have one last item
+last_is : (xs ys : List Token) (x y : Token) → xs ++ x ∷ [] ≡ ys ++ y ∷ [] → x ≡ y
+last_is xs ys x y e =
+    let same : ys ++ x ∷ [] ≡ ys ++ y ∷ [] = ap (λ zs. zs ++ x ∷ []) (sym (front_is xs ys x y e)) ∙ e in
+    let ends : x ∷ [] ≡ y ∷ [] = append_cancel_left ys (x ∷ []) (y ∷ []) same in
+    cc
+
+-- where a word is misplaced, no body is due
+none_due : (before : List Token) (t : Token) → FitsPlace (is_body_due before) t → (is_body_due before ≡ true → may_be_due t ≡ false) → is_body_due before ≡ false
+none_due before t fits misfit = elim (cases_Bool (is_body_due before)) [
+  | inl due ↦
+      let may : may_be_due t ≡ true = subst (λ b. FitsPlace b t) due fits in
+      let misses : may_be_due t ≡ false = misfit due in
+      absurd cc
+  | inr misses ↦ misses
+]
+
+-- a word that is no body is plain
+plain_word : (t : Token) → t ≢ token.Unknown → is_body t ≡ false → is_plain t ≡ true
+plain_word (token.Body b) known none = absurd cc
+plain_word token.Unknown known none = absurd (known refl)
+plain_word _ known none = refl
+
 -- what is known of the words read says where the first misplaced one stands
-pub syntax_first : (text : List ℕ) (ws : List WordValue) (r : ReaderValue) (line : ℕ) → map (λ (w : WordValue). w.token) ws ≡ r.words → HasLinesOf (map (λ (w : WordValue). w.line) ws) r → IsSpelledBy (without_last 13 text) ws → IsBegunBy (without_last 13 text) ws → IsStoppedBy (without_last 13 text) ws → AreWordsButLast ws
+pub syntax_first : (text : List ℕ) (ws : List WordValue) (r : ReaderValue) (line : ℕ) → map (λ (w : WordValue). w.token) ws ≡ r.words → HasLinesOf (map (λ (w : WordValue). w.line) ws) r → IsSpelledBy (without_last 13 text) ws → IsBegunBy (without_last 13 text) ws → IsStoppedBy (without_last 13 text) ws → AreWordsButLast ws → AreInTheirPlaces ws
     → MeetsMisplaced r line → IsMisplacedIn text line ⊎ (IsUnknownIn text line ⊎ EndsEarly text)
-syntax_first text ws r line words lines spelled begun stopped last_one (inl g) =
+syntax_first text ws r line words lines spelled begun stopped last_one in_places (inl g) =
     let tokens = map (λ (w : WordValue). w.token) ws in
     let here : GoesOn tokens = subst GoesOn (sym words) g in
     inr (inr (tokens, spelled (goes_on_known tokens here), here))
-syntax_first text ws r line words lines spelled begun stopped last_one (inr b) =
+syntax_first text ws r line words lines spelled begun stopped last_one in_places (inr b) =
     let line_of : WordValue → ℕ = λ (w : WordValue). w.line in
     let here : BeginWith (IsLineBefore (map line_of ws) line) IsLastMisplaced r.words =
     record { front = b.front; rest = b.rest; parts = b.parts; holds = b.holds; behind = b.behind (map line_of ws) lines } in
     of_cut (cut_at_line IsLastMisplaced ws line r.words words here)
   where
-    is : (cut : CutAtLine IsLastMisplaced ws line) → GoesOn (map (λ (w : WordValue). w.token) cut.before) → (cut.word.token ≡ token.Unknown) ⊎ (cut.word.token ≢ token.Unknown) → IsMisplacedIn text line ⊎ (IsUnknownIn text line ⊎ EndsEarly text)
-    is cut goes_on (inr known) =
+    is : (cut : CutAtLine IsLastMisplaced ws line) → GoesOn (map (λ (w : WordValue). w.token) cut.before) → (is_body_due (map (λ (w : WordValue). w.token) cut.before) ≡ true → may_be_due cut.word.token ≡ false) → (cut.word.token ≡ token.Unknown) ⊎ (cut.word.token ≢ token.Unknown) → IsMisplacedIn text line ⊎ (IsUnknownIn text line ⊎ EndsEarly text)
+    is cut goes_on misfit (inr known) =
         let token_of : WordValue → Token = λ (w : WordValue). w.token in
         let words : AreKnown (map token_of (cut.before ++ cut.word ∷ [])) = subst AreKnown (sym (map-append token_of cut.before (cut.word ∷ []))) (both (map token_of cut.before) (cut.word.token ∷ []) (goes_on_known (map token_of cut.before) goes_on) (behind cut.word.token [] known nothing)) in
+        let parts : ws ≡ cut.before ++ cut.word ∷ cut.back = cut.parts ∙ append_assoc cut.before (cut.word ∷ []) cut.back in
+        let fits = in_places cut.before cut.back cut.word parts known in
+        let elsewhere = none_due (map token_of cut.before) cut.word.token fits misfit in
         inl (record {
           before = cut.before;
           word = cut.word;
           begun = begun (cut.before ++ cut.word ∷ []) cut.back cut.parts words;
           known = known;
+          elsewhere = elsewhere;
+          plain = plain_word cut.word.token known (subst (λ b. FitsPlace b cut.word.token) elsewhere fits);
           goes_on = goes_on;
           misplaced = cut.holds.misplaced;
           line_is = cut.line_is;
         })
-    is cut goes_on (inl unknown) =
+    is cut goes_on misfit (inl unknown) =
         let parts : ws ≡ cut.before ++ cut.word ∷ cut.back = cut.parts ∙ append_assoc cut.before (cut.word ∷ []) cut.back in
         let none = unknown_last ws cut.before cut.back cut.word last_one parts unknown in
         let alone : ws ≡ cut.before ++ cut.word ∷ [] = parts ∙ ap (λ back. cut.before ++ cut.word ∷ back) none in
@@ -96,5 +127,7 @@ syntax_first text ws r line words lines spelled begun stopped last_one (inr b) =
     of_cut cut =
         let token_of : WordValue → Token = λ (w : WordValue). w.token in
         let before : map token_of cut.before ≡ cut.holds.before = front_is (map token_of cut.before) cut.holds.before cut.word.token cut.holds.word (sym (map-append token_of cut.before (cut.word ∷ [])) ∙ cut.holds.parts) in
+        let word : cut.word.token ≡ cut.holds.word = last_is (map token_of cut.before) cut.holds.before cut.word.token cut.holds.word (sym (map-append token_of cut.before (cut.word ∷ [])) ∙ cut.holds.parts) in
         let goes_on = subst GoesOn (sym before) cut.holds.goes_on in
-        is cut goes_on (unknown_or_known cut.word.token)
+        let misfit : is_body_due (map token_of cut.before) ≡ true → may_be_due cut.word.token ≡ false = λ due. ap may_be_due word ∙ cut.holds.misfit (ap is_body_due (sym before) ∙ due) in
+        is cut goes_on misfit (unknown_or_known cut.word.token)

@@ -48,7 +48,7 @@ tells_no_name word.NameTwice tells of = tells
 tells_no_name word.UnknownName tells of = tells
 tells_no_name word.WrongKind tells of = tells
 tells_no_name word.InputBoundTwice tells of = tells
-tells_no_name word.TooMany tells of = tells
+tells_no_name word.TooMany tells of = tells.0
 tells_no_name word.Memory tells of = of
 
 -- a fault that tells of no name

@@ -1,5 +1,5 @@
 -- The plant that a text is.
-use Rattle.std.specs.Prelude.{◌≡◌, ◌≢◌, ◌⊎◌, ◌≤◌, ◌++◌, ℕ, List, [], ◌∷◌, true, length, map, All}
+use Rattle.std.specs.Prelude.{◌≡◌, ◌≢◌, ◌⊎◌, ◌≤◌, ◌++◌, ℕ, List, [], ◌∷◌, true, false, length, map, All}
 use Rattle.std.specs.List.{flat_map, list_all}
 use Rattle.words.specs.Lines.{without_last}
 use Rattle.plant_text.specs.declared.token.Token.{Token}
@@ -16,6 +16,7 @@ use Rattle.plant_grammar.specs.WellFormed.{is_plain, IsTreeWellFormed}
 use Rattle.plant_grammar.specs.Parts.{IsSameTree}
 use Rattle.plant.specs.Ladders.{HasLadder}
 use Rattle.plant.specs.BodyFaults.{IsFirstBodyFault}
+use Rattle.plant_text.specs.Places.{is_body_due}
 use Rattle.plant_text.specs.Spelling.{Spells}
 use Rattle.plant_text.specs.Lines.{WordValue, body_lines, BeginsWithWords, BeginsWithWordsThen, HasNoWordBehind}
 use Rattle.plant_grammar.specs.GoesOn.{GoesOn}
@@ -40,19 +41,22 @@ abbrev pub HasFaultlessWords : Tree → Type 0
 HasFaultlessWords tree = (t : Tree) × (words_of t ≡ words_of tree) × IsTreeFaultless t
 
 -- Where the text, but for a carriage return at its end, spells a tree as the grammar has it, whatever its names, of at
--- most 64 program types, and then further words, no body among these: there is such a word, and the tree is without fault.
+-- most 65 program types, and then further words, no body among these: there is such a word, and the tree is without fault.
 abbrev pub IsNotOfGrammar : List ℕ → Type 0
 IsNotOfGrammar text =
-    (tree : Tree) (more : List Token) → length tree.programs ≤ 64 → IsTreeWellFormed tree → list_all is_plain more ≡ true
+    (tree : Tree) (more : List Token) → length tree.programs ≤ 65 → IsTreeWellFormed tree → list_all is_plain more ≡ true
     → Spells (without_last 13 text) (words_of tree ++ more) → (more ≢ []) × HasFaultlessWords tree
 
 -- The text, but for a carriage return at its end, begins with these words, each on its line. A plant, as the grammar has it,
--- goes on from those before the last, and none from all of them; the line is that of the last.
+-- goes on from those before the last, and none from all of them; the line is that of the last. No body is due there, and
+-- the last is none.
 pub record IsMisplacedIn (text : List ℕ) (line : ℕ) : Type 0 where
   pub before : List WordValue
   pub word : WordValue
   pub begun : BeginsWithWords (without_last 13 text) (before ++ word ∷ [])
   pub known : word.token ≢ token.Unknown
+  pub elsewhere : is_body_due (map (λ (w : WordValue). w.token) before) ≡ false
+  pub plain : is_plain word.token ≡ true
   pub goes_on : GoesOn (map (λ (w : WordValue). w.token) before)
   pub misplaced : GoesOn (map (λ (w : WordValue). w.token) (before ++ word ∷ [])) → ⊥
   pub line_is : line ≡ word.line

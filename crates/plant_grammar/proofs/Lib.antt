@@ -11,6 +11,7 @@ pub mod WalkedResources
 pub mod FirstWords
 pub mod Endings
 pub mod DecodedWords
+pub mod BodyPlaces
 pub mod MisplacedWords
 pub mod RefusedNames
 pub mod RefusedPlaces

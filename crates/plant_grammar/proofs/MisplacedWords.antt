@@ -22,6 +22,7 @@ use Rattle.plant_grammar.proofs.ExpectedWords.{walk_append, stuck_behind}
 use Rattle.plant_grammar.proofs.DecodedWords.{goes_on}
 use Rattle.plant_grammar.proofs.WalkedPrograms.{programs_walked, stuck_behind_programs, lawful_program_formed}
 use Rattle.plant_grammar.proofs.WalkedResources.{configured_walked, formed_resources}
+use Rattle.plant_grammar.proofs.BodyPlaces.{misfits, none_due}
 
 -- a word that can't stand there ends the walk
 walk_unexpected : (es : List Expected) (t : Token) (more : List Token) → step es t ≡ None → walk es (t ∷ more) ≡ None
@@ -74,6 +75,7 @@ meets_misplaced r line few (inr b) =
         parts = b.holds.parts;
         goes_on = goes_on b.holds.before b.holds.expected (omega (arith, few, all)) b.holds.walked;
         misplaced = unexpected_ends b.front b.holds;
+        misfit = misfits b.holds.before b.holds.expected b.holds.word b.holds.walked b.holds.unexpected;
       };
       behind = b.behind;
     })
@@ -152,6 +154,7 @@ misplaced_behind tree old new e keeps lawful some = on new.words refl
             let whole : words_of tree ++ t ∷ g.1 ≡ words_of g.0 ++ [] = sym (append_assoc (words_of tree) (t ∷ []) g.1) ∙ sym g.2 ∙ sym (append-nil (words_of g.0)) in
             let none : t ∷ g.1 ≡ [] = (one_tree tree g.0 (t ∷ g.1) [] whole).0 in
             cc;
+        misfit = λ due. absurd (none_due (words_of tree) (tree_walked tree (tree_formed tree lawful)) due);
       };
       behind = λ all h. line_before all new (next_line new) (keeps all h) refl t more is;
     })

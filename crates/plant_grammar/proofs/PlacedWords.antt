@@ -141,7 +141,7 @@ program_placed p rest n few a =
     subst (λ (ts : List Token). AreInPlace stage.BodyDue n ts) (sym e) (blocks_placed p.blocks.items (token.Body p.body ∷ key_word key.EndProgram ∷ rest) n few behind) in
     ((λ e. cc, λ d. absurd cc), ((λ e. cc, λ d. absurd cc), body))
 
-programs_placed : (ps : List Program) (rest : List Token) (n : ℕ) → n + length ps ≤ 64 → ((k : ℕ) → AreInPlace stage.Outside k rest) → AreInPlace stage.Outside n (flat_map program_words ps ++ rest)
+programs_placed : (ps : List Program) (rest : List Token) (n : ℕ) → n + length ps ≤ 65 → ((k : ℕ) → AreInPlace stage.Outside k rest) → AreInPlace stage.Outside n (flat_map program_words ps ++ rest)
 programs_placed [] rest n few a = a n
 programs_placed (p ∷ ps) rest n few a =
     let e : flat_map program_words (p ∷ ps) ++ rest ≡ program_words p ++ (flat_map program_words ps ++ rest) = ap (λ ts. ts ++ rest) (flat_map-cons program_words p ps) ∙ append_assoc (program_words p) (flat_map program_words ps) rest in
@@ -193,15 +193,15 @@ resources_plain : (rs : List Resource) → list_all is_plain (resources_words rs
 resources_plain [] = refl
 resources_plain (r ∷ rs) = both is_plain (resource_words r) (resources_words rs) (resource_plain r) (resources_plain rs)
 
--- the words of a tree of at most 64 program types
-pub tree_placed : (tree : Tree) → length tree.programs ≤ 64 → AreWordsInPlace (words_of tree)
+-- the words of a tree of at most 65 program types
+pub tree_placed : (tree : Tree) → length tree.programs ≤ 65 → AreWordsInPlace (words_of tree)
 unfolding words_of
 tree_placed tree few =
     programs_placed tree.programs (key_word key.Configuration ∷ token.Name tree.name ∷ resources_words tree.resources) 0 (omega (arith, few))
     (λ k. ((λ e. cc, λ d. absurd cc), in_configuration (token.Name tree.name ∷ resources_words tree.resources) k (resources_plain tree.resources)))
 
 -- and plain words behind it
-pub tree_placed_before : (tree : Tree) (more : List Token) → length tree.programs ≤ 64 → list_all is_plain more ≡ true → AreWordsInPlace (words_of tree ++ more)
+pub tree_placed_before : (tree : Tree) (more : List Token) → length tree.programs ≤ 65 → list_all is_plain more ≡ true → AreWordsInPlace (words_of tree ++ more)
 tree_placed_before tree more few plain =
     let end = token.Name tree.name ∷ (resources_words tree.resources ++ more) in
     subst AreWordsInPlace (sym (tree_parts_of tree more))

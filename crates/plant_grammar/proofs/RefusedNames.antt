@@ -12,9 +12,10 @@ use Rattle.plant_text.specs.declared.token.Punctuation.TheVariants.{Comma}
 use Rattle.plant_grammar.specs.declared.grammar.tree.Bind.{Bind}
 use Rattle.plant_grammar.specs.Grammar.{mark_word, name_words, bind_words, with_commas}
 use Rattle.plant_grammar.specs.WordFaults.{IsGrammarFault}
-use Rattle.plant_grammar.specs.NameFaults.{IsOfName, Tells, TellsOfName, IsNameTaken, IsRefused, IsMisused, IsUnknown, IsAfter, IsAfterAll, IsAfterName, IsAfterWhole, name_and_comma, bind_and_comma}
+use Rattle.plant_grammar.specs.NameFaults.{IsOfName, Tells, TellsOfName, TellsOfSoughtName, IsNameTaken, IsRefused, IsMisused, IsUnknown, IsAfter, IsAfterAll, IsAfterName, IsAfterWhole, name_and_comma, bind_and_comma}
 use Rattle.plant_grammar.specs.Steps.Lines.{ReaderValue}
 use Rattle.plant_grammar.specs.Steps.Declaring.{RepeatsName, IsNameNext, MissesName, BeginWith, BeginRefusedBehind}
+use Rattle.plant_grammar.proofs.NewNames.{one_name}
 
 -- a kind that tells of no name
 kind_no_name : (k : GrammarFaultKind) → TellsOfName k ⊥ ⊥ → IsOfName k → ⊥
@@ -23,7 +24,7 @@ kind_no_name kind.NameTwice tells of = tells
 kind_no_name kind.UnknownName tells of = tells
 kind_no_name kind.WrongKind tells of = tells
 kind_no_name kind.InputBoundTwice tells of = tells
-kind_no_name kind.TooMany tells of = tells
+kind_no_name kind.TooMany tells of = tells.0
 kind_no_name kind.Memory tells of = of
 
 -- a fault that tells of no name
@@ -37,37 +38,42 @@ memory_no_name fault m of = subst IsOfName m of
 -- a name that is refused stands next
 pub name_next : {R : List Token → Type 0} (k : GrammarFaultKind) (words : List Token) (there : (t : Token) (rest : List Token) → words ≡ t ∷ rest → R rest) (Taken : List ℕ → Type 0) (full : Type 0) (Twice : Type 0)
     → (Twice → (name : List ℕ) × (rest : List Token) × (words ≡ token.Name name ∷ rest) × Taken name)
+    → ((name : List ℕ) (rest : List Token) → words ≡ token.Name name ∷ rest → Taken name → Twice)
     → TellsOfName k Twice (IsNameNext words × full) → IsOfName k → BeginWith R (IsRefused k Taken full) words
-name_next kind.Syntax words there Taken full Twice two tells of = absurd of
-name_next kind.NameTwice words there Taken full Twice two tells of =
+name_next kind.Syntax words there Taken full Twice two back tells of = absurd of
+name_next kind.NameTwice words there Taken full Twice two back tells of =
     let found = two tells in
     record { front = token.Name found.0 ∷ []; rest = found.1; parts = found.2; holds = record { name = found.0; alone = refl; told = found.3 }; behind = there (token.Name found.0) found.1 found.2 }
-name_next kind.UnknownName words there Taken full Twice two tells of = absurd tells
-name_next kind.WrongKind words there Taken full Twice two tells of = absurd tells
-name_next kind.InputBoundTwice words there Taken full Twice two tells of = absurd tells
-name_next kind.TooMany words there Taken full Twice two tells of =
-    let next = tells.0 in
-    record { front = token.Name next.0 ∷ []; rest = next.1; parts = next.2; holds = record { name = next.0; alone = refl; told = tells.1 }; behind = there (token.Name next.0) next.1 next.2 }
-name_next kind.Memory words there Taken full Twice two tells of = absurd of
+name_next kind.UnknownName words there Taken full Twice two back tells of = absurd tells
+name_next kind.WrongKind words there Taken full Twice two back tells of = absurd tells
+name_next kind.InputBoundTwice words there Taken full Twice two back tells of = absurd tells
+name_next kind.TooMany words there Taken full Twice two back tells of =
+    let next = tells.0.0 in
+    let told : full × (Taken next.0 → ⊥) = (tells.0.1, λ taken. tells.1 (back next.0 next.1 next.2 taken)) in
+    record { front = token.Name next.0 ∷ []; rest = next.1; parts = next.2; holds = record { name = next.0; alone = refl; told = told }; behind = there (token.Name next.0) next.1 next.2 }
+name_next kind.Memory words there Taken full Twice two back tells of = absurd of
 
 -- a name that isn't declared, that is bound already or is one too many stands next
 pub misused_next : {R : List Token → Type 0} (k : GrammarFaultKind) (words : List Token) (there : (t : Token) (rest : List Token) → words ≡ t ∷ rest → R rest) (Unknown Bound : List ℕ → Type 0) (full missing bound : Type 0)
     → (missing → (name : List ℕ) × (rest : List Token) × (words ≡ token.Name name ∷ rest) × Unknown name)
+    → ((name : List ℕ) (rest : List Token) → words ≡ token.Name name ∷ rest → Unknown name → missing)
     → (bound → (name : List ℕ) × (rest : List Token) × (words ≡ token.Name name ∷ rest) × Bound name)
-    → Tells k ⊥ missing ⊥ bound (IsNameNext words × full) → IsOfName k → BeginWith R (IsMisused k Unknown Bound full) words
-misused_next kind.Syntax words there Unknown Bound full missing bound um bm tells of = absurd of
-misused_next kind.NameTwice words there Unknown Bound full missing bound um bm tells of = absurd tells
-misused_next kind.UnknownName words there Unknown Bound full missing bound um bm tells of =
+    → ((name : List ℕ) (rest : List Token) → words ≡ token.Name name ∷ rest → Bound name → bound)
+    → TellsOfSoughtName k missing bound (IsNameNext words × full) → IsOfName k → BeginWith R (IsMisused k Unknown Bound full) words
+misused_next kind.Syntax words there Unknown Bound full missing bound um mu bm mb tells of = absurd of
+misused_next kind.NameTwice words there Unknown Bound full missing bound um mu bm mb tells of = absurd tells
+misused_next kind.UnknownName words there Unknown Bound full missing bound um mu bm mb tells of =
     let found = um tells in
     record { front = token.Name found.0 ∷ []; rest = found.1; parts = found.2; holds = record { name = found.0; alone = refl; told = found.3 }; behind = there (token.Name found.0) found.1 found.2 }
-misused_next kind.WrongKind words there Unknown Bound full missing bound um bm tells of = absurd tells
-misused_next kind.InputBoundTwice words there Unknown Bound full missing bound um bm tells of =
+misused_next kind.WrongKind words there Unknown Bound full missing bound um mu bm mb tells of = absurd tells
+misused_next kind.InputBoundTwice words there Unknown Bound full missing bound um mu bm mb tells of =
     let found = bm tells in
     record { front = token.Name found.0 ∷ []; rest = found.1; parts = found.2; holds = record { name = found.0; alone = refl; told = found.3 }; behind = there (token.Name found.0) found.1 found.2 }
-misused_next kind.TooMany words there Unknown Bound full missing bound um bm tells of =
-    let next = tells.0 in
-    record { front = token.Name next.0 ∷ []; rest = next.1; parts = next.2; holds = record { name = next.0; alone = refl; told = tells.1 }; behind = there (token.Name next.0) next.1 next.2 }
-misused_next kind.Memory words there Unknown Bound full missing bound um bm tells of = absurd of
+misused_next kind.TooMany words there Unknown Bound full missing bound um mu bm mb tells of =
+    let next = tells.0.0 in
+    let told : full × (Unknown next.0 → ⊥) × (Bound next.0 → ⊥) = (tells.0.1, λ u. tells.1 (mu next.0 next.1 next.2 u), λ b. tells.2 (mb next.0 next.1 next.2 b)) in
+    record { front = token.Name next.0 ∷ []; rest = next.1; parts = next.2; holds = record { name = next.0; alone = refl; told = told }; behind = there (token.Name next.0) next.1 next.2 }
+misused_next kind.Memory words there Unknown Bound full missing bound um mu bm mb tells of = absurd of
 
 -- a name that none of these has stands next
 pub unknown_next : {R : List Token → Type 0} {A : Type 0} (k : GrammarFaultKind) (words : List Token) (there : (t : Token) (rest : List Token) → words ≡ t ∷ rest → R rest) (name_of : A → List ℕ) (xs : List A)
@@ -89,7 +95,7 @@ unknown_here {R = R} k is words there name_of xs miss = subst (λ (j : GrammarFa
 -- a name that is refused stands next, and one of these has it
 pub name_repeated : {R : List Token → Type 0} {A : Type 0} (k : GrammarFaultKind) (words : List Token) (there : (t : Token) (rest : List Token) → words ≡ t ∷ rest → R rest) (name_of : A → List ℕ) (xs : List A) (full : Type 0)
     → TellsOfName k (RepeatsName name_of xs words) (IsNameNext words × full) → IsOfName k → BeginWith R (IsRefused k (IsNameTaken name_of xs) full) words
-name_repeated k words there name_of xs full tells of = name_next k words there (IsNameTaken name_of xs) full (RepeatsName name_of xs words) (λ r. r) tells of
+name_repeated k words there name_of xs full tells of = name_next k words there (IsNameTaken name_of xs) full (RepeatsName name_of xs words) (λ r. r) (λ name rest e taken. (name, rest, e, taken)) tells of
 
 -- whatever holds of the front, so does what follows from it
 pub begin_with : {R : List Token → Type 0} (P Q : List Token → Type 0) (words : List Token) → ((front : List Token) → P front → Q front) → BeginWith R P words → BeginWith R Q words
@@ -168,17 +174,26 @@ memory_excused Q (Ok x) h = tt
 memory_excused Q (Err fault) h = λ known. absurd (known h.0)
 
 -- more that each of the two kinds tells
-pub tells_with : (k : GrammarFaultKind) (twice full twice_too full_too : Type 0) → (twice → twice_too) → (full → full_too) → TellsOfName k twice full → TellsOfName k twice_too full_too
-tells_with kind.Syntax a b c d f g h = tt
-tells_with kind.NameTwice a b c d f g h = f h
-tells_with kind.UnknownName a b c d f g h = h
-tells_with kind.WrongKind a b c d f g h = h
-tells_with kind.InputBoundTwice a b c d f g h = h
-tells_with kind.TooMany a b c d f g h = g h
-tells_with kind.Memory a b c d f g h = tt
+pub tells_with : (k : GrammarFaultKind) (twice full twice_too full_too : Type 0) → (twice → twice_too) → (twice_too → twice) → (full → full_too) → TellsOfName k twice full → TellsOfName k twice_too full_too
+tells_with kind.Syntax a b c d f back g h = tt
+tells_with kind.NameTwice a b c d f back g h = f h
+tells_with kind.UnknownName a b c d f back g h = h
+tells_with kind.WrongKind a b c d f back g h = h
+tells_with kind.InputBoundTwice a b c d f back g h = h
+tells_with kind.TooMany a b c d f back g h = (g h.0, λ too. h.1 (back too))
+tells_with kind.Memory a b c d f back g h = tt
 
 -- what is told of the name that stands next
-pub tells_next : {A : Type 0} (k : GrammarFaultKind) (name_of : A → List ℕ) (xs : List A) (name : List ℕ) (words rest : List Token) (twice full many : Type 0) → words ≡ token.Name name ∷ rest → (twice → IsNameTaken name_of xs name) → (full → many)
+pub tells_next : {A : Type 0} (k : GrammarFaultKind) (name_of : A → List ℕ) (xs : List A) (name : List ℕ) (words rest : List Token) (twice full many : Type 0) → words ≡ token.Name name ∷ rest → (twice → IsNameTaken name_of xs name) → (IsNameTaken name_of xs name → twice) → (full → many)
     → TellsOfName k twice full → TellsOfName k (RepeatsName name_of xs words) (IsNameNext words × many)
-tells_next k name_of xs name words rest twice full many e is_taken is_full tells =
-    tells_with k twice full (RepeatsName name_of xs words) (IsNameNext words × many) (λ t. (name, rest, e, is_taken t)) (λ f. ((name, rest, e), is_full f)) tells
+tells_next k name_of xs name words rest twice full many e is_taken is_twice is_full tells =
+    tells_with k twice full (RepeatsName name_of xs words) (IsNameNext words × many) (λ t. (name, rest, e, is_taken t))
+    (λ found. let same : found.0 ≡ name = one_name name found.0 words rest found.1 e found.2 in is_twice (subst (λ n. IsNameTaken name_of xs n) same found.3))
+    (λ f. ((name, rest, e), is_full f)) tells
+
+-- one too many is told of a name that none of these has
+pub too_many_next : {A : Type 0} (k : GrammarFaultKind) (name_of : A → List ℕ) (xs : List A) (name : List ℕ) (words rest : List Token) (many : Type 0) → k ≡ kind.TooMany → words ≡ token.Name name ∷ rest → (IsNameTaken name_of xs name → ⊥) → many
+    → TellsOfName k (RepeatsName name_of xs words) (IsNameNext words × many)
+too_many_next k name_of xs name words rest many is e new full =
+    subst (λ (j : GrammarFaultKind). TellsOfName j (RepeatsName name_of xs words) (IsNameNext words × many)) (sym is)
+    (tells_next kind.TooMany name_of xs name words rest (IsNameTaken name_of xs name) many many e (λ taken. taken) (λ taken. taken) (λ more. more) (full, new))

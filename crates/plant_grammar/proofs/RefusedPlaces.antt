@@ -27,10 +27,14 @@ use Rattle.plant_grammar.specs.Kinds.{input_kind_of}
 use Rattle.declared_names.specs.Kinds.{kind_of_space}
 use Rattle.plant_grammar.specs.Names.{is_named}
 use Rattle.plant_grammar.specs.Lawful.{list_variables, block_variables, variables, IsTypeLawful, task_of, use_of, uses_of}
-use Rattle.plant_grammar.specs.NameFaults.{IsOfName, Tells, TellsOfName, IsNameTaken, IsRefused, IsUnknown, IsAfter, IsAfterAll, IsAfterName, IsAfterType, name_and_comma, bind_and_comma, RefusesVariable, RefusesType, RefusesOneList, RefusesList, RefusesBlock, RefusesBlocks, RefusesProgramName, RefusesProgram, RefusesTask, RefusesInput, RefusesAddress, RefusesOneBind, RefusesBind, RefusesTyped, RefusesBinds, RefusesInstanceName, RefusesInstance, RefusesItems, RefusesResourceName, RefusesResource, RefusesResources, RefusesBehind}
+use Rattle.plant_grammar.specs.NameFaults.{IsOfName, Tells, TellsOfName, TellsOfSoughtName, IsNameTaken, IsRefused, IsUnknown, IsAfter, IsAfterAll, IsAfterName, IsAfterType, name_and_comma, bind_and_comma, RefusesVariable, RefusesType, RefusesOneList, RefusesList, RefusesBlock, RefusesBlocks, RefusesProgramName, RefusesProgram, RefusesTask, RefusesInput, RefusesAddress, RefusesOneBind, RefusesBind, RefusesTyped, RefusesBinds, RefusesInstanceName, RefusesInstance, RefusesItems, RefusesResourceName, RefusesResource, RefusesResources, RefusesBehind}
 use Rattle.plant_grammar.specs.Steps.Declaring.{RepeatsName, IsNameNext, MissesInput, BeginWith, RefusesItem, RefusesFurtherProgram, RefusesPlantWords}
 use Rattle.plant_grammar.specs.Steps.ReadParts.{TallyValue, tally_with}
-use Rattle.plant_grammar.proofs.RefusedNames.{name_next, misused_next, name_repeated, begin_with, begin_after, begin_after_all, begin_after_name, begin_behind, names_and_commas, binds_and_commas}
+use Rattle.declared_names.specs.Names.{IsDeclared}
+use Rattle.plant_grammar.specs.Steps.SameNames.{named_back}
+use Rattle.plant_grammar.proofs.Apart.{any_with}
+use Rattle.plant_grammar.proofs.NewNames.{one_name}
+use Rattle.plant_grammar.proofs.RefusedNames.{tells_with, name_next, misused_next, name_repeated, begin_with, begin_after, begin_after_all, begin_after_name, begin_behind, names_and_commas, binds_and_commas}
 
 -- either of two holds of the front
 pub begin_left : {R : List Token → Type 0} (P Q : List Token → Type 0) (words : List Token) → BeginWith R P words → BeginWith R (λ w. P w ⊎ Q w) words
@@ -47,13 +51,34 @@ two_ways : (before : List Declaration) (names : List (List ℕ)) (words : List T
 two_ways before names words (inl r) = (r.0, r.1, r.2, inl r.3)
 two_ways before names words (inr r) = (r.0, r.1, r.2, inr r.3)
 
+two_back : (before : List Declaration) (names : List (List ℕ)) (words : List Token) (name : List ℕ) (rest : List Token) → words ≡ token.Name name ∷ rest → taken_of before names name
+    → RepeatsName (λ (v : Declaration). v.name) before words ⊎ RepeatsName (λ (m : List ℕ). m) names words
+two_back before names words name rest e (inl taken) = inl (name, rest, e, taken)
+two_back before names words name rest e (inr taken) = inr (name, rest, e, taken)
+
+-- what is told of a variable that stands next
+pub variable_told : (k : GrammarFaultKind) (vs : List Declaration) (names : List (List ℕ)) (name : List ℕ) (words rest : List Token) (many : Type 0) → words ≡ token.Name name ∷ rest
+    → TellsOfName k (IsDeclared vs name ⊎ IsNameTaken (λ (m : List ℕ). m) names name) many
+    → TellsOfName k (RepeatsName (λ (v : Declaration). v.name) vs words ⊎ RepeatsName (λ (m : List ℕ). m) names words) (IsNameNext words × many)
+variable_told k vs names name words rest many e tells =
+    tells_with k (IsDeclared vs name ⊎ IsNameTaken (λ (m : List ℕ). m) names name) many (RepeatsName (λ (v : Declaration). v.name) vs words ⊎ RepeatsName (λ (m : List ℕ). m) names words) (IsNameNext words × many)
+    repeated taken (λ m. ((name, rest, e), m)) tells
+  where
+    repeated : IsDeclared vs name ⊎ IsNameTaken (λ (m : List ℕ). m) names name → RepeatsName (λ (v : Declaration). v.name) vs words ⊎ RepeatsName (λ (m : List ℕ). m) names words
+    repeated (inl early) = inl (name, rest, e, any_with _ _ vs (λ v h. named_back v.name name h) early)
+    repeated (inr late) = inr (name, rest, e, late)
+
+    taken : RepeatsName (λ (v : Declaration). v.name) vs words ⊎ RepeatsName (λ (m : List ℕ). m) names words → IsDeclared vs name ⊎ IsNameTaken (λ (m : List ℕ). m) names name
+    taken (inl r) = inl (subst (λ n. IsDeclared vs n) (one_name name r.0 words rest r.1 e r.2) (any_with _ _ vs (λ v h. named_back r.0 v.name h) r.3))
+    taken (inr r) = inr (subst (λ n. IsNameTaken (λ (m : List ℕ). m) names n) (one_name name r.0 words rest r.1 e r.2) r.3)
+
 -- a variable behind the names of its list
 pub variable_refused : {R : List Token → Type 0} (k : GrammarFaultKind) (before : List Declaration) (names : List (List ℕ)) (start now : List Token) (there : (t : Token) (rest : List Token) → now ≡ t ∷ rest → R rest) → start ≡ flat_map name_and_comma names ++ now
     → TellsOfName k (RepeatsName (λ (v : Declaration). v.name) before now ⊎ RepeatsName (λ (m : List ℕ). m) names now) (IsNameNext now × (1000 ≤ length before + length names)) → IsOfName k → BeginWith R (RefusesVariable k before) start
 unfolding RefusesVariable
 variable_refused k before names start now there e tells of =
     begin_behind name_and_comma (λ ns more. IsRefused k (taken_of before ns) (1000 ≤ length before + length ns) more) names start now e
-    (name_next k now there (taken_of before names) (1000 ≤ length before + length names) (RepeatsName (λ (v : Declaration). v.name) before now ⊎ RepeatsName (λ (m : List ℕ). m) names now) (two_ways before names now) tells of)
+    (name_next k now there (taken_of before names) (1000 ≤ length before + length names) (RepeatsName (λ (v : Declaration). v.name) before now ⊎ RepeatsName (λ (m : List ℕ). m) names now) (two_ways before names now) (two_back before names now) tells of)
 
 -- the first name of a list
 pub first_variable : {R : List Token → Type 0} (k : GrammarFaultKind) (before : List Declaration) (names : List (List ℕ)) (start : List Token) (there : (t : Token) (rest : List Token) → start ≡ t ∷ rest → R rest) → names ≡ []
@@ -145,10 +170,10 @@ task_refused k before start now there e tells of = let tasks = flat_map task_of 
 
 -- the input of a bind
 pub input_refused : {R : List Token → Type 0} (k : GrammarFaultKind) (n : ℕ) (ds : List Declaration) (before : List Bind) (words : List Token) (there : (t : Token) (rest : List Token) → words ≡ t ∷ rest → R rest)
-    → Tells k ⊥ (MissesInput ds words) ⊥ (RepeatsName (λ (b : Bind). b.input) before words) (IsNameNext words × (4096 ≤ n)) → IsOfName k → BeginWith R (RefusesOneBind n ds before k) words
+    → TellsOfSoughtName k (MissesInput ds words) (RepeatsName (λ (b : Bind). b.input) before words) (IsNameNext words × (4096 ≤ n)) → IsOfName k → BeginWith R (RefusesOneBind n ds before k) words
 input_refused k n ds before words there tells of =
     begin_left (RefusesInput k n ds before) (RefusesAddress k ds) words
-    (misused_next k words there (λ name. input_kind_of ds name ≡ None) (IsNameTaken (λ (b : Bind). b.input) before) (4096 ≤ n) (MissesInput ds words) (RepeatsName (λ (b : Bind). b.input) before words) (λ m. m) (λ r. r) tells of)
+    (misused_next k words there (λ name. input_kind_of ds name ≡ None) (IsNameTaken (λ (b : Bind). b.input) before) (4096 ≤ n) (MissesInput ds words) (RepeatsName (λ (b : Bind). b.input) before words) (λ m. m) (λ name rest e u. (name, rest, e, u)) (λ r. r) (λ name rest e b. (name, rest, e, b)) tells of)
 
 abbrev wrong_address : Kind → List Token → Type 0
 wrong_address its words = (a : Address) × (rest : List Token) × (words ≡ token.Address a ∷ rest) × (kind_of_space a.space ≢ its)

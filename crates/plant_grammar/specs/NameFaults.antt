@@ -48,28 +48,34 @@ Tells kind.InputBoundTwice twice unknown wrong bound full = bound
 Tells kind.TooMany twice unknown wrong bound full = full
 Tells kind.Memory twice unknown wrong bound full = Unit {0}
 
--- of these kinds it is NameTwice or TooMany alone, and each only where this holds
+-- of these kinds it is NameTwice or TooMany alone, each only where this holds, and TooMany only where the first doesn't
 abbrev pub TellsOfName : GrammarFaultKind → Type 0 → Type 0 → Type 0
-TellsOfName k twice full = Tells k twice ⊥ ⊥ ⊥ full
+TellsOfName k twice full = Tells k twice ⊥ ⊥ ⊥ (full × (twice → ⊥))
+
+-- of these kinds it is UnknownName, InputBoundTwice or TooMany alone, each only where this holds, and TooMany only where
+-- neither of the others does
+abbrev pub TellsOfSoughtName : GrammarFaultKind → Type 0 → Type 0 → Type 0 → Type 0
+TellsOfSoughtName k unknown bound full = Tells k ⊥ unknown ⊥ bound (full × (unknown → ⊥) × (bound → ⊥))
 
 -- one of these has the name, in whatever case
 abbrev pub IsNameTaken : {A : Type 0} → (A → List ℕ) → List A → List ℕ → Type 0
 IsNameTaken name_of xs name = Any (λ x. IsTrue (is_named name (name_of x))) xs
 
--- The words are a name alone. The kind is NameTwice only where the name is taken, and TooMany only where there are as
--- many as there may be.
+-- The words are a name alone. The kind is NameTwice only where the name is taken, and TooMany only where it isn't, but
+-- there are as many as there may be.
 pub record IsRefused (k : GrammarFaultKind) (Taken : List ℕ → Type 0) (full : Type 0)
     (words : List Token) : Type 0 where
   pub name : List ℕ
   pub alone : words ≡ token.Name name ∷ []
   pub told : TellsOfName k (Taken name) full
 
--- The words are a name alone. The kind is UnknownName, InputBoundTwice or TooMany, and each only where this holds.
+-- The words are a name alone. The kind is UnknownName, InputBoundTwice or TooMany, each only where this holds, and TooMany
+-- only where the name is known and not bound.
 pub record IsMisused (k : GrammarFaultKind) (Unknown Bound : List ℕ → Type 0) (full : Type 0)
     (words : List Token) : Type 0 where
   pub name : List ℕ
   pub alone : words ≡ token.Name name ∷ []
-  pub told : Tells k ⊥ (Unknown name) ⊥ (Bound name) full
+  pub told : TellsOfSoughtName k (Unknown name) (Bound name) full
 
 -- the words are a name alone, and the kind is UnknownName, since none of these has it
 abbrev pub IsUnknown : {A : Type 0} → GrammarFaultKind → (A → List ℕ) → List A → List Token → Type 0

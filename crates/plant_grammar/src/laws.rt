@@ -7,14 +7,14 @@ ghost use Rattle.plant_grammar.specs.Grammar.{Tree, program_words, words_of};
 ghost use Rattle.plant_grammar.specs.WellFormed.{is_plain};
 ghost use Rattle.plant_grammar.specs.Parts.{program_parts, IsSameTree};
 
-/// The words of a plant of at most 64 program types stand where a plant's text may have them.
+/// The words of a plant of at most 65 program types stand where a plant's text may have them.
 pub fn words_are_in_place()
-    ensures { (tree : Tree) → length tree.programs ≤ 64 → AreWordsInPlace (words_of tree) }
+    ensures { (tree : Tree) → length tree.programs ≤ 65 → AreWordsInPlace (words_of tree) }
 {}
 
 /// So do further words behind them, no body among these.
 pub fn words_behind_are_in_place()
-    ensures { (tree : Tree) (more : List Token) → length tree.programs ≤ 64 → list_all is_plain more ≡ true → AreWordsInPlace (words_of tree ++ more) }
+    ensures { (tree : Tree) (more : List Token) → length tree.programs ≤ 65 → list_all is_plain more ≡ true → AreWordsInPlace (words_of tree ++ more) }
 {}
 
 /// Two trees that begin the same words say the same, and the same stands behind them.

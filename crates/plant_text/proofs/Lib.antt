@@ -11,3 +11,4 @@ pub mod WholeWords
 pub mod ReadWords
 pub mod BodyTexts
 pub mod OneWords
+pub mod WordPlaces

@@ -339,13 +339,13 @@ percents w a h =
     space_percent w p.0.0 p.0.1 (number_letters (drop 3 w) (limited_number 65535 (drop 3 w) p.1.0 p.1.1))
 
 -- what a known word is made of
-told_parts : (q : Option Keyword) (b : Option BlockType) (p : Option Punctuation) (n m : Option ℕ) (a : Option Address) (t : Bool) (w : List ℕ)
+told_parts : {C : Type 0} (q : Option Keyword) (b : Option BlockType) (p : Option Punctuation) (n m : Option ℕ) (a : Option Address) (t : Bool) (w : List ℕ)
     → (unwrap_or (
     or_else (or_else (option_map (λ k. token.Keyword k) q) (or_else (option_map (λ x. token.Block x) b) (option_map (λ x. token.Punctuation x) p)))
     (or_else (or_else (option_map (λ x. token.Number x) n) (or_else (option_map (λ x. token.Duration x) m) (option_map (λ x. token.Address x) a)))
     (cond t (Some (token.Name w)) None))) token.Unknown ≢ token.Unknown)
-    → ((x : Keyword) → q ≡ Some x → IsShape w) → ((x : BlockType) → b ≡ Some x → IsShape w) → ((x : Punctuation) → p ≡ Some x → IsShape w)
-    → ((x : ℕ) → n ≡ Some x → IsShape w) → ((x : ℕ) → m ≡ Some x → IsShape w) → ((x : Address) → a ≡ Some x → IsShape w) → (t ≡ true → IsShape w) → IsShape w
+    → ((x : Keyword) → q ≡ Some x → C) → ((x : BlockType) → b ≡ Some x → C) → ((x : Punctuation) → p ≡ Some x → C)
+    → ((x : ℕ) → n ≡ Some x → C) → ((x : ℕ) → m ≡ Some x → C) → ((x : Address) → a ≡ Some x → C) → (t ≡ true → C) → C
 told_parts (Some x) b p n m a t w known fq fb fp fn fm fa ft = fq x refl
 told_parts None (Some x) p n m a t w known fq fb fp fn fm fa ft = fb x refl
 told_parts None None (Some x) n m a t w known fq fb fp fn fm fa ft = fp x refl
@@ -361,3 +361,14 @@ known_shape w known = told_parts (keyword w) (block_type w) (punctuation w) (num
     (λ k e. inl (letters_run w (keyword_letters w k e))) (λ b e. inl (letters_run w (block_letters w b e))) (λ p e. inr (inr (marks w p e)))
     (λ n e. inl (letters_run w (number_letters w (limited_number 65535 w n e)))) (λ n e. inl (duration_run w (limited_duration 2147483647 w n e)))
     (λ a e. inr (inl (percents w a e))) (λ t. inl (letters_run w (name_letters w t)))
+
+-- letters, a duration, an address, or a mark
+abbrev pub IsOfKind : List ℕ → Type 0
+IsOfKind w = IsLetters w ⊎ ((is_duration w ≡ true) ⊎ (IsPercent w ⊎ IsMark w))
+
+pub known_kind : (w : List ℕ) → word_of w ≢ token.Unknown → IsOfKind w
+unfolding word_of fixed_word value_word name
+known_kind w known = told_parts {C = IsOfKind w} (keyword w) (block_type w) (punctuation w) (number_up_to 65535 w) (duration_up_to 2147483647 w) (address w) (is_plain_name w) w known
+    (λ k e. inl (keyword_letters w k e)) (λ b e. inl (block_letters w b e)) (λ p e. inr (inr (inr (marks w p e))))
+    (λ n e. inl (number_letters w (limited_number 65535 w n e))) (λ n e. inr (inl (limited_duration 2147483647 w n e)))
+    (λ a e. inr (inr (inl (percents w a e)))) (λ t. inl (name_letters w t))

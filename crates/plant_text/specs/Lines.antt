@@ -5,7 +5,7 @@ use Rattle.plant_text.specs.declared.token.Token.{Token}
 use Rattle.plant_text.specs.declared.token.Token.TheVariants as token
 use Rattle.plant_text.specs.Words.{front_len, word_of}
 use Rattle.plant_text.specs.Spelling.{ends_comment, IsGap, BeginsNoSpace, BeginsNoBlock, HasNoBodyThen, Spells, feeds, BeginsWithThen, BeginsWith}
-use Rattle.plant_text.specs.Places.{is_body_due}
+use Rattle.plant_text.specs.Places.{is_body_due, FitsPlace}
 
 -- a word, and the line that it begins on
 pub record WordValue : Type 0 where
@@ -91,3 +91,9 @@ abbrev pub AreWordsButLast : List WordValue → Type 0
 AreWordsButLast ws =
     (front : List WordValue) (w : WordValue) → ws ≡ front ++ w ∷ []
     → All (λ t. t ≢ token.Unknown) (map (λ (w : WordValue). w.token) front)
+
+-- Each of these that is a word fits its place behind those before it.
+abbrev pub AreInTheirPlaces : List WordValue → Type 0
+AreInTheirPlaces ws =
+    (front back : List WordValue) (w : WordValue) → ws ≡ front ++ w ∷ back → w.token ≢ token.Unknown
+    → FitsPlace (is_body_due (map (λ (w : WordValue). w.token) front)) w.token

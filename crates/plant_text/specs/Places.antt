@@ -1,5 +1,5 @@
 -- Where the words of a plant's text stand.
-use Rattle.std.specs.Prelude.{Bool, true, false, List, [], ◌∷◌}
+use Rattle.std.specs.Prelude.{◌≡◌, Bool, true, false, List, [], ◌∷◌}
 use Rattle.plant_text.specs.declared.token.Token.{Token}
 use Rattle.plant_text.specs.declared.token.Token.TheVariants as token
 use Rattle.plant_text.specs.declared.token.Keyword.TheVariants as key
@@ -27,6 +27,24 @@ is_due _ = false
 abbrev pub stage_after : Stage → Token → Stage
 stage_after s (token.Body body) = stage.Outside
 stage_after s t = stage_behind t s
+
+-- a body
+abbrev pub is_body : Token → Bool
+is_body (token.Body body) = true
+is_body _ = false
+
+-- a body, or VAR, VAR_INPUT or VAR_OUTPUT
+abbrev pub may_be_due : Token → Bool
+may_be_due (token.Body body) = true
+may_be_due (token.Keyword key.Var) = true
+may_be_due (token.Keyword key.VarInput) = true
+may_be_due (token.Keyword key.VarOutput) = true
+may_be_due _ = false
+
+-- where a body is due, the word is one or begins a block of variables; elsewhere it is no body
+abbrev pub FitsPlace : Bool → Token → Type 0
+FitsPlace true t = may_be_due t ≡ true
+FitsPlace false t = is_body t ≡ false
 
 -- where the word behind all of these stands
 abbrev pub stage_after_all : Stage → List Token → Stage

@@ -6,8 +6,8 @@ ghost use Rattle.words.specs.Lines.{without_last};
 ghost use Rattle.plant_text.specs.declared.token.Token.TheVariants as token;
 ghost use Rattle.plant_text.specs.declared.lexer.Stage.TheVariants as stage;
 ghost use Rattle.plant_text.specs.Spelling.{HasNoBodyThen, BeginsNoBlock, IsGap, feeds};
-ghost use Rattle.plant_text.specs.Places.{stage_behind, is_due};
-ghost use Rattle.plant_text.specs.Steps.Lexing.{part_before, line_behind, IsPart, IsKnownThen, IsFirstWord, FindsFirstWord, StandsFirst, MovesOn, FindsNoWord, StopsAt, IsWhole, ReadsWord, ReadsBody, ReadsFirst, ReadsNone};
+ghost use Rattle.plant_text.specs.Places.{stage_behind, is_due, is_body};
+ghost use Rattle.plant_text.specs.Steps.Lexing.{part_before, line_behind, IsPart, IsKnownThen, IsFirstWord, FindsFirstWord, StandsFirst, MovesOn, FindsNoWord, StopsAt, IsNoBodyThere, StandsInPlace, IsWhole, ReadsWord, ReadsBody, ReadsFirst, ReadsNone};
 
 use crate::bodies::{
     begins_no_block, behind_blank_line, behind_body, is_blank_line, without_return,
@@ -181,6 +181,7 @@ impl<'a> Lexer<'a> {
         ensures word { IfOk result (λ w. IsFirstWord self.old.text w.token self.new.text) }
         ensures first { IfOk result (λ w. StandsFirst self.old w self.new) }
         ensures none { IfOk result (λ w. w.token ≡ token.Unknown → HasNoBodyThen self.old.text) }
+        ensures body { IfOk result (λ w. w.token ≢ token.Unknown → is_body w.token ≡ true) }
         ensures every { IfOk result (λ w. ReadsBody self.old w self.new) }
         ensures moves_on { IfOk result (λ w. MovesOn self.old w self.new) }
         ensures last { IfOk result (λ w. w.token ≡ token.Unknown → self.new.text ≡ []) }
@@ -214,6 +215,7 @@ impl<'a> Lexer<'a> {
         ensures first { IfOk result (λ w. IfSome w (λ t. StandsFirst self.old t self.new)) }
         ensures moves_on { IfOk result (λ w. IfSome w (λ t. MovesOn self.old t self.new)) }
         ensures stops { IfOk result (λ w. IfSome w (λ t. FindsNoWord self.old t)) }
+        ensures there { IfOk result (λ w. IfSome w (λ t. IsNoBodyThere self.old t)) }
         ensures last { IfOk result (λ w. IfSome w (λ t. t.token ≡ token.Unknown → self.new.text ≡ [])) }
         ensures shorter { IfOk result (λ w. IfSome w (λ _. length self.new.text < length self.old.text)) }
     {
@@ -237,6 +239,7 @@ impl<'a> Lexer<'a> {
         ensures first { IfOk result (λ w. IfSome w (λ t. StandsFirst self.old t self.new)) }
         ensures moves_on { IfOk result (λ w. IfSome w (λ t. MovesOn self.old t self.new)) }
         ensures stops { IfOk result (λ w. IfSome w (λ t. StopsAt self.old t)) }
+        ensures placed { IfOk result (λ w. IfSome w (λ t. StandsInPlace self.old t)) }
         ensures last { IfOk result (λ w. IfSome w (λ t. t.token ≡ token.Unknown → self.new.text ≡ [])) }
         ensures ended { IfOk result (λ w. self.old.text ≡ [] → w ≡ None) }
         ensures shorter { IfOk result (λ w. IfSome w (λ _. length self.new.text < length self.old.text)) }

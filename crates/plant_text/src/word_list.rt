@@ -1,6 +1,6 @@
 ghost use Rattle.std.specs.Prelude.{◌≡◌, ◌<◌, ◌^◌, length, IfOk};
 ghost use Rattle.words.specs.Lines.{without_last};
-ghost use Rattle.plant_text.specs.Lines.{IsSpelledBy, IsBegunBy, IsStoppedBy, AreWordsButLast};
+ghost use Rattle.plant_text.specs.Lines.{IsSpelledBy, IsBegunBy, IsStoppedBy, AreWordsButLast, AreInTheirPlaces};
 ghost use Rattle.plant_text.specs.Steps.Lexing.{AreAllWords};
 
 use crate::lexer::Lexer;
@@ -47,6 +47,7 @@ pub fn read_words(alloc: Global, text: &str) -> Result<Words, AllocError>
     ensures begun { IfOk result (IsBegunBy (without_last 13 text.now)) }
     ensures stops { IfOk result (IsStoppedBy (without_last 13 text.now)) }
     ensures known { IfOk result AreWordsButLast }
+    ensures placed { IfOk result AreInTheirPlaces }
 {
     let mut lexer = Lexer::new(text);
     let last = lexer.last();

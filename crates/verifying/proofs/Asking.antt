@@ -119,18 +119,22 @@ held_refused drawing q ds networks marks rows (Held fault) ladder are read refus
       };
     }
 
-claims_refused : (drawing : List ℕ) (q : QuestionValue) (ds : List Declaration) (networks : List Diagram) (marks : List Bool) (fault : VerifyFault) → IsLadderOfDrawing drawing ds networks
-    → AreLadderMarks ds networks marks → ClaimsRefused ds marks q.claims fault → RefusesPreparing drawing q fault
-claims_refused drawing q ds networks marks (Command (Text fault)) ladder are refused = absurd refused
-claims_refused drawing q ds networks marks (Command (Word fault)) ladder are refused = absurd refused
-claims_refused drawing q ds networks marks (Command Write) ladder are refused = absurd refused
-claims_refused drawing q ds networks marks (Command Memory) ladder are refused = tt
-claims_refused drawing q ds networks marks (Held fault) ladder are refused = absurd refused
-claims_refused drawing q ds networks marks (TooManyInputs count) ladder are refused = absurd refused
-claims_refused drawing q ds networks marks (Claim fault) ladder are refused = record {
+claims_refused : (drawing : List ℕ) (q : QuestionValue) (ds : List Declaration) (networks : List Diagram) (marks : List Bool) (held : List Setting) (fault : VerifyFault) → IsLadderOfDrawing drawing ds networks
+    → AreLadderMarks ds networks marks → AreHeldBy ds marks q.words held → ClaimsRefused ds marks q.claims fault → RefusesPreparing drawing q fault
+claims_refused drawing q ds networks marks held (Command (Text fault)) ladder are by refused = absurd refused
+claims_refused drawing q ds networks marks held (Command (Word fault)) ladder are by refused = absurd refused
+claims_refused drawing q ds networks marks held (Command Write) ladder are by refused = absurd refused
+claims_refused drawing q ds networks marks held (Command Memory) ladder are by refused = tt
+claims_refused drawing q ds networks marks held (Held fault) ladder are by refused = absurd refused
+claims_refused drawing q ds networks marks held (TooManyInputs count) ladder are by refused = absurd refused
+claims_refused drawing q ds networks marks held (Claim fault) ladder are by refused = record {
   declarations = ds;
   networks = networks;
   ladder = ladder;
+  rows = by.rows;
+  read = by.read;
+  held = held;
+  holds = held_of ds networks marks q.words by.rows held are by.read.each by.each;
   first = record {
     name = refused.name;
     at = refused.at;
@@ -185,15 +189,15 @@ holding_refused drawing q ds networks marks (Claim fault) ladder are refused = a
 holding_refused drawing q ds networks marks (Held fault) ladder are refused = held_refused drawing q ds networks marks refused.rows (Held fault) ladder are refused.read refused.first
 holding_refused drawing q ds networks marks (TooManyInputs count) ladder are refused = absurd refused
 
-free_refused : (drawing : List ℕ) (q : QuestionValue) (ds : List Declaration) (networks : List Diagram) (marks : List Bool) (held : List Setting) (fault : VerifyFault) → IsLadderOfDrawing drawing ds networks
-    → AreLadderMarks ds networks marks → AreHeldBy ds marks q.words held → RefusesFree ds marks held fault → RefusesPreparing drawing q fault
-free_refused drawing q ds networks marks held (Command (Text fault)) ladder are by refused = absurd refused
-free_refused drawing q ds networks marks held (Command (Word fault)) ladder are by refused = absurd refused
-free_refused drawing q ds networks marks held (Command Write) ladder are by refused = absurd refused
-free_refused drawing q ds networks marks held (Command Memory) ladder are by refused = tt
-free_refused drawing q ds networks marks held (Claim fault) ladder are by refused = absurd refused
-free_refused drawing q ds networks marks held (Held fault) ladder are by refused = absurd refused
-free_refused drawing q ds networks marks held (TooManyInputs count) ladder are by refused = record {
+free_refused : (drawing : List ℕ) (q : QuestionValue) (ds : List Declaration) (networks : List Diagram) (marks : List Bool) (held : List Setting) (places : List ℕ) (fault : VerifyFault) → IsLadderOfDrawing drawing ds networks
+    → AreLadderMarks ds networks marks → AreHeldBy ds marks q.words held → ClaimsRead ds marks q.claims places → RefusesFree ds marks held fault → RefusesPreparing drawing q fault
+free_refused drawing q ds networks marks held places (Command (Text fault)) ladder are by claimed refused = absurd refused
+free_refused drawing q ds networks marks held places (Command (Word fault)) ladder are by claimed refused = absurd refused
+free_refused drawing q ds networks marks held places (Command Write) ladder are by claimed refused = absurd refused
+free_refused drawing q ds networks marks held places (Command Memory) ladder are by claimed refused = tt
+free_refused drawing q ds networks marks held places (Claim fault) ladder are by claimed refused = absurd refused
+free_refused drawing q ds networks marks held places (Held fault) ladder are by claimed refused = absurd refused
+free_refused drawing q ds networks marks held places (TooManyInputs count) ladder are by claimed refused = record {
   declarations = ds;
   networks = networks;
   ladder = ladder;
@@ -201,6 +205,8 @@ free_refused drawing q ds networks marks held (TooManyInputs count) ladder are b
   read = by.read;
   held = held;
   holds = held_of ds networks marks q.words by.rows held are by.read.each by.each;
+  places = places;
+  claims = claims_of ds networks marks q.claims places are claimed;
   free = refused.free;
   are_free = free_of ds networks marks held refused.free are refused.are;
   many = refused.many;
@@ -210,8 +216,8 @@ free_refused drawing q ds networks marks held (TooManyInputs count) ladder are b
 pub asking_refused : (drawing : List ℕ) (q : QuestionValue) (ds : List Declaration) (networks : List Diagram) (marks : List Bool) (fault : VerifyFault) → IsLadderOfDrawing drawing ds networks
     → AreLadderMarks ds networks marks → RefusesAsking ds marks q fault → RefusesPreparing drawing q fault
 asking_refused drawing q ds networks marks fault ladder are (inl refused) = holding_refused drawing q ds networks marks fault ladder are refused
-asking_refused drawing q ds networks marks fault ladder are (inr (inl refused)) = claims_refused drawing q ds networks marks fault ladder are refused
-asking_refused drawing q ds networks marks fault ladder are (inr (inr refused)) = free_refused drawing q ds networks marks refused.held fault ladder are refused.by refused.refused
+asking_refused drawing q ds networks marks fault ladder are (inr (inl refused)) = claims_refused drawing q ds networks marks refused.held fault ladder are refused.by refused.refused
+asking_refused drawing q ds networks marks fault ladder are (inr (inr refused)) = free_refused drawing q ds networks marks refused.held refused.claims fault ladder are refused.by refused.claimed refused.refused
 
 inputs_of : (ds : List Declaration) (networks : List Diagram) (words : List (List ℕ)) (rows : List RowValue) (held : List Setting) (free : List ℕ) → AllZip (IsRow ds) words rows
     → AllZip (HoldsInput ds networks) rows held → AreFree ds networks held free → length free ≤ 20 → AreInputs ds networks free held
@@ -268,20 +274,20 @@ leads_whole : (u : SetupValue) (s : Moment) (rows : List (List Bool)) (t : Momen
 leads_whole u s [] t leads = λ k d lt. absurd (omega arith)
 leads_whole u s (row ∷ rows) t (between, scan, rest) = λ k d lt. whole_more u row rows scan.whole (leads_whole u between rows t rest) k d lt
 
-fits_of : (u : SetupValue) (most place : ℕ) (v : Verdict) → IsVerdict u most place v → FitsSetup u v
-fits_of u most place Holds is = tt
-fits_of u most place (Fails rows) is = leads_whole u _ rows.items is.last is.run
-fits_of u most place (Undecided depth) is = tt
+fits_of : (u : SetupValue) (most scans place : ℕ) (v : Verdict) → IsVerdict u most scans place v → FitsSetup u v
+fits_of u most scans place Holds is = tt
+fits_of u most scans place (Fails rows) is = leads_whole u _ rows.items is.last is.run
+fits_of u most scans place (Undecided depth) is = tt
 
-pub verdicts_fit : (u : SetupValue) (most : ℕ) (places : List ℕ) (verdicts : List Verdict) → AreVerdicts u most places verdicts → All (FitsSetup u) verdicts
-verdicts_fit u most places verdicts are = λ k d lt.
+pub verdicts_fit : (u : SetupValue) (most scans : ℕ) (places : List ℕ) (verdicts : List Verdict) → AreVerdicts u most scans places verdicts → All (FitsSetup u) verdicts
+verdicts_fit u most scans places verdicts are = λ k d lt.
     let inside : k < length places = let l = are.long in omega arith in
-    fits_of u most (get_or places k 0) (get_or verdicts k d) (are.each k (get_or places k 0) (get_or verdicts k d) (slice_get-get_or places k 0 inside) (slice_get-get_or verdicts k d lt))
+    fits_of u most scans (get_or places k 0) (get_or verdicts k d) (are.each k (get_or places k 0) (get_or verdicts k d) (slice_get-get_or places k 0 inside) (slice_get-get_or verdicts k d lt))
 
 -- a verdict for each name
-pub names_long : (u : SetupValue) (most : ℕ) (names : List (Bor (List ℕ))) (places : List ℕ) (verdicts : List Verdict) → AllZip (IsClaim u.ladder.declarations u.ladder.networks) (texts names) places
-    → AreVerdicts u most places verdicts → length verdicts ≡ length names
-names_long u most names places verdicts claims are =
+pub names_long : (u : SetupValue) (most scans : ℕ) (names : List (Bor (List ℕ))) (places : List ℕ) (verdicts : List Verdict) → AllZip (IsClaim u.ladder.declarations u.ladder.networks) (texts names) places
+    → AreVerdicts u most scans places verdicts → length verdicts ≡ length names
+names_long u most scans names places verdicts claims are =
     are.long ∙ sym (zip_length (IsClaim u.ladder.declarations u.ladder.networks) (texts names) places claims) ∙ length-map names (λ w. w.now)
 
 -- before anything is written

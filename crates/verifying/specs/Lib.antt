@@ -1,4 +1,5 @@
 pub mod Runs
+pub mod Meeting
 pub mod Verdicts
 pub mod Counts
 pub mod Stores

@@ -40,9 +40,9 @@ pub record IsAnswer (drawing : List ℕ) (q : QuestionValue) (text : List ℕ) :
   pub places : List ℕ
   pub claims : AllZip (IsClaim setup.ladder.declarations setup.ladder.networks) q.claims places
   pub verdicts : List Verdict
-  pub proved : AreVerdicts setup q.most_states places verdicts
   pub states : ℕ
   pub scans : ℕ
+  pub proved : AreVerdicts setup q.most_states scans places verdicts
   pub counts : All (AreCounts setup q.most_states states scans) verdicts
   pub texts : AreTexts setup q.file states scans q.claims verdicts text
 
@@ -59,11 +59,15 @@ pub record WritesLess (drawing : List ℕ) (q : QuestionValue) (old new : Option
   pub answer : IsAnswer drawing q text
   pub sent : SendsLess text old new
 
--- a name is no claim of the drawing's ladder, and this is the first fault
+-- the words hold inputs of the drawing's ladder, a name is no claim of it, and this is the first fault
 pub record RefusesClaims (drawing : List ℕ) (q : QuestionValue) (fault : ClaimFault) : Type 0 where
   pub declarations : List Declaration
   pub networks : List Diagram
   pub ladder : IsLadderOfDrawing drawing declarations networks
+  pub rows : List RowValue
+  pub read : SpellRows declarations q.words rows
+  pub held : List Setting
+  pub holds : AllZip (HoldsInput declarations networks) rows held
   pub first : IsFirstClaimFault declarations networks q.claims fault
 
 -- a word holds no input of the drawing's ladder, and this is the first fault
@@ -75,7 +79,7 @@ pub record RefusesHeld (drawing : List ℕ) (q : QuestionValue) (fault : HeldFau
   pub read : SpellRows declarations q.words rows
   pub first : IsFirstHeldFault declarations networks rows fault
 
--- so many inputs of the drawing's ladder are free, more than 20
+-- the words hold inputs of the drawing's ladder, the names are claims of it, and so many inputs are free, more than 20
 pub record HasManyInputs (drawing : List ℕ) (q : QuestionValue) (count : ℕ) : Type 0 where
   pub declarations : List Declaration
   pub networks : List Diagram
@@ -84,6 +88,8 @@ pub record HasManyInputs (drawing : List ℕ) (q : QuestionValue) (count : ℕ) 
   pub read : SpellRows declarations q.words rows
   pub held : List Setting
   pub holds : AllZip (HoldsInput declarations networks) rows held
+  pub places : List ℕ
+  pub claims : AllZip (IsClaim declarations networks) q.claims places
   pub free : List ℕ
   pub are_free : AreFree declarations networks held free
   pub many : 20 < length free

@@ -87,7 +87,7 @@ stops_at plant most text k L w n words old now next e at a bad = record {
   written = appends_kept old now next a.text a.written bad.1;
 }
 
-pub breaks_off : (plant : PlantValue) (most : ℕ) (text : List ℕ) (k : ℕ) (L : List (List (List ℕ))) (w new : WorldValue) (n : ℕ) (words : List (List ℕ)) (old now next : Option (List ℕ)) → L ++ words ∷ [] ≡ take (k + 1) (schedule_lines text)
+unfoldable pub breaks_off : (plant : PlantValue) (most : ℕ) (text : List ℕ) (k : ℕ) (L : List (List (List ℕ))) (w new : WorldValue) (n : ℕ) (words : List (List ℕ)) (old now next : Option (List ℕ)) → L ++ words ∷ [] ≡ take (k + 1) (schedule_lines text)
     → Stands (from_one plant most) L w n old now → HasBroken w new n words now next → WritesBeginning plant most text old next
 breaks_off plant most text k L w new n words old now next e a b =
     let both = next_line (from_one plant most) L w new n words b.line old now a b.told in
@@ -100,13 +100,13 @@ breaks_off plant most text k L w new n words old now next e a b =
       written = subst (Appends old next) (sym (take-append-add a.text b.line b.bytes)) (Appends-trans old now next a.text (take b.bytes b.line) a.written b.written);
     }
 
-pub runs_out : (plant : PlantValue) (most : ℕ) (text : List ℕ) (k : ℕ) (L : List (List (List ℕ))) (w : WorldValue) (n : ℕ) (old now next : Option (List ℕ)) → L ≡ take k (schedule_lines text) → Stands (from_one plant most) L w n old now
+unfoldable pub runs_out : (plant : PlantValue) (most : ℕ) (text : List ℕ) (k : ℕ) (L : List (List (List ℕ))) (w : WorldValue) (n : ℕ) (old now next : Option (List ℕ)) → L ≡ take k (schedule_lines text) → Stands (from_one plant most) L w n old now
     → Keeps now next → WritesFirst plant most text old next
 runs_out plant most text k L w n old now next e a kept =
     record { lines = k; text = a.text; run = runs_first plant most text k L w n old now e a; written = appends_kept old now next a.text a.written kept }
 
 -- nothing was done yet
-pub runs_nothing : (plant : PlantValue) (most : ℕ) (text : List ℕ) (old : Option (List ℕ)) → WritesFirst plant most text old old
+unfoldable pub runs_nothing : (plant : PlantValue) (most : ℕ) (text : List ℕ) (old : Option (List ℕ)) → WritesFirst plant most text old old
 runs_nothing plant most text old = record {
   lines = 0;
   text = [];

@@ -1,5 +1,5 @@
 -- A schedule that a reader gave line by line, and how it ends.
-use Rattle.std.proofs.Common.{◌≡◌, inl, inr, ℕ, ◌+◌, false, List, [], ◌∷◌, ◌++◌, length, map, take, Option, Some, slice_get, refl, sym, ap, ◌∙◌, subst, arith, length-append}
+use Rattle.std.proofs.Common.{◌≡◌, inl, inr, ℕ, ◌+◌, ◌≤◌, false, List, [], ◌∷◌, ◌++◌, length, map, take, Option, Some, slice_get, refl, sym, ap, ◌∙◌, subst, arith, length-append}
 use Rattle.std.specs.List.{AllByRecursion}
 use Rattle.std.specs.Option.{option_map}
 use Rattle.std.specs.Io.KnownBytes.{Consumes, Keeps}
@@ -18,8 +18,9 @@ use Rattle.world.specs.declared.live_fault.LiveFault.{LiveFault}
 use Rattle.world.specs.declared.live_fault.LiveFault.TheVariants.{Syntax, TooLong, Read, Write, Memory}
 use Rattle.world.specs.ScheduleText.{schedule_lines}
 use Rattle.world.specs.declared.simulation.Simulated.{Simulated}
-use Rattle.world.specs.Simulated.{from_one, WritesRun, HasRun}
-use Rattle.world.specs.LiveRun.{HasAnswered, HasLiveRun, EndsLiveRun, StopsAtLast}
+use Rattle.world.specs.Simulated.{from_one, WritesRun, HasRun, StopsAt}
+use Rattle.world.specs.LiveRun.{IsLastLine, HasAnswered, HasLiveRun, EndsLiveRun, StopsWithin, WritesBeginningLive, WritesFirstLive}
+use Rattle.world.specs.Steps.Simulating.{HasBroken}
 use Rattle.world.specs.Steps.Live.{line_words, IsLineOf, HasGoneOn, HasDoneNext, HasStoppedNext}
 use Rattle.world.proofs.Simulating.{Stands, stands_first, stands_next}
 use Rattle.world.proofs.Ending.{ends_well, has_run, runs_first, stops_at, breaks_off, runs_out, runs_nothing}
@@ -76,19 +77,40 @@ words_all text lines line e = sym (map-append line_words lines (line ∷ [])) �
 count_all : (text : List ℕ) (lines : List (List ℕ)) (line : List ℕ) → lines_of text ≡ lines ++ line ∷ [] → length (lines_of text) ≡ length lines + 1
 count_all text lines line e = ap (λ (ls : List (List ℕ)). length ls) e ∙ length-append lines (line ∷ [])
 
+-- there are the words of each line
+pub words_of_each : (text : List ℕ) → length (schedule_lines text) ≡ length (lines_of text)
+words_of_each text = length-map (lines_of text) line_words
+
 words_with : (text : List ℕ) (lines : List (List ℕ)) (line : List ℕ) → lines_of text ≡ lines ++ line ∷ [] → map line_words lines ++ line_words line ∷ [] ≡ take (length lines + 1) (schedule_lines text)
 words_with text lines line e =
-    let many : length (schedule_lines text) ≡ length lines + 1 = length-map (lines_of text) line_words ∙ count_all text lines line e in
+    let many : length (schedule_lines text) ≡ length lines + 1 = words_of_each text ∙ count_all text lines line e in
     words_all text lines line e ∙ sym (take_all (length lines + 1) (schedule_lines text) (omega (arith, many)))
+
+-- the line that was read last
+last_here : (text : List ℕ) (lines : List (List ℕ)) (line last : List ℕ) → lines_of text ≡ lines ++ line ∷ [] → line ≡ last → IsLastLine text (length lines + 1) last
+last_here text lines line last e is =
+    (length lines, refl, count_all text lines line e, ap (λ ls. slice_get ls (length lines)) e ∙ push_here lines line ∙ ap Some is)
+
+-- the whole lines of what was read, where nothing more was read
+whole_here : (line : List ℕ) (lines : List (List ℕ)) → AllByRecursion HasNoFeed (line ∷ lines) → lines_of (fed (line ∷ lines) ++ []) ≡ line ∷ lines
+whole_here line lines whole = ap lines_of (append-nil (fed (line ∷ lines))) ∙ lines_fed line lines whole
 
 -- the whole lines of what was read, whatever of a further one was read
 words_front : (lines : List (List ℕ)) (more : List ℕ) → AllByRecursion HasNoFeed lines → HasNoFeed more → map line_words lines ≡ take (length lines) (schedule_lines (fed lines ++ more))
 words_front [] [] whole plain = refl
 words_front (line ∷ lines) [] whole plain =
-    let e : lines_of (fed (line ∷ lines) ++ []) ≡ line ∷ lines = ap lines_of (append-nil (fed (line ∷ lines))) ∙ lines_fed line lines whole in
     let many : length (map line_words (line ∷ lines)) ≡ length (line ∷ lines) = length-map (line ∷ lines) line_words in
-    sym (ap (λ ls. take (length (line ∷ lines)) (map line_words ls)) e ∙ take_all (length (line ∷ lines)) (map line_words (line ∷ lines)) (omega (arith, many)))
+    sym (ap (λ ls. take (length (line ∷ lines)) (map line_words ls)) (whole_here line lines whole) ∙ take_all (length (line ∷ lines)) (map line_words (line ∷ lines)) (omega (arith, many)))
 words_front lines (c ∷ more) whole plain = words_before (fed lines ++ c ∷ more) lines (c ∷ more) (lines_with_last lines (c ∷ more) whole plain (λ e. absurd cc))
+
+-- at most one line more than the whole ones was read
+one_behind : (lines : List (List ℕ)) (more : List ℕ) → AllByRecursion HasNoFeed lines → HasNoFeed more → length (lines_of (fed lines ++ more)) ≤ length lines + 1
+one_behind [] [] whole plain = omega arith
+one_behind (line ∷ lines) [] whole plain =
+    let many : length (lines_of (fed (line ∷ lines) ++ [])) ≡ length (line ∷ lines) = ap (λ (ls : List (List ℕ)). length ls) (whole_here line lines whole) in
+    omega (arith, many)
+one_behind lines (c ∷ more) whole plain =
+    omega (arith, count_all (fed lines ++ c ∷ more) lines (c ∷ more) (lines_with_last lines (c ∷ more) whole plain (λ e. absurd cc)))
 
 -- whole lines alone
 ends_whole : (plant : PlantValue) (most : ℕ) (lines : List (List ℕ)) (w : WorldValue) (n : ℕ) (old now : Option (List ℕ)) → AllByRecursion HasNoFeed lines → Stands (from_one plant most) (map line_words lines) w n old now
@@ -128,37 +150,51 @@ live_ends plant most lines w new n m given left later old now next a (end, inr l
       (stands_next (from_one plant most) (map line_words lines) w new n m (line_words last.line) old now next a.stands last.done) is many;
 }
 
+-- a beginning of the lines up to the one that was read last
+breaks_here : (plant : PlantValue) (most : ℕ) (text : List ℕ) (lines : List (List ℕ)) (line : List ℕ) (w new : WorldValue) (n : ℕ) (old now next : Option (List ℕ)) → lines_of text ≡ lines ++ line ∷ []
+    → Stands (from_one plant most) (map line_words lines) w n old now → HasBroken w new n (line_words line) now next → WritesBeginningLive plant most text old next
+unfolding breaks_off
+breaks_here plant most text lines line w new n old now next e a broken =
+    (breaks_off plant most text (length lines) (map line_words lines) w new n (line_words line) old now next (words_with text lines line e) a broken, omega (arith, count_all text lines line e))
+
+-- the lines of some first lines, behind which so many were read
+runs_to : (plant : PlantValue) (most : ℕ) (text : List ℕ) (k more : ℕ) (L : List (List (List ℕ))) (w : WorldValue) (n : ℕ) (old now next : Option (List ℕ)) → length (lines_of text) ≤ k + more → L ≡ take k (schedule_lines text)
+    → Stands (from_one plant most) L w n old now → Keeps now next → WritesFirstLive plant most text more old next
+unfolding runs_out
+runs_to plant most text k more L w n old now next few e a kept = (runs_out plant most text k L w n old now next e a kept, few)
+
 -- what a fault leaves
-pub live_stops : (plant : PlantValue) (most : ℕ) (lines : List (List ℕ)) (w new : WorldValue) (n number : ℕ) (given left later old now next : Option (List ℕ)) (fault : LiveFault) → StandsLive (from_one plant most) lines w n given left old now
-    → number ≡ length lines + 1 → HasStoppedNext w new n left later now next number fault → EndsLiveRun plant most given later old next fault
-live_stops plant most lines w new n number given left later old now next (Syntax k) a is (r, bad) =
+pub live_stops : (plant : PlantValue) (most : ℕ) (lines : List (List ℕ)) (w new : WorldValue) (n number : ℕ) (given left later : Option (List ℕ)) (last : List ℕ) (old now next : Option (List ℕ)) (fault : LiveFault)
+    → StandsLive (from_one plant most) lines w n given left old now → number ≡ length lines + 1 → HasStoppedNext w new n left later last now next number fault → EndsLiveRun plant most given later last old next fault
+live_stops plant most lines w new n number given left later last old now next (Syntax k) a is (r, same, bad) =
     let text = fed lines ++ r.bytes in
     let e = lines_read lines r.line r.bytes a.whole r.plain r.form in
     let stops = stops_at plant most text (length lines) (map line_words lines) w n (line_words r.line) old now next (words_before text lines r.line e) (words_here text lines r.line e) a.stands (bad.1, bad.2) in
     record {
       schedule = text;
       read = Consumes-trans given left later (fed lines) r.bytes a.taken r.taken;
-      stops = subst (λ j. StopsAtLast plant most text j old next) (sym (bad.0 ∙ is)) (stops, count_all text lines r.line e);
+      stops = subst (λ j. StopsAt plant most text j old next × IsLastLine text j last) (sym (bad.0 ∙ is)) (stops, last_here text lines r.line last e same);
     }
-live_stops plant most lines w new n number given left later old now next (TooLong k) a is (same, r, bare, long, kept) =
+live_stops plant most lines w new n number given left later last old now next (TooLong k) a is (numbered, r, same, bare, long, kept) =
     let text = fed lines ++ r.bytes in
     let e = lines_read lines r.line r.bytes a.whole r.plain r.form in
+    let stops : StopsWithin plant most text k old next = record {
+      before = length lines;
+      number_is = numbered ∙ is;
+      text = a.stands.text;
+      run = runs_first plant most text (length lines) (map line_words lines) w n old now (words_before text lines r.line e) a.stands;
+      line = r.line;
+      line_is = ap (λ ls. slice_get ls (length lines)) e ∙ push_here lines r.line;
+      long = long;
+      only = count_all text lines r.line e ∙ sym (numbered ∙ is);
+      written = appends_kept old now next a.stands.text a.stands.written kept;
+    } in
     record {
       schedule = text;
       read = Consumes-trans given left later (fed lines) r.bytes a.taken r.taken;
-      stops = record {
-        before = length lines;
-        number_is = same ∙ is;
-        text = a.stands.text;
-        run = runs_first plant most text (length lines) (map line_words lines) w n old now (words_before text lines r.line e) a.stands;
-        line = r.line;
-        line_is = ap (λ ls. slice_get ls (length lines)) e ∙ push_here lines r.line;
-        long = long;
-        only = count_all text lines r.line e ∙ sym (same ∙ is);
-        written = appends_kept old now next a.stands.text a.stands.written kept;
-      };
+      stops = (stops, subst (λ j. IsLastLine text j last) (sym (numbered ∙ is)) (last_here text lines r.line last e same));
     }
-live_stops plant most lines w new n number given left later old now next Read a is (some, kept) = record {
+live_stops plant most lines w new n number given left later last old now next Read a is (some, kept) = record {
   schedule = fed lines ++ some.0;
   read = Consumes-trans given left later (fed lines) some.0 a.taken some.2;
   stops = record {
@@ -169,44 +205,52 @@ live_stops plant most lines w new n number given left later old now next Read a 
     run = ends_whole plant most lines w n old next a.whole (stands_kept (from_one plant most) (map line_words lines) w n old now next a.stands kept);
   };
 }
-live_stops plant most lines w new n number given left later old now next Write a is (r, inl broken) =
+live_stops plant most lines w new n number given left later last old now next Write a is (r, inl broken) =
     let text = fed lines ++ r.bytes in
     let e = lines_read lines r.line r.bytes a.whole r.plain r.form in
     record {
       schedule = text;
       read = Consumes-trans given left later (fed lines) r.bytes a.taken r.taken;
-      stops = inl (breaks_off plant most text (length lines) (map line_words lines) w new n (line_words r.line) old now next (words_with text lines r.line e) a.stands broken);
+      stops = inl (breaks_here plant most text lines r.line w new n old now next e a.stands broken);
     }
-live_stops plant most lines w new n number given left later old now next Write a is (r, inr done) =
+live_stops plant most lines w new n number given left later last old now next Write a is (r, inr done) =
     let text = fed lines ++ r.bytes in
     let e = lines_read lines r.line r.bytes a.whole r.plain r.form in
     let stands = stands_next (from_one plant most) (map line_words lines) w new n done.0 (line_words r.line) old now next a.stands done.1 in
     record {
       schedule = text;
       read = Consumes-trans given left later (fed lines) r.bytes a.taken r.taken;
-      stops = inr (runs_out plant most text (length lines + 1) (map line_words lines ++ line_words r.line ∷ []) new done.0 old next next (words_with text lines r.line e) stands (Keeps-refl next));
+      stops = inr (
+          runs_to plant most text (length lines + 1) 0 (map line_words lines ++ line_words r.line ∷ []) new done.0 old next next (omega (arith, count_all text lines r.line e))
+          (words_with text lines r.line e) stands (Keeps-refl next)
+          );
     }
-live_stops plant most lines w new n number given left later old now next Memory a is (inl some, kept) = record {
+live_stops plant most lines w new n number given left later last old now next Memory a is (inl some, kept) = record {
   schedule = fed lines ++ some.0;
   read = Consumes-trans given left later (fed lines) some.0 a.taken some.2;
-  stops = runs_out plant most (fed lines ++ some.0) (length lines) (map line_words lines) w n old now next (words_front lines some.0 a.whole some.1) a.stands kept;
+  stops =
+      runs_to plant most (fed lines ++ some.0) (length lines) 1 (map line_words lines) w n old now next (one_behind lines some.0 a.whole some.1)
+      (words_front lines some.0 a.whole some.1) a.stands kept;
 }
-live_stops plant most lines w new n number given left later old now next Memory a is (inr r, kept) =
+live_stops plant most lines w new n number given left later last old now next Memory a is (inr r, kept) =
     let text = fed lines ++ r.bytes in
     let e = lines_read lines r.line r.bytes a.whole r.plain r.form in
     record {
       schedule = text;
       read = Consumes-trans given left later (fed lines) r.bytes a.taken r.taken;
-      stops = runs_out plant most text (length lines) (map line_words lines) w n old now next (words_before text lines r.line e) a.stands kept;
+      stops = runs_to plant most text (length lines) 1 (map line_words lines) w n old now next (omega (arith, count_all text lines r.line e)) (words_before text lines r.line e) a.stands kept;
     }
 
 -- nothing was read yet
-pub live_nothing : (plant : PlantValue) (most : ℕ) (given old : Option (List ℕ)) → EndsLiveRun plant most given given old old Memory
-live_nothing plant most given old = record { schedule = []; read = Consumes-nil given; stops = runs_nothing plant most [] old }
+pub live_nothing : (plant : PlantValue) (most : ℕ) (given : Option (List ℕ)) (last : List ℕ) (old : Option (List ℕ)) → EndsLiveRun plant most given given last old old Memory
+unfolding runs_nothing
+live_nothing plant most given last old =
+    record { schedule = []; read = Consumes-nil given; stops = (runs_nothing plant most [] old, one_behind [] [] tt (λ k d lt. absurd (omega (arith, lt)))) }
 
 -- no more lines are read
-pub live_unread : (plant : PlantValue) (most : ℕ) (lines : List (List ℕ)) (w : WorldValue) (n : ℕ) (given left old now : Option (List ℕ)) → StandsLive (from_one plant most) lines w n given left old now → EndsLiveRun plant most given left old now Read
-live_unread plant most lines w n given left old now a = record {
+pub live_unread : (plant : PlantValue) (most : ℕ) (lines : List (List ℕ)) (w : WorldValue) (n : ℕ) (given left : Option (List ℕ)) (last : List ℕ) (old now : Option (List ℕ)) → StandsLive (from_one plant most) lines w n given left old now
+    → EndsLiveRun plant most given left last old now Read
+live_unread plant most lines w n given left last old now a = record {
   schedule = fed lines ++ [];
   read = Consumes-trans given left left (fed lines) [] a.taken (Consumes-nil left);
   stops = record {

@@ -18,21 +18,21 @@ done_kept old new n m words from now next (inr r) kept =
     inr (record { line = r.line; told = r.told; number = r.number; written = appends_kept from now next r.line r.written kept })
 
 -- a line that was read isn't done
-pub next_failed : (old new : WorldValue) (n : ℕ) (given left from next : Option (List ℕ)) (number : ℕ) (fault : LiveFault) (r : HasRead given left) → HasFailed old new n (line_words r.line) from next number fault
-    → HasStoppedNext old new n given left from next number fault
-next_failed old new n given left from next number (Syntax k) r h = (r, h)
+next_failed : (old new : WorldValue) (n : ℕ) (given left from next : Option (List ℕ)) (number : ℕ) (fault : LiveFault) (r : HasRead given left) → HasFailed old new n (line_words r.line) from next number fault
+    → HasStoppedNext old new n given left r.line from next number fault
+next_failed old new n given left from next number (Syntax k) r h = (r, refl, h)
 next_failed old new n given left from next number (TooLong k) r h = absurd h
 next_failed old new n given left from next number Read r h = absurd h
 next_failed old new n given left from next number Write r h = (r, h)
 next_failed old new n given left from next number Memory r h = (inr r, h)
 
 pub line_failed : (old new : WorldValue) (n : ℕ) (given left from next : Option (List ℕ)) (number : ℕ) (fault : LiveFault) (line : List ℕ) → Gives given left line gave.Line → HasFailed old new n (line_words line) from next number fault
-    → HasStoppedNext old new n given left from next number fault
+    → HasStoppedNext old new n given left line from next number fault
 line_failed old new n given left from next number fault line g h =
     next_failed old new n given left from next number fault (record { line = line; plain = g.0; bytes = line ++ 10 ∷ []; form = inl refl; taken = g.2 }) h
 
 pub last_failed : (old new : WorldValue) (n : ℕ) (given left from next : Option (List ℕ)) (number : ℕ) (fault : LiveFault) (line : List ℕ) → Gives given left line gave.LastLine → HasFailed old new n (line_words line) from next number fault
-    → HasStoppedNext old new n given left from next number fault
+    → HasStoppedNext old new n given left line from next number fault
 last_failed old new n given left from next number fault line g h =
     next_failed old new n given left from next number fault (record { line = line; plain = g.0; bytes = line; form = inr (refl, g.2); taken = g.3 }) h
 
@@ -41,6 +41,6 @@ some_bytes [] long = absurd (omega (arith, long))
 some_bytes (c ∷ more) long = λ e. absurd cc
 
 -- a line that is too long
-pub next_too_long : (old new : WorldValue) (n : ℕ) (given left from : Option (List ℕ)) (number : ℕ) (line : List ℕ) → Gives given left line gave.TooLong → HasStoppedNext old new n given left from from number (TooLong number)
+pub next_too_long : (old new : WorldValue) (n : ℕ) (given left from : Option (List ℕ)) (number : ℕ) (line : List ℕ) → Gives given left line gave.TooLong → HasStoppedNext old new n given left line from from number (TooLong number)
 next_too_long old new n given left from number line g =
-    (refl, record { line = line; plain = g.0; bytes = line; form = inr (refl, some_bytes line g.1); taken = g.2 }, refl, g.1, Keeps-refl from)
+    (refl, record { line = line; plain = g.0; bytes = line; form = inr (refl, some_bytes line g.1); taken = g.2 }, refl, refl, g.1, Keeps-refl from)

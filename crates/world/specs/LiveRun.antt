@@ -1,5 +1,5 @@
 -- What `simulate_lines` leaves: a schedule that a reader gives line by line.
-use Rattle.std.specs.Prelude.{◌≡◌, ℕ, ◌+◌, ◌++◌, ◌⊎◌, List, Option, Some, length, slice_get}
+use Rattle.std.specs.Prelude.{◌≡◌, ℕ, ◌+◌, ◌≤◌, ◌++◌, ◌⊎◌, List, Option, Some, length, slice_get}
 use Rattle.std.specs.Io.KnownBytes.{Appends, Consumes, IsAtEnd}
 use Rattle.words.specs.Lines.{lines_of}
 use Rattle.plant.specs.PlantValue.{PlantValue}
@@ -30,11 +30,11 @@ pub record HasAnswered (plant : PlantValue) (max_number : ℕ) (given left old n
   pub read : Consumes given left schedule
   pub run : WritesRun plant max_number schedule old new
 
--- line n of what was read, counted from 1, is the first that is no event, comment or blank; nothing behind it was read,
--- and what was written is the lines of the events before it
-abbrev pub StopsAtLast : PlantValue → ℕ → List ℕ → ℕ → Option (List ℕ) → Option (List ℕ) → Type 0
-StopsAtLast plant max_number schedule n old new =
-    StopsAt plant max_number schedule n old new × (length (lines_of schedule) ≡ n)
+-- line n of what was read, counted from 1, is this one, and the last
+abbrev pub IsLastLine : List ℕ → ℕ → List ℕ → Type 0
+IsLastLine schedule n line =
+    (before : ℕ) × (n ≡ before + 1) × (length (lines_of schedule) ≡ n)
+    × (slice_get (lines_of schedule) before ≡ Some line)
 
 -- line n of what was read, counted from 1, has more than 1,000,000 bytes, of which one more was read; what was written
 -- is the lines of the events before it
@@ -60,18 +60,31 @@ pub record StopsBetween (plant : PlantValue) (max_number : ℕ) (schedule : List
   pub no_feed : HasNoFeed begun
   pub run : WritesRun plant max_number whole old new
 
--- what each fault means, and what was written before
-abbrev pub StopsLive : PlantValue → ℕ → List ℕ → Option (List ℕ) → Option (List ℕ) → LiveFault → Type 0
-StopsLive plant max_number schedule old new (Syntax line) = StopsAtLast plant max_number schedule line old new
-StopsLive plant max_number schedule old new (TooLong line) = StopsWithin plant max_number schedule line old new
-StopsLive plant max_number schedule old new Read = StopsBetween plant max_number schedule old new
-StopsLive plant max_number schedule old new Write =
-    WritesBeginning plant max_number schedule old new ⊎ WritesFirst plant max_number schedule old new
-StopsLive plant max_number schedule old new Memory = WritesFirst plant max_number schedule old new
+-- what was written is a beginning of the lines of the events of some first lines, and not all of it; no line behind
+-- these was read
+abbrev pub WritesBeginningLive : PlantValue → ℕ → List ℕ → Option (List ℕ) → Option (List ℕ) → Type 0
+WritesBeginningLive plant max_number schedule old new =
+    (w : WritesBeginning plant max_number schedule old new) × (length (lines_of schedule) ≤ w.lines)
 
--- what was read up to the fault, and what was written for it
-pub record EndsLiveRun (plant : PlantValue) (max_number : ℕ) (given left old new : Option (List ℕ))
-    (fault : LiveFault) : Type 0 where
+-- what was written is the lines of the events of some first lines; at most so many lines behind these were read
+abbrev pub WritesFirstLive : PlantValue → ℕ → List ℕ → ℕ → Option (List ℕ) → Option (List ℕ) → Type 0
+WritesFirstLive plant max_number schedule more old new =
+    (w : WritesFirst plant max_number schedule old new) × (length (lines_of schedule) ≤ w.lines + more)
+
+-- what each fault means, and what was written before; after Syntax and TooLong this is the line that was read last
+abbrev pub StopsLive : PlantValue → ℕ → List ℕ → List ℕ → Option (List ℕ) → Option (List ℕ) → LiveFault → Type 0
+StopsLive plant max_number schedule last old new (Syntax line) =
+    StopsAt plant max_number schedule line old new × IsLastLine schedule line last
+StopsLive plant max_number schedule last old new (TooLong line) =
+    StopsWithin plant max_number schedule line old new × IsLastLine schedule line last
+StopsLive plant max_number schedule last old new Read = StopsBetween plant max_number schedule old new
+StopsLive plant max_number schedule last old new Write =
+    WritesBeginningLive plant max_number schedule old new ⊎ WritesFirstLive plant max_number schedule 0 old new
+StopsLive plant max_number schedule last old new Memory = WritesFirstLive plant max_number schedule 1 old new
+
+-- what was read up to the fault, the line that is left behind, and what was written for it
+pub record EndsLiveRun (plant : PlantValue) (max_number : ℕ) (given left : Option (List ℕ)) (last : List ℕ)
+    (old new : Option (List ℕ)) (fault : LiveFault) : Type 0 where
   pub schedule : List ℕ
   pub read : Consumes given left schedule
-  pub stops : StopsLive plant max_number schedule old new fault
+  pub stops : StopsLive plant max_number schedule last old new fault

@@ -82,7 +82,7 @@ impl Simulation {
             (L.left source.old) (L.left source.new) (W.contents out.old) (W.contents out.new)) }
         ensures fault { IfErr result
             (HasStoppedNext self.old.world self.new.world self.old.events
-            (L.left source.old) (L.left source.new) (W.contents out.old) (W.contents out.new) number) }
+            (L.left source.old) (L.left source.new) line.new.items (W.contents out.old) (W.contents out.new) number) }
     {
         match source.take_line(line, out) {
             Ok(Given::Line) => {
@@ -105,9 +105,9 @@ impl Simulation {
 /// on before the next line is read. So another program can read what an event did, and then write the next one.
 ///
 /// `Syntax` is the first line, counted from 1, that is no event, comment or blank, `TooLong` one of more than 1,000,000
-/// bytes; the lines of the events before it are written, and nothing behind it is read. After `Read` the lines of all
-/// whole lines that were read are written. After `Write` what went out is a beginning of the text, after `Memory` the
-/// lines of some first events. `line` is room for a line, and has the one that was read last.
+/// bytes; the lines of the events before it are written, and nothing behind it is read: `line` is left with it, or with
+/// what was read of it. After `Read` the lines of all whole lines that were read are written. After `Write` what went
+/// out is a beginning of the text of all lines that were read, after `Memory` the text of all, or of all but the last.
 pub fn simulate_lines<R: Read, W: Write>(
     alloc: Global,
     plant: Arc<Plant>,
@@ -120,7 +120,7 @@ pub fn simulate_lines<R: Read, W: Write>(
         (WritesLiveRun plant.value max_number (R.remaining input.old) (R.remaining input.new)
         (W.contents out.old) (W.contents out.new)) }
     ensures fault { IfErr result
-        (EndsLiveRun plant.value max_number (R.remaining input.old) (R.remaining input.new)
+        (EndsLiveRun plant.value max_number (R.remaining input.old) (R.remaining input.new) line.new.items
         (W.contents out.old) (W.contents out.new)) }
 {
     simulate_in_turns(alloc, plant, max_number, line, input, out)
@@ -143,7 +143,7 @@ pub fn simulate_in_turns<L: LineSource, W: Write>(
         (WritesLiveRun plant.value max_number (L.left source.old) (L.left source.new)
         (W.contents out.old) (W.contents out.new)) }
     ensures fault { IfErr result
-        (EndsLiveRun plant.value max_number (L.left source.old) (L.left source.new)
+        (EndsLiveRun plant.value max_number (L.left source.old) (L.left source.new) line.new.items
         (W.contents out.old) (W.contents out.new)) }
 {
     simulate_world_in_turns(alloc, plant, max_number, line, source, out)?;
@@ -166,7 +166,7 @@ pub fn simulate_world_in_turns<L: LineSource, W: Write>(
         (HasLiveRun plant.value max_number (L.left source.old) (L.left source.new)
         (W.contents out.old) (W.contents out.new)) }
     ensures fault { IfErr result
-        (EndsLiveRun plant.value max_number (L.left source.old) (L.left source.new)
+        (EndsLiveRun plant.value max_number (L.left source.old) (L.left source.new) line.new.items
         (W.contents out.old) (W.contents out.new)) }
 {
     let Ok(world) = open(alloc, plant, max_number) else {

@@ -23,7 +23,7 @@ use Rattle.plant_grammar.specs.Grammar.{mark_word, program_words, TextValue}
 use Rattle.plant_grammar.specs.Kinds.{input_kind_of}
 use Rattle.declared_names.specs.Kinds.{kind_of_space}
 use Rattle.plant_grammar.specs.Lawful.{IsTypeLawful, task_of, use_of}
-use Rattle.plant_grammar.specs.NameFaults.{IsOfName, Tells, TellsOfName, IsNameTaken, IsAfter, IsAfterAll, RefusesProgram, RefusesTask, RefusesBind, RefusesInstance, RefusesItems, RefusesResource, RefusesResources, RefusesBehind}
+use Rattle.plant_grammar.specs.NameFaults.{IsOfName, Tells, TellsOfName, TellsOfSoughtName, IsNameTaken, IsAfter, IsAfterAll, RefusesProgram, RefusesTask, RefusesBind, RefusesInstance, RefusesItems, RefusesResource, RefusesResources, RefusesBehind}
 use Rattle.plant_grammar.specs.Steps.Lines.{ReaderValue, HasLinesOf, next_line}
 use Rattle.plant_grammar.specs.Steps.ReadParts.{TallyValue}
 use Rattle.plant_grammar.specs.Steps.Reading.{programs_of}
@@ -38,14 +38,14 @@ abbrev pub IsNameNext : List Token → Type 0
 IsNameNext words = (name : List ℕ) × (rest : List Token) × (words ≡ token.Name name ∷ rest)
 
 -- The next word is a name. The fault is NameTwice only where one of these programs has it, and TooMany only where
--- they are 64.
+-- none does and they are 64.
 abbrev pub TellsOfType : List TextValue → List Token → GrammarFault → Type 0
 TellsOfType before words fault =
     TellsOfName fault.kind (RepeatsName (λ (p : Program). p.name) (programs_of before) words)
     (IsNameNext words × (64 ≤ length before))
 
 -- The next word is a name. The fault is NameTwice only where one of these variables or an earlier name of the list is
--- the same, and TooMany only where all these are 1,000.
+-- the same, and TooMany only where none is and all these are 1,000.
 abbrev pub TellsOfVariable : List Declaration → List (List ℕ) → List Token → GrammarFault → Type 0
 TellsOfVariable variables names words fault =
     TellsOfName fault.kind
@@ -53,14 +53,14 @@ TellsOfVariable variables names words fault =
     (IsNameNext words × (1000 ≤ length variables + length names))
 
 -- The next word is a name. The fault is NameTwice only where a task of these lines has it, and TooMany only where
--- their tasks are 16.
+-- none does and their tasks are 16.
 abbrev pub TellsOfTask : List Item → List Token → GrammarFault → Type 0
 TellsOfTask before words fault =
     TellsOfName fault.kind (RepeatsName (λ (t : TaskLine). t.name) (flat_map task_of before) words)
     (IsNameNext words × (16 ≤ length (flat_map task_of before)))
 
 -- The next word is a name. The fault is NameTwice only where an instance of these lines has it, and TooMany only
--- where the plant has 64 instances.
+-- where none does and the plant has 64 instances.
 abbrev pub TellsOfInstance : List Item → ℕ → List Token → GrammarFault → Type 0
 TellsOfInstance before instances words fault =
     TellsOfName fault.kind (RepeatsName (λ (u : Use). u.instance) (flat_map use_of before) words)
@@ -81,10 +81,10 @@ MissesInput ds words =
     (name : List ℕ) × (rest : List Token) × (words ≡ token.Name name ∷ rest) × (input_kind_of ds name ≡ None)
 
 -- The next word is a name. The fault is UnknownName only where it is none of an input, InputBoundTwice only where one
--- of these binds has it, and TooMany only where the plant has 4,096 binds.
+-- of these binds has it, and TooMany only where neither is so and the plant has 4,096 binds.
 abbrev pub TellsOfInput : ℕ → List Declaration → List Bind → List Token → GrammarFault → Type 0
 TellsOfInput binds ds before words fault =
-    Tells fault.kind ⊥ (MissesInput ds words) ⊥ (RepeatsName (λ (b : Bind). b.input) before words)
+    TellsOfSoughtName fault.kind (MissesInput ds words) (RepeatsName (λ (b : Bind). b.input) before words)
     (IsNameNext words × (4096 ≤ binds))
 
 -- the fault is of these kinds WrongKind alone, and only where the next word is an address of another kind
@@ -101,14 +101,14 @@ TellsOfBlock s words fault =
     ((b : BlockType) × (rest : List Token) × (words ≡ token.Block b ∷ rest) × (IsTypeLawful s (Block b) → ⊥)) ⊥ ⊥
 
 -- The next word is a name. The fault is NameTwice only where one of these resources has it, and TooMany only where
--- they are 16.
+-- none does and they are 16.
 abbrev pub TellsOfResource : List Resource → List Token → GrammarFault → Type 0
 TellsOfResource before words fault =
     TellsOfName fault.kind (RepeatsName (λ (r : Resource). r.name) before words)
     (IsNameNext words × (16 ≤ length before))
 
 -- The fault is NameTwice only where one of these variables or of the names that are to be declared next is the same,
--- and TooMany only where all these are 1,000.
+-- and TooMany only where none is and all these are 1,000.
 abbrev pub TellsOfChecked : List Declaration → List (List ℕ) → List ℕ → GrammarFault → Type 0
 TellsOfChecked variables more name fault =
     TellsOfName fault.kind (IsDeclared variables name ⊎ IsNameTaken (λ (n : List ℕ). n) more name)
@@ -116,7 +116,7 @@ TellsOfChecked variables more name fault =
 
 -- The fault is NameTwice only where one of these variables has the name, and TooMany only where they are 1,000.
 abbrev pub TellsOfAdded : List Declaration → List ℕ → GrammarFault → Type 0
-TellsOfAdded variables name fault = TellsOfName fault.kind (IsDeclared variables name) (1000 ≤ length variables)
+TellsOfAdded variables name fault = Tells fault.kind (IsDeclared variables name) ⊥ ⊥ ⊥ (1000 ≤ length variables)
 
 -- This is the line of the word before the rest, where all words begin on these lines.
 pub record IsLineBefore (all : List ℕ) (line : ℕ) (rest : List Token) : Type 0 where

@@ -8,8 +8,8 @@ use Rattle.plant_text.specs.declared.token.Keyword.TheVariants as key
 use Rattle.plant_text.specs.declared.lexer.Stage.{Stage}
 use Rattle.plant_text.specs.declared.lexer.Stage.TheVariants as stage
 use Rattle.plant_text.specs.Words.{front_len, is_name_char, word_of}
-use Rattle.plant_text.specs.Spelling.{is_parted, IsGap, IsBody, IsBlankLine, IsBodyThen, first_line, IsEndLine, feeds, Spells, BeginsWithThen}
-use Rattle.plant_text.specs.Places.{stage_after}
+use Rattle.plant_text.specs.Spelling.{is_parted, IsGap, IsBody, IsBlankLine, IsBodyThen, first_line, IsEndLine, feeds, Spells, BeginsWithThen, BeginsNoBlock}
+use Rattle.plant_text.specs.Places.{stage_after, is_body, FitsPlace}
 pub use Rattle.plant_text.specs.Places.{stage_behind, is_due}
 use Rattle.plant_text.specs.Lines.{WordValue, body_line, IsUnknownWord, OpensComment, HasNoWord}
 
@@ -117,6 +117,15 @@ StopsAt old w = w.token ≡ token.Unknown → (n : ℕ) → old.line ≡ min n 1
 abbrev pub is_section : Token → Bool
 is_section (token.Keyword k) = begins_block (Some k)
 is_section _ = false
+
+-- If this is a word, it is no body, and where a block of variables begins, it begins one.
+abbrev pub IsNoBodyThere : LexerValue → WordValue → Type 0
+IsNoBodyThere old w = w.token ≢ token.Unknown
+    → (is_body w.token ≡ false) × ((BeginsNoBlock old.text → ⊥) → is_section w.token ≡ true)
+
+-- If this is a word, it fits its place.
+abbrev pub StandsInPlace : LexerValue → WordValue → Type 0
+StandsInPlace old w = w.token ≢ token.Unknown → FitsPlace (is_due old.stage) w.token
 
 -- what may follow a word without a gap: `#` and `=` don't, since they would be part of it, nor does `*`
 abbrev pub may_follow : List ℕ → Bool

@@ -57,9 +57,18 @@ RefusesFree ds marks held (Claim fault) = ⊥
 RefusesFree ds marks held (Held fault) = ⊥
 RefusesFree ds marks held (TooManyInputs count) = AreMany ds marks held count
 
-pub record RefusesFreeOf (ds : List Declaration) (marks : List Bool) (words : List (List ℕ)) (fault : VerifyFault) : Type 0 where
+-- the words hold inputs, and this is why the names are no claims
+pub record RefusesClaimsOf (ds : List Declaration) (marks : List Bool) (q : QuestionValue) (fault : VerifyFault) : Type 0 where
   pub held : List Setting
-  pub by : AreHeldBy ds marks words held
+  pub by : AreHeldBy ds marks q.words held
+  pub refused : ClaimsRefused ds marks q.claims fault
+
+-- the words hold inputs, the names are claims, and this is why there are no free inputs
+pub record RefusesFreeOf (ds : List Declaration) (marks : List Bool) (q : QuestionValue) (fault : VerifyFault) : Type 0 where
+  pub held : List Setting
+  pub by : AreHeldBy ds marks q.words held
+  pub claims : List ℕ
+  pub claimed : ClaimsRead ds marks q.claims claims
   pub refused : RefusesFree ds marks held fault
 
 -- the places of the claims and the inputs, where the marks tell what is stored
@@ -70,7 +79,7 @@ pub record IsAsked (ds : List Declaration) (marks : List Bool) (q : QuestionValu
 
 -- why there are none
 abbrev pub RefusesAsking : List Declaration → List Bool → QuestionValue → VerifyFault → Type 0
-RefusesAsking ds marks q fault = RefusesHolding ds marks q.words fault ⊎ (ClaimsRefused ds marks q.claims fault ⊎ RefusesFreeOf ds marks q.words fault)
+RefusesAsking ds marks q fault = RefusesHolding ds marks q.words fault ⊎ (RefusesClaimsOf ds marks q fault ⊎ RefusesFreeOf ds marks q fault)
 
 -- the ladder with its inputs, and the places of the claims
 pub record IsPrepared (drawing : List ℕ) (q : QuestionValue) (u : SetupValue) (places : List ℕ) : Type 0 where

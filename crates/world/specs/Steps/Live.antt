@@ -60,15 +60,16 @@ HasDoneNext old new count more given left from to false =
     IsAtEnd left
     × ((Consumes given left [] × Keeps from to × (new ≡ old) × (more ≡ count)) ⊎ HasEnded old new count more given left from to)
 
--- why the next line isn't there, or isn't done
-abbrev pub HasStoppedNext : WorldValue → WorldValue → ℕ → Option (List ℕ) → Option (List ℕ) → Option (List ℕ)
+-- why the next line isn't there, or isn't done; of a line that is bad, this is what was read of it
+abbrev pub HasStoppedNext : WorldValue → WorldValue → ℕ → Option (List ℕ) → Option (List ℕ) → List ℕ → Option (List ℕ)
     → Option (List ℕ) → ℕ → LiveFault → Type 0
-HasStoppedNext old new count given left from to number (Syntax line) =
-    (r : HasRead given left) × HasFailed old new count (line_words r.line) from to number (Syntax line)
-HasStoppedNext old new count given left from to number (TooLong line) =
-    (line ≡ number) × (r : HasRead given left) × (r.bytes ≡ r.line) × (length r.line ≡ 1000001) × Keeps from to
-HasStoppedNext old new count given left from to number Read = TakesSome given left × Keeps from to
-HasStoppedNext old new count given left from to number Write =
+HasStoppedNext old new count given left last from to number (Syntax line) =
+    (r : HasRead given left) × (r.line ≡ last) × HasFailed old new count (line_words r.line) from to number (Syntax line)
+HasStoppedNext old new count given left last from to number (TooLong line) =
+    (line ≡ number) × (r : HasRead given left) × (r.line ≡ last) × (r.bytes ≡ r.line) × (length r.line ≡ 1000001)
+    × Keeps from to
+HasStoppedNext old new count given left last from to number Read = TakesSome given left × Keeps from to
+HasStoppedNext old new count given left last from to number Write =
     (r : HasRead given left) × HasFailed old new count (line_words r.line) from to number Write
-HasStoppedNext old new count given left from to number Memory =
+HasStoppedNext old new count given left last from to number Memory =
     (TakesSome given left ⊎ HasRead given left) × Keeps from to

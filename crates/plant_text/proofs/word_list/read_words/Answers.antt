@@ -8,6 +8,7 @@ use Rattle.plant_text.proofs.LineCounts.{counted_first, counted_next, begun_firs
 use Rattle.plant_text.proofs.ReadWords.{up_to_first, up_to_next, up_to_end}
 use Rattle.plant_text.proofs.UnknownWords.{placed_first, placed_next, open_first, open_next, known_before_next, stopped_first, stopped_next, known_first, known_next}
 use Rattle.plant_text.proofs.BodyTexts.{texts_of}
+use Rattle.plant_text.proofs.WordPlaces.{in_places_first, in_places_next}
 use Rattle.plant_text.proofs.word_list.read_words.Goals as goal
 
 pub words-init : goal.words-init
@@ -23,6 +24,7 @@ words-init c =
       open_at = rw none (open_first c.new-lexer.result);
       stopped = rw none (stopped_first text);
       known = rw none known_first;
+      in_places = rw none in_places_first;
     }
 
 pub words-preserved : goal.words-preserved
@@ -43,6 +45,7 @@ words-preserved c =
       open_at = open_next c.words.words.items c.push.new.self.items word c.next.new.self c.in_ok-push.ensures.items known (rw c.in-Some.is at c.in_ok-word.ensures.last);
       stopped = stopped_next text c.words.words.items c.push.new.self.items word c.words.lexer c.in_ok-push.ensures.items known c.words.invariant.counted c.words.invariant.placed (rw c.in-Some.is at c.in_ok-word.ensures.stops);
       known = known_next c.words.words.items c.push.new.self.items word c.in_ok-push.ensures.items known;
+      in_places = in_places_next c.words.words.items c.push.new.self.items word c.words.lexer c.in_ok-push.ensures.items known c.words.invariant.placed (rw c.in-Some.is at c.in_ok-word.ensures.placed) c.words.invariant.in_places;
     }
 
 pub returns-clause-spelled : goal.returns-clause-spelled

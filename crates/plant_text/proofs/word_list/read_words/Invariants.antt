@@ -1,5 +1,5 @@
 use Rattle.std.proofs.Common.{length, map}
-use Rattle.plant_text.specs.Lines.{WordValue, IsBegunBy, IsStoppedBy, AreWordsButLast}
+use Rattle.plant_text.specs.Lines.{WordValue, IsBegunBy, IsStoppedBy, AreWordsButLast, AreInTheirPlaces}
 use Rattle.words.specs.Lines.{without_last}
 use Rattle.plant_text.proofs.SpelledWords.{IsReadTo}
 use Rattle.plant_text.proofs.LineCounts.{IsCountedTo}
@@ -17,6 +17,7 @@ invariant-words l = record {
   open_at : IsOpenAt l.words.items l.lexer;
   stopped : IsStoppedBy (without_last 13 l.text) l.words.items;
   known : AreWordsButLast l.words.items;
+  in_places : AreInTheirPlaces l.words.items;
 }
 
 abbrev pub decreases-words : goal.decreases-words

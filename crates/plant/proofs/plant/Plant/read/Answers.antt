@@ -1,4 +1,4 @@
-use Rattle.std.proofs.Common.{ℕ, ◌≡◌, ◌≢◌, ◌<◌, ◌^◌, inl, inr, List, [], ◌++◌, All, length, map, ap, refl, sym, subst, ◌∙◌}
+use Rattle.std.proofs.Common.{ℕ, ◌≡◌, ◌≢◌, ◌<◌, ◌^◌, inl, inr, List, [], ◌++◌, All, length, map, ap, refl, sym, subst, ◌∙◌, arith}
 use Rattle.std.proofs.lemmas.List.{append-nil, append_cancel_right, map-append, length-map}
 use Rattle.words.specs.Lines.{without_last}
 use Rattle.plant_text.specs.declared.token.Token.{Token}
@@ -204,7 +204,7 @@ returns-in_err-types-clause-refused c =
     let met = c.read_tree-tree.ensures.texts in
     kept_fault fault (λ f. f.kind ≢ Memory → IsNoPlant c.args.text.now) c.from_residual-in_err-types.result c.from_residual-in_err-types.ensures.1
     (λ other tree spelled faultless.
-    let start : c.new-reader.result.words ≡ words_of tree ++ [] = sym words ∙ c.in_ok-words.ensures.every (words_of tree) (c.words_are_in_place.ensures tree faultless.lawful.few_types) spelled ∙ sym (append-nil (words_of tree)) in
+    let start : c.new-reader.result.words ≡ words_of tree ++ [] = sym words ∙ c.in_ok-words.ensures.every (words_of tree) (c.words_are_in_place.ensures tree (omega (arith, faultless.lawful.few_types))) spelled ∙ sym (append-nil (words_of tree)) in
     let first = c.programs_are_the_first.ensures (programs_of texts) tree met.rest [] (sym met.written ∙ start) in
     c.in_err-types.ensures.refused other (ladders_same texts tree.programs first.0 first.1 faultless.drawn))
 
@@ -215,7 +215,7 @@ returns-in_err-resources-clause-refused c =
     let words : map (λ (w : WordValue). w.token) ws ≡ c.new-reader.result.words = ap (λ (ws : List WordValue). map (λ (w : WordValue). w.token) ws) (sym c.words-2.ensures.value) ∙ ap (λ (r : ReaderValue). r.words) (sym c.new-reader.ensures) in
     kept_fault (fault_of_word word) (λ f. f.kind ≢ Memory → IsNoPlant c.args.text.now) c.from_residual-in_err-resources.result c.from_residual-in_err-resources.ensures.1
     (λ other tree spelled faultless.
-    let start : c.new-reader.result.words ≡ words_of tree ++ [] = sym words ∙ c.in_ok-words.ensures.every (words_of tree) (c.words_are_in_place.ensures tree faultless.lawful.few_types) spelled ∙ sym (append-nil (words_of tree)) in
+    let start : c.new-reader.result.words ≡ words_of tree ++ [] = sym words ∙ c.in_ok-words.ensures.every (words_of tree) (c.words_are_in_place.ensures tree (omega (arith, faultless.lawful.few_types))) spelled ∙ sym (append-nil (words_of tree)) in
     c.in_err-resources.ensures.refused (λ memory. other (ap kind_of_word memory)) tree [] start faultless.lawful)
 
 pub returns-in_err-plant-clause-refused : goal.returns-in_err-plant-clause-refused
@@ -228,7 +228,7 @@ returns-in_err-plant-clause-refused c =
     let rs = c.in_ok-resources.resources.items in
     kept_fault (fault_of_word word) (λ f. f.kind ≢ Memory → IsNoPlant c.args.text.now) c.from_residual-in_err-plant.result c.from_residual-in_err-plant.ensures.1
     (λ other tree spelled faultless.
-    let start : c.new-reader.result.words ≡ words_of tree ++ [] = sym words ∙ c.in_ok-words.ensures.every (words_of tree) (c.words_are_in_place.ensures tree faultless.lawful.few_types) spelled ∙ sym (append-nil (words_of tree)) in
+    let start : c.new-reader.result.words ≡ words_of tree ++ [] = sym words ∙ c.in_ok-words.ensures.every (words_of tree) (c.words_are_in_place.ensures tree (omega (arith, faultless.lawful.few_types))) spelled ∙ sym (append-nil (words_of tree)) in
     let only = c.in_ok-resources.ensures.only tree [] start in
     let same = ap (tree_of tree.name) c.new-reading.ensures ∙ drawn_tree tree.name texts types rs c.in_ok-types.ensures.ok in
     c.in_err-plant.ensures.refused (λ memory. other (ap kind_of_word memory)) tree.name
@@ -241,7 +241,7 @@ returns-in_err-end-clause-refused c =
     let words : map (λ (w : WordValue). w.token) ws ≡ c.new-reader.result.words = ap (λ (ws : List WordValue). map (λ (w : WordValue). w.token) ws) (sym c.words-2.ensures.value) ∙ ap (λ (r : ReaderValue). r.words) (sym c.new-reader.ensures) in
     kept_fault (fault_of_word word) (λ f. f.kind ≢ Memory → IsNoPlant c.args.text.now) c.from_residual-in_err-end.result c.from_residual-in_err-end.ensures.1
     (λ other tree spelled faultless.
-    let start : c.new-reader.result.words ≡ words_of tree ++ [] = sym words ∙ c.in_ok-words.ensures.every (words_of tree) (c.words_are_in_place.ensures tree faultless.lawful.few_types) spelled ∙ sym (append-nil (words_of tree)) in
+    let start : c.new-reader.result.words ≡ words_of tree ++ [] = sym words ∙ c.in_ok-words.ensures.every (words_of tree) (c.words_are_in_place.ensures tree (omega (arith, faultless.lawful.few_types))) spelled ∙ sym (append-nil (words_of tree)) in
     c.in_err-end.ensures.err.1 (c.in_ok-resources.ensures.only tree [] start).0)
 
 pub returns-in_err-types-clause-syntax : goal.returns-in_err-types-clause-syntax
@@ -263,7 +263,7 @@ returns-in_err-resources-clause-syntax c =
       no_plant = λ tree more few formed plain spelled.
           let start : c.new-reader.result.words ≡ words_of tree ++ more = sym words ∙ c.in_ok-words.ensures.every (words_of tree ++ more) (c.words_behind_are_in_place.ensures tree more few plain) spelled in
           absurd (c.in_err-resources.ensures.syntax (of_syntax word.kind syntax) tree more start formed);
-      first = syntax_first c.args.text.now ws c.new-reader.result word.line words left c.in_ok-words.ensures.spelled c.in_ok-words.ensures.begun c.in_ok-words.ensures.stops c.in_ok-words.ensures.known
+      first = syntax_first c.args.text.now ws c.new-reader.result word.line words left c.in_ok-words.ensures.spelled c.in_ok-words.ensures.begun c.in_ok-words.ensures.stops c.in_ok-words.ensures.known c.in_ok-words.ensures.placed
           (c.in_err-resources.ensures.misplaced (of_syntax word.kind syntax) (subst (λ (r : ReaderValue). length r.words < 2 ^ 63) (sym c.new-reader.ensures) (subst (λ n. n < 2 ^ 63) (sym (length-map c.words-2.result.now (λ (w : WordValue). w.token))) c.words-2.ensures.few)));
     })
 
@@ -301,6 +301,6 @@ returns-in_err-end-clause-syntax c =
           } in
           let of_faultless : HasFaultlessWords tree = (found, append_cancel_right (words_of found) (words_of tree) more both, faultless) in
           ((λ none. c.in_err-end.ensures.err.1 (left ∙ none)), of_faultless);
-      first = syntax_first c.args.text.now ws c.new-reader.result word.line words left c.in_ok-words.ensures.spelled c.in_ok-words.ensures.begun c.in_ok-words.ensures.stops c.in_ok-words.ensures.known
+      first = syntax_first c.args.text.now ws c.new-reader.result word.line words left c.in_ok-words.ensures.spelled c.in_ok-words.ensures.begun c.in_ok-words.ensures.stops c.in_ok-words.ensures.known c.in_ok-words.ensures.placed
           (subst (λ n. MeetsMisplaced c.new-reader.result n) (sym (ap (λ (f : GrammarFault). f.line) c.in_err-end.ensures.err.0)) (c.in_ok-resources.ensures.behind c.in_err-end.ensures.err.1));
     })

@@ -5,6 +5,7 @@ use Rattle.plant_text.proofs.ReadWords.{gap_read, nothing_left, comment_left, no
 use Rattle.plant_text.proofs.SpelledWords.{word_read}
 use Rattle.plant_text.proofs.LineCounts.{word_stands}
 use Rattle.plant_text.proofs.UnknownWords.{word_moves_on, no_word_found, open_found}
+use Rattle.plant_text.proofs.WordPlaces.{word_there}
 use Rattle.plant_text.proofs.lexer.Lexer.word_behind_gap.Goals as goal
 
 pub returns-clause-word : goal.returns-clause-word
@@ -53,6 +54,11 @@ returns-clause-stops c =
     let same : c.args.self.now.text ≡ c.self.inside.rest.now = cc in
     no_word_found c.args.self.now c.advance.new.self c.self.inside.rest.now c.behind_gap-rest.result.now c.in_ok-word.field-0 same c.behind_gap-rest.ensures (not_empty c.behind_gap-rest.result.now c.is_empty.result c.is_empty.ensures c.if-is_empty.false)
     c.advance.ensures.text c.advance.ensures.line c.in_ok-word.ensures.begins c.in_ok-word.ensures.is
+
+pub returns-clause-there : goal.returns-clause-there
+returns-clause-there c =
+    let same : c.args.self.now.text ≡ c.self.inside.rest.now = cc in
+    word_there c.args.self.now c.advance.new.self c.word.new.self c.self.inside.rest.now c.behind_gap-rest.result.now c.in_ok-word.field-0 same c.behind_gap-rest.ensures c.advance.ensures.text c.in_ok-word.ensures.word
 
 pub returns-in-40-clause-stops : goal.returns-in-40-clause-stops
 returns-in-40-clause-stops c =

@@ -17,7 +17,7 @@ returns-in_err-do_read-in-Ok-Line-clause-fault g c =
     let line = c.take_line.new.line.items in
     let fault = c.in_err-do_read-in-Ok-Line.field-0.0 in
     let gives = subst (Gives given left line) c.in-Ok-Line.field-0-is c.in-Ok-Line.ensures.ok in
-    kept_fault fault (HasStoppedNext old new n given left from next c.args.number) c.from_residual.result c.from_residual.ensures.1
+    kept_fault fault (HasStoppedNext old new n given left line from next c.args.number) c.from_residual.result c.from_residual.ensures.1
     (line_failed old new n given left from next c.args.number fault line gives (rw c.deref.ensures.value at c.in_err-do_read-in-Ok-Line.ensures.fault))
 
 pub returns-in_err-do_read-in-Ok-LastLine-clause-fault : goal.returns-in_err-do_read-in-Ok-LastLine-clause-fault
@@ -32,7 +32,7 @@ returns-in_err-do_read-in-Ok-LastLine-clause-fault g c =
     let line = c.take_line.new.line.items in
     let fault = c.in_err-do_read-in-Ok-LastLine.field-0.0 in
     let gives = subst (Gives given left line) c.in-Ok-LastLine.field-0-is c.in-Ok-LastLine.ensures.ok in
-    kept_fault fault (HasStoppedNext old new n given left from next c.args.number) c.from_residual-in_err-do_read-in-Ok-LastLine.result c.from_residual-in_err-do_read-in-Ok-LastLine.ensures.1
+    kept_fault fault (HasStoppedNext old new n given left line from next c.args.number) c.from_residual-in_err-do_read-in-Ok-LastLine.result c.from_residual-in_err-do_read-in-Ok-LastLine.ensures.1
     (last_failed old new n given left from next c.args.number fault line gives (rw c.deref-in-Ok-LastLine.ensures.value at c.in_err-do_read-in-Ok-LastLine.ensures.fault))
 
 pub returns-in-Ok-TooLong-clause-fault : goal.returns-in-Ok-TooLong-clause-fault

@@ -18,7 +18,7 @@ returns-in_err-check_new-clause-tells c =
     let fault = c.in_err-check_new.field-0.0 in
     kept_fault fault (TellsOfType c.args.before.now c.args.self.now.words) c.from_residual-in_err-check_new.result c.from_residual-in_err-check_new.ensures.1
     (tells_next fault.kind (λ (x : Program). x.name) (programs_of c.args.before.now) c.in_ok-name.name c.args.self.now.words c.name.new.self.words _ _ (64 ≤ length c.args.before.now) c.in_ok-name.ensures.ok
-    c.is_program.ensures.0 (λ full. search rules) c.in_err-check_new.ensures.tells)
+    c.is_program.ensures.0 c.is_program.ensures.1 (λ full. search rules) c.in_err-check_new.ensures.tells)
 
 pub returns-in_err-check_new-clause-other : new_type_goals.returns-in_err-check_new-clause-other
 returns-in_err-check_new-clause-other c =

@@ -1,4 +1,4 @@
-use Rattle.std.proofs.Common.{◌≡◌, ◌≢◌, ◌<◌, ◌+◌, [], ◌∷◌, ℕ, List, length, subst}
+use Rattle.std.proofs.Common.{◌≡◌, ◌≢◌, ◌≤◌, ◌<◌, ◌+◌, [], ◌∷◌, ℕ, List, length, subst}
 use Rattle.lists.proofs.Results.{kept_fault}
 use Rattle.declared_names.specs.Names.{IsDeclared}
 use Rattle.plant_text.specs.declared.token.Token.{Token}
@@ -7,7 +7,9 @@ use Rattle.plant_grammar.specs.declared.grammar_fault.GrammarFaultKind.TheVarian
 use Rattle.plant_grammar.specs.Steps.ReadParts.{IsNew}
 use Rattle.plant_grammar.specs.Steps.Expected.{AName, GetsStuck}
 use Rattle.plant_grammar.proofs.UnexpectedWords.{name_stuck}
+use Rattle.plant_grammar.specs.Steps.Declaring.{TellsOfVariable}
 use Rattle.plant_grammar.proofs.NewNames.{one_name}
+use Rattle.plant_grammar.proofs.RefusedPlaces.{variable_told}
 use Rattle.plant_grammar.proofs.grammar.reader.Reader.variable.Goals as goal
 
 pub returns-in_err-check-clause-other : goal.returns-in_err-check-clause-other
@@ -17,6 +19,12 @@ returns-in_err-check-clause-other c =
     (λ known name rest e apart new few.
     let same = one_name c.in_ok-name.name name c.args.self.now.words c.name.new.self.words rest c.in_ok-name.ensures.ok e in
     c.in_err-check.ensures.other (subst (λ n. IsDeclared c.args.variables.now n → ⊥) same apart) (subst (λ n. IsNew (λ (m : List ℕ). m) c.args.before.now n) same new) few)
+
+pub returns-in_err-check-clause-tells : goal.returns-in_err-check-clause-tells
+returns-in_err-check-clause-tells c =
+    let fault = c.in_err-check.field-0.0 in
+    kept_fault fault (TellsOfVariable c.args.variables.now c.args.before.now c.args.self.now.words) c.from_residual-in_err-check.result c.from_residual-in_err-check.ensures.1
+    (variable_told fault.kind c.args.variables.now c.args.before.now c.in_ok-name.name c.args.self.now.words c.name.new.self.words (1000 ≤ length c.args.variables.now + length c.args.before.now) c.in_ok-name.ensures.ok c.in_err-check.ensures.tells)
 
 pub returns-in_err-name-clause-stuck : goal.returns-in_err-name-clause-stuck
 returns-in_err-name-clause-stuck c =
