@@ -1,24 +1,18 @@
 -- Which values a file keeps.
-use Rattle.std.proofs.Common.{arith, ◌≡◌, ℕ, ◌+◌, ◌++◌, ◌<◌, List, length, take, Some, None, Result, Ok, Err, inl, inr, refl, sym, ap, subst, ◌∙◌}
-use Rattle.std.specs.Prelude.{IsErrAnd, codes}
-use Rattle.std.specs.Fmt.{decimal}
+use Rattle.std.proofs.Common.{arith, ◌≡◌, ℕ, ◌<◌, List, length, take, Some, None, Result, Ok, Err, sym, ap, subst, ◌∙◌}
+use Rattle.std.specs.Prelude.{IsErrAnd}
 use Rattle.std.specs.List.{AllByRecursion}
 use Rattle.std.specs.Global.{Vec}
-use Rattle.std.proofs.lemmas.List.{length-append, length-take, take_all}
+use Rattle.std.proofs.lemmas.List.{length-take, take_all}
 use Rattle.std.proofs.lemmas.Option.{none-some}
 use Rattle.std_blocks.specs.declared.value.Value.{Value}
 use Rattle.task_codes.specs.CodeValue.{CodeValue}
 use Rattle.evaluation.specs.Retained.{Suits}
 use Rattle.text_lines.specs.ReadParts.{IsInRange}
 use Rattle.keepers.specs.declared.folder_fault.FolderFault.TheVariants.{Failed}
-use Rattle.std.specs.BTreeMap.{get}
-use Rattle.std.specs.Ordering.{nat_cmp}
-use Rattle.keepers.specs.declared.memory_keeper.MemoryKeeper.{MemoryKeeper}
-use Rattle.keepers.specs.Keepers.{TellsNoMore, IsTold, kept_of}
-use Rattle.keepers.specs.KeptNumbers.{IsRaisedIn, number_file, number_text, temporary_file}
-use Rattle.keepers.specs.KnownFiles.{KnownFile, IsRead, AreOthersKept, IsKeptOrReplaced}
+use Rattle.keepers.specs.KnownFiles.{KnownFile, IsRead}
 use Rattle.keepers.specs.KnownFiles.KnownFile.{Unknown, Missing, Holding, Broken}
-use Rattle.keepers.specs.KeptRetained.{KeepsValues, KeepsNoValues, IsToldOf, retained_file, retained_text, DepartsAt}
+use Rattle.keepers.specs.KeptRetained.{KeepsValues, KeepsNoValues, IsToldOf, retained_text, DepartsAt}
 use Rattle.keepers.specs.Steps.Reading.{IsLonger}
 use Rattle.keepers.specs.declared.keeper_fault.KeeperFault.{KeeperFault}
 use Rattle.keepers.specs.declared.keeper_fault.KeeperFault.TheVariants as fault
@@ -26,7 +20,7 @@ use Rattle.keepers.specs.Steps.Raising.{IsReadOf}
 use Rattle.keepers.proofs.RetainedTexts.{departs_none}
 
 -- the first bytes are a text that is shorter than they may be only where they are all
-whole : (most : ℕ) (bytes text : List ℕ) → length text < most → take most bytes ≡ text → bytes ≡ text
+pub whole : (most : ℕ) (bytes text : List ℕ) → length text < most → take most bytes ≡ text → bytes ≡ text
 whole most bytes text short is = sym (take_all most bytes (omega (arith, length-take most bytes, ap (λ b. length b) is, short))) ∙ is
 
 -- values whose text was read are kept
@@ -73,44 +67,3 @@ told_fault file code most fault.Memory read = tt
 pub told_failed : (file : KnownFile) (code : CodeValue) (most : ℕ) (e : KeeperFault) (r : Result (List Value) KeeperFault) → IsErrAnd r (λ f. f ≡ e) → IsReadOf file most (Err e) → IsToldOf file code r
 told_failed file code most e (Ok values) is read = absurd is
 told_failed file code most e (Err f) is read = subst (λ (g : KeeperFault). IsToldOf file code (Err g)) (sym is) (told_fault file code most e read)
-
--- a task's file is neither that of the incarnation nor the one by way of which it is replaced
-longer_name : (resource dot number ending short : List ℕ) → length dot ≡ 1 → length ending ≡ length short → resource ++ dot ++ number ++ ending ≡ resource ++ short → ⊥
-longer_name resource dot number ending short one same is =
-    let l = ap (λ n. length n) is in
-    let a = length-append (resource ++ dot ++ number) ending in
-    let b = length-append (resource ++ dot) number in
-    let c = length-append resource dot in
-    let e = length-append resource short in
-    omega (arith, l, a, b, c, e, one, same)
-
--- so what replaces the one by way of the other leaves it
-others_same : (old new : List ℕ → KnownFile) (resource : List ℕ) (task : ℕ) → AreOthersKept old new (number_file resource) (temporary_file resource) → new (retained_file resource task) ≡ old (retained_file resource task)
-others_same old new resource task others =
-    others (retained_file resource task)
-    (λ is. longer_name resource (codes ".") (decimal task) (codes ".ret") (codes ".inc") refl refl is)
-    (λ is. longer_name resource (codes ".") (decimal task) (codes ".ret") (codes ".tmp") refl refl is)
-
-left_same : (old new : List ℕ → KnownFile) (resource bytes : List ℕ) (task : ℕ) → IsKeptOrReplaced old new (number_file resource) (temporary_file resource) bytes → new (retained_file resource task) ≡ old (retained_file resource task)
-left_same old new resource bytes task (inl kept) = others_same old new resource task kept.others
-left_same old new resource bytes task (inr replaced) = others_same old new resource task replaced.others
-
--- a raise leaves each task's file
-raised_same : (old new : List ℕ → KnownFile) (resource : List ℕ) (last task : ℕ) (answer : Result ℕ KeeperFault) → IsRaisedIn old new resource last answer → new (retained_file resource task) ≡ old (retained_file resource task)
-raised_same old new resource last task (Ok i) h = others_same old new resource task h.3.others
-raised_same old new resource last task (Err fault.Unreadable) h = ap (λ f. f (retained_file resource task)) h.1
-raised_same old new resource last task (Err fault.Spent) h = ap (λ f. f (retained_file resource task)) h.1
-raised_same old new resource last task (Err fault.Unwritable) h = left_same old new resource (number_text (h.n + 1)) task h.left
-raised_same old new resource last task (Err fault.Memory) (inl same) = ap (λ f. f (retained_file resource task)) same
-raised_same old new resource last task (Err fault.Memory) (inr h) = left_same old new resource (number_text (h.n + 1)) task h.left
-
--- so of each task no more is told than before
-pub raised_tells : (old new : List ℕ → KnownFile) (resource resource_new : List ℕ) (last : ℕ) (answer : Result ℕ KeeperFault) → IsRaisedIn old new resource last answer → resource_new ≡ resource
-    → TellsNoMore (λ task code told. IsToldOf (old (retained_file resource task)) code told) (λ task code told. IsToldOf (new (retained_file resource_new task)) code told)
-raised_tells old new resource resource_new last answer h is task code told now =
-    subst (λ f. IsToldOf f code told) (raised_same old new resource last task answer h)
-    (subst (λ r. IsToldOf (new (retained_file r task)) code told) is now)
-
--- nor of what is in memory, where that stays
-pub memory_tells : (old new : MemoryKeeper) → new.kept ≡ old.kept → TellsNoMore (λ task code told. IsTold code (kept_of old task) told) (λ task code told. IsTold code (kept_of new task) told)
-memory_tells old new same task code told now = subst (λ kept. IsTold code (get nat_cmp kept task) told) same now

@@ -1,3 +1,5 @@
+pub mod Departing
+pub mod Keeping
 pub mod KeptFiles
 pub mod KeptTexts
 pub mod NumberTexts

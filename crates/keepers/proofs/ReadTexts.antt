@@ -110,7 +110,7 @@ long_as code text k xs rest le read =
     omega (arith, le, kinds, length-map xs kind_of, length-take k (retained_kinds code), length-map code.retained (λ (v : RetainedVariable). v.kind))
 
 -- one more line was read
-read_more : (code : CodeValue) (text : List ℕ) (k : ℕ) (xs : List Value) (rest : List ℕ) (v : RetainedVariable) (x : Value) (more : List ℕ) → slice_get code.retained k ≡ Some v
+pub read_more : (code : CodeValue) (text : List ℕ) (k : ℕ) (xs : List Value) (rest : List ℕ) (v : RetainedVariable) (x : Value) (more : List ℕ) → slice_get code.retained k ≡ Some v
     → AreRead code text k xs rest → BeginsWith code v rest x more → AreRead code text (k + 1) (xs ++ x ∷ []) more
 read_more code text k xs rest v x more at read begins =
     let within = slice_get_within code.retained k v at in
@@ -131,6 +131,12 @@ read_more code text k xs rest v x more at read begins =
           ∙ sym (append_assoc (retained_text code xs) (line_text code (v, x)) more)
           ∙ ap (λ l. l ++ more) (sym (one_line_more code code.retained xs v x here));
     }
+
+pub one_more_text : (code : CodeValue) (text : List ℕ) (k : ℕ) (xs : List Value) (rest : List ℕ) (v : RetainedVariable) (x : Value) → slice_get code.retained k ≡ Some v → AreRead code text k xs rest
+    → retained_text code (xs ++ x ∷ []) ≡ retained_text code xs ++ line_text code (v, x)
+one_more_text code text k xs rest v x at read =
+    let within = slice_get_within code.retained k v at in
+    one_line_more code code.retained xs v x (ap (slice_get code.retained) (long_as code text k xs rest (omega (arith, within)) read) ∙ at)
 
 -- the text departs where the next line isn't read
 read_departs : (code : CodeValue) (text : List ℕ) (k : ℕ) (xs : List Value) (rest : List ℕ) (v : RetainedVariable) → slice_get code.retained k ≡ Some v → AreRead code text k xs rest

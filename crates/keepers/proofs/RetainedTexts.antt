@@ -1,13 +1,14 @@
 -- The texts of retained variables: different values have different ones, and none is longer than that of the longest values.
-use Rattle.std.proofs.Common.{arith, ◌≡◌, ◌≢◌, ℕ, zero, suc, ◌+◌, ◌%◌, ◌<◌, ◌≤◌, ◌^◌, ◌++◌, ◌∷◌, [], List, length, map, take, slice_get, true, false, pos, negsuc, sym, ap, refl, ◌∙◌, append_assoc}
+use Rattle.std.proofs.Common.{arith, rules, ◌≡◌, ◌≢◌, ℕ, zero, suc, ◌+◌, ◌%◌, ◌<◌, ◌≤◌, ◌^◌, ◌++◌, ◌∷◌, [], List, length, map, take, slice_get, true, false, pos, negsuc, sym, ap, refl, ◌∙◌, append_assoc}
 use Rattle.std.specs.List.{AllByRecursion, flat_map, zip}
 use Rattle.std.specs.Fmt.{digits, decimal, signed_decimal}
 use Rattle.std.proofs.lemmas.Fmt.{decimal_by_steps, length-decimal-le, length_signed_le}
-use Rattle.std.proofs.lemmas.List.{length-append, length-map, length-take, append_cancel_left}
+use Rattle.std.proofs.lemmas.List.{length-append, length-map, length-take, append_cancel_left, take_all}
 use Rattle.lists.proofs.Each.{each-append}
 use Rattle.std_blocks.specs.declared.value.Value.{Value}
 use Rattle.std_blocks.specs.declared.value.Value.TheVariants.{Bool as BoolValue, Int as IntValue, Time as TimeValue}
 use Rattle.declared_names.specs.declared.declarations.Kind.{Kind}
+use Rattle.declared_names.specs.declared.declarations.Kind.TheVariants as kind
 use Rattle.declared_names.specs.Kinds.{kind_of}
 use Rattle.text_lines.specs.LineParts.{value_text}
 use Rattle.text_lines.specs.ReadParts.{IsInRange}
@@ -123,16 +124,47 @@ short_line code v x kind_is r =
     let short : length (value_text x) ≤ length (value_text (longest v.kind)) = rw (sym kind_is) (short_value x r) in
     omega (arith, short, line_long code v x, line_long code v (longest v.kind))
 
--- no text is longer than that of the longest values
-short_lines : (code : CodeValue) (vs : List RetainedVariable) (xs : List Value) → map kind_of xs ≡ kinds_of vs → AllByRecursion IsInRange xs → length (lines_of code vs xs) ≤ length (lines_of code vs (longest_of vs))
-short_lines code [] xs kinds r = omega arith
-short_lines code (v ∷ vs) [] kinds r = absurd cc
-short_lines code (v ∷ vs) (x ∷ xs) kinds r =
+-- no text of the first lines is longer than that of the longest values
+first_short : (code : CodeValue) (vs : List RetainedVariable) (k : ℕ) (xs : List Value) → map kind_of xs ≡ take k (kinds_of vs) → AllByRecursion IsInRange xs → length (lines_of code vs xs) ≤ length (lines_of code vs (longest_of vs))
+first_short code [] k xs kinds r = omega arith
+first_short code (v ∷ vs) k [] kinds r = omega arith
+first_short code (v ∷ vs) zero (x ∷ xs) kinds r = absurd cc
+first_short code (v ∷ vs) (suc k) (x ∷ xs) kinds r =
     let first : kind_of x ≡ v.kind = cc in
-    let others : map kind_of xs ≡ kinds_of vs = cc in
+    let others : map kind_of xs ≡ take k (kinds_of vs) = cc in
     let line = short_line code v x first r.0 in
-    let lines = short_lines code vs xs others r.1 in
+    let lines = first_short code vs k xs others r.1 in
     omega (arith, line, lines, length-append (line_text code (v, x)) (lines_of code vs xs), length-append (line_text code (v, longest v.kind)) (lines_of code vs (longest_of vs)))
+
+-- so is none of all lines
+short_lines : (code : CodeValue) (vs : List RetainedVariable) (xs : List Value) → map kind_of xs ≡ kinds_of vs → AllByRecursion IsInRange xs → length (lines_of code vs xs) ≤ length (lines_of code vs (longest_of vs))
+short_lines code vs xs kinds r = first_short code vs (length (kinds_of vs)) xs (kinds ∙ sym (take_all (length (kinds_of vs)) (kinds_of vs) (omega arith))) r
+
+-- the longest values suit the code
+longest_kind : (k : Kind) → kind_of (longest k) ≡ k
+longest_kind kind.Bool = refl
+longest_kind kind.Int = refl
+longest_kind kind.Time = refl
+
+longest_kinds : (vs : List RetainedVariable) → map kind_of (longest_of vs) ≡ kinds_of vs
+longest_kinds [] = refl
+longest_kinds (v ∷ vs) = ap (λ (k : Kind). k ∷ map kind_of (longest_of vs)) (longest_kind v.kind) ∙ ap (λ (l : List Kind). v.kind ∷ l) (longest_kinds vs)
+
+longest_range : (k : Kind) → IsInRange (longest k)
+longest_range kind.Bool = tt
+longest_range kind.Int = search rules
+longest_range kind.Time = omega arith
+
+longest_ranges : (vs : List RetainedVariable) → AllByRecursion IsInRange (longest_of vs)
+longest_ranges [] = tt
+longest_ranges (v ∷ vs) = (longest_range v.kind, longest_ranges vs)
+
+-- so the text of first lines is shorter than what is read
+pub longest_longer : (code : CodeValue) (most k : ℕ) (xs : List Value) → IsLonger code most → map kind_of xs ≡ take k (kinds_of code.retained) → AllByRecursion IsInRange xs → length (retained_text code xs) < most
+longest_longer code most k xs longer kinds r =
+    let short = first_short code code.retained k xs kinds r in
+    let all = longer (longest_of code.retained) (longest_kinds code.retained) (longest_ranges code.retained) in
+    omega (arith, short, all)
 
 pub longest_many : (code : CodeValue) (vs : List RetainedVariable) (xs : List Value) → xs ≡ longest_of vs → vs ≡ code.retained → length xs ≡ length code.retained
 longest_many code vs xs are listed = ap (λ (l : List Value). length l) are ∙ length-map vs (λ (v : RetainedVariable). longest v.kind) ∙ ap (λ (l : List RetainedVariable). length l) listed

@@ -14,6 +14,7 @@ use Rattle.text_lines.specs.LineParts.{value_text}
 use Rattle.text_lines.specs.ReadParts.{IsInRange}
 use Rattle.keepers.specs.declared.keeper_fault.KeeperFault.{KeeperFault}
 use Rattle.keepers.specs.declared.keeper_fault.KeeperFault.TheVariants as fault
+use Rattle.keepers.specs.Keepers.{Telling}
 use Rattle.keepers.specs.KnownFiles.{KnownFile}
 use Rattle.keepers.specs.KnownFiles.KnownFile.{Unknown, Missing, Holding, Broken}
 
@@ -66,6 +67,10 @@ IsToldOf file code (Err fault.Unreadable) = KeepsNoValues file code
 IsToldOf file code (Err fault.Unwritable) = ⊥
 IsToldOf file code (Err fault.Spent) = ⊥
 IsToldOf file code (Err fault.Memory) = Unit {0}
+
+-- what may be told of a resource's tasks, by the files of a folder
+abbrev pub tells_of : (List ℕ → KnownFile) → List ℕ → Telling
+tells_of file resource task code told = IsToldOf (file (retained_file resource task)) code told
 
 -- a text begins with the line of a retained variable and a value of its kind, and goes on like this
 pub record BeginsWith (code : CodeValue) (v : RetainedVariable) (text : List ℕ) (value : Value) (rest : List ℕ) : Type 0 where

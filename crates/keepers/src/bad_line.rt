@@ -1,3 +1,5 @@
+ghost use Rattle.std.specs.Prelude.{◌≡◌, ◌+◌, ◌≤◌, IfOk, length};
+
 use crate::retained_text::before_value;
 use declared_names::Kind;
 use std::alloc::{AllocError, Global};
@@ -34,7 +36,11 @@ fn expected_at(alloc: Global, code: &TaskCode, place: usize) -> Result<String, A
 
 impl BadLine {
     /// The line at a place, counted from 0.
-    pub(crate) fn at(alloc: Global, code: &TaskCode, place: usize) -> Result<BadLine, AllocError> {
+    pub(crate) fn at(alloc: Global, code: &TaskCode, place: usize) -> Result<BadLine, AllocError>
+        requires { place ≤ length code.now.retained }
+        ensures { IfOk result (λ bad. bad.line ≡ place + 1) }
+    {
+        let _variables = code.retained();
         Ok(BadLine {
             line: place.saturating_add(1),
             expected: expected_at(alloc, code, place)?,

@@ -1,9 +1,10 @@
 ghost use Rattle.std.specs.Prelude.{◌≡◌, IfOk, string_bytes};
 ghost use Rattle.evaluation.specs.Retained.{Suits};
-ghost use Rattle.keepers.specs.Keepers.{Raises};
+ghost use Rattle.keepers.specs.BadLines.{IsBadLineOf};
+ghost use Rattle.keepers.specs.Keepers.{Raises, KeepsOthers};
 ghost use Rattle.keepers.specs.KnownFiles.{IsStored};
 ghost use Rattle.keepers.specs.KeptNumbers.{IsNext, IsRaisedIn, MayAnswer, number_file, number_text, temporary_file};
-ghost use Rattle.keepers.specs.KeptRetained.{IsToldOf, retained_file, retained_text};
+ghost use Rattle.keepers.specs.KeptRetained.{IsToldOf, retained_file, retained_text, tells_of};
 ghost use Rattle.keepers.specs.Steps.Raising.{IsFound, IsReadOf};
 
 use crate::bad_line::BadLine;
@@ -137,7 +138,10 @@ impl<F: Folder> FileKeeper<F> {
 
     /// The first line of a task's file that isn't what is kept of this code; None where all are, and where there is no
     /// file. Unreadable: the file can't be read.
-    pub fn bad_line(&self, task: usize, code: &TaskCode) -> Result<Option<BadLine>, KeeperFault> {
+    #[tactic(auto, using(crate::proofs::Departing::bad_missing, crate::proofs::Departing::bad_none, crate::proofs::Departing::bad_some))]
+    pub fn bad_line(&self, task: usize, code: &TaskCode) -> Result<Option<BadLine>, KeeperFault>
+        ensures { IfOk result (IsBadLineOf (F.file self.now.folder (retained_file (string_bytes self.now.resource) task)) code.now) }
+    {
         let name = self.retained_name(task)?;
         let most = most_bytes(self.alloc, code)?;
         let Some(bytes) = self.read(name.as_str(), most)? else {
@@ -179,6 +183,8 @@ impl<F: Folder + Send> Keeper for FileKeeper<F> {
         ensures kept { IsStored (F.file self.old.folder) (F.file self.new.folder)
             (retained_file (string_bytes self.old.resource) task) (temporary_file (string_bytes self.old.resource))
             (retained_text code.now retained.now) result }
+        ensures others { KeepsOthers (tells_of (F.file self.old.folder) (string_bytes self.old.resource))
+            (tells_of (F.file self.new.folder) (string_bytes self.new.resource)) task }
         ensures resource { self.new.resource ≡ self.old.resource }
     {
         let name = self.retained_name(task)?;

@@ -5,7 +5,7 @@ ghost use Rattle.text_lines.specs.Growing.{GrowsBy};
 ghost use Rattle.text_lines.specs.ReadParts.{IsInRange};
 ghost use Rattle.evaluation.specs.Retained.{Suits};
 ghost use Rattle.keepers.specs.KeptRetained.{program_name, variable_name, before_value, line_text, retained_text};
-ghost use Rattle.keepers.specs.Steps.Reading.{line_end, longest, longest_of, IsValueOf, IsLonger, IsLineRead, IsReadFault};
+ghost use Rattle.keepers.specs.Steps.Reading.{line_end, longest, longest_of, IsValueOf, IsLonger, IsLineRead, IsReadFault, IsWithin};
 
 use declared_names::Kind;
 use std::alloc::{AllocError, Global};
@@ -206,6 +206,7 @@ fn read_lines(
     ensures in_range { IfOk result (λ values. AllByRecursion IsInRange values.items) }
     ensures text { IfOk result (λ values. text.now ≡ retained_text code.now values.items) }
     ensures fault { IfErr result (IsReadFault code.now text.now) }
+    ensures within { IfErr result (IsWithin code.now) }
 {
     let mut values = Vec::new(alloc);
     let mut rest = text;
@@ -235,6 +236,7 @@ pub(crate) fn read_values(
     ensures in_range { IfOk result (λ values. AllByRecursion IsInRange values.items) }
     ensures text { IfOk result (λ values. text.now ≡ retained_text code.now values.items) }
     ensures fault { IfErr result (IsReadFault code.now text.now) }
+    ensures within { IfErr result (IsWithin code.now) }
 {
     read_lines(alloc, code, code.retained(), text)
 }

@@ -1,9 +1,11 @@
 -- A line that is taken piece by piece.
-use Rattle.std.proofs.Common.{◌≡◌, ◌≢◌, ◌==◌, ◌⊎◌, inl, inr, ℕ, ◌++◌, ◌<◌, ◌≤◌, true, false, Bool, List, [], ◌∷◌, Option, Result, Ok, Err, OnErr, length, refl, sym, ap, ◌∙◌, subst, arith, append_assoc, length-append}
+use Rattle.std.proofs.Common.{◌≡◌, ◌≢◌, ◌==◌, ◌⊎◌, inl, inr, ℕ, ◌++◌, ◌<◌, ◌≤◌, true, false, Bool, List, [], ◌∷◌, Option, Result, Ok, Err, IfErr, length, refl, sym, ap, ◌∙◌, subst, arith, append_assoc, length-append}
 use Rattle.std.specs.Io.KnownBytes.{Consumes, IsAtEnd}
 use Rattle.std.proofs.KnownBytes.{Consumes-nil, Consumes-trans}
 use Rattle.std.proofs.lemmas.List.Elements.{All-append}
 use Rattle.text_lines.specs.Lines.{HasNoFeed, Gives, TakesSome}
+use Rattle.text_lines.specs.declared.read_fault.ReadFault.{ReadFault}
+use Rattle.text_lines.specs.declared.read_fault.ReadFault.TheVariants as reading
 use Rattle.text_lines.specs.declared.lines.Given.{Given}
 use Rattle.text_lines.specs.declared.lines.Given.TheVariants as gave
 use Rattle.live_node.specs.declared.live_lines.TakenLine.{TakenLine}
@@ -89,32 +91,25 @@ begins_more given mid left begun plain a b = (begun ++ b.0, plain_both begun b.0
 pub begins_none : (given : Option (List ℕ)) → TakesSome given given
 begins_none given = ([], λ j d lt. absurd (omega (arith, lt)), Consumes-nil given)
 
--- no more than one line was taken: some of it
-pub within_some : (given now left : Option (List ℕ)) (rest : List ℕ) → HasNoFeed rest → Consumes given now rest → TakesSome now left → TakesWithin given left
-within_some given now left rest plain a t =
-    record { line = rest ++ t.0; bytes = rest ++ t.0; line_is = (plain_both rest t.0 plain t.1, inr refl); taken = Consumes-trans given now left rest t.0 a t.2 }
+-- some of a line was taken
+pub within_some : (least : ℕ) (fault : ReadFault) (given left : Option (List ℕ)) → TakesSome given left → TakesWithin least fault given left
+within_some least reading.Read given left t = t
+within_some least reading.Memory given left t = inl t
 
--- one piece more
-pub within_given : (given now left : Option (List ℕ)) (rest piece : List ℕ) (g : Given) → HasNoFeed rest → Consumes given now rest → Gives now left piece g → TakesWithin given left
-within_given given now left rest piece gave.Line plain a h =
-    record { line = rest ++ piece; bytes = (rest ++ piece) ++ 10 ∷ []; line_is = (plain_both rest piece plain h.0, inl refl); taken = fed_end given now left rest piece a h.2 }
-within_given given now left rest piece gave.LastLine plain a h = within_some given now left rest plain a (piece, h.0, h.3)
-within_given given now left rest piece gave.TooLong plain a h = within_some given now left rest plain a (piece, h.0, h.2)
-within_given given now left rest piece gave.End plain a h = within_some given now left rest plain a ([], (λ j d lt. absurd (omega (arith, lt))), h.1)
+-- one piece more was taken, and there is no memory for it
+pub within_given : (given now left : Option (List ℕ)) (rest piece : List ℕ) (g : Given) → HasNoFeed rest → Consumes given now rest → Gives now left piece g → TakesWithin 0 reading.Memory given left
+within_given given now left rest piece gave.Line plain a h = inr (rest ++ piece, omega arith, plain_both rest piece plain h.0, fed_end given now left rest piece a h.2)
+within_given given now left rest piece gave.LastLine plain a h = inl (begins_more given now left rest plain a (piece, h.0, h.3))
+within_given given now left rest piece gave.TooLong plain a h = inl (begins_more given now left rest plain a (piece, h.0, h.2))
+within_given given now left rest piece gave.End plain a h = inl (begins_more given now left rest plain a ([], (λ j d lt. absurd (omega (arith, lt))), h.1))
 
--- behind the beginning of a line
-within_behind : (given mid left : Option (List ℕ)) (begun : List ℕ) → HasNoFeed begun → Consumes given mid begun → TakesWithin mid left → TakesWithin given left
-within_behind given mid left begun plain a t = record {
-  line = begun ++ t.line;
-  bytes = begun ++ t.bytes;
-  line_is = (plain_both begun t.line plain t.line_is.0, line_behind t.line_is.1);
-  taken = Consumes-trans given mid left begun t.bytes a t.taken;
-}
-  where
-    line_behind : (t.bytes ≡ t.line ++ 10 ∷ []) ⊎ (t.bytes ≡ t.line) → (begun ++ t.bytes ≡ (begun ++ t.line) ++ 10 ∷ []) ⊎ (begun ++ t.bytes ≡ begun ++ t.line)
-    line_behind (inl e) = inl (ap (λ l. begun ++ l) e ∙ sym (append_assoc begun t.line (10 ∷ [])))
-    line_behind (inr e) = inr (ap (λ l. begun ++ l) e)
+-- behind the beginning of a long line
+within_behind : (fault : ReadFault) (given mid left : Option (List ℕ)) (begun : List ℕ) → HasNoFeed begun → length begun ≡ 1000001 → Consumes given mid begun → TakesWithin 0 fault mid left → TakesWithin 1000001 fault given left
+within_behind reading.Read given mid left begun plain long a t = begins_more given mid left begun plain a t
+within_behind reading.Memory given mid left begun plain long a (inl t) = inl (begins_more given mid left begun plain a t)
+within_behind reading.Memory given mid left begun plain long a (inr t) =
+    inr (begun ++ t.0, omega (arith, long, length-append begun t.0), plain_both begun t.0 plain t.2, fed_end given mid left begun t.0 a t.3)
 
-pub fault_behind : {T E : Type 0} (r : Result T E) (given mid left : Option (List ℕ)) (begun : List ℕ) → HasNoFeed begun → Consumes given mid begun → OnErr r (TakesWithin mid left) → OnErr r (TakesWithin given left)
-fault_behind (Ok x) given mid left begun plain a t = tt
-fault_behind (Err e) given mid left begun plain a t = within_behind given mid left begun plain a t
+pub fault_behind : {T : Type 0} (r : Result T ReadFault) (given mid left : Option (List ℕ)) (begun : List ℕ) → HasNoFeed begun → length begun ≡ 1000001 → Consumes given mid begun → IfErr r (λ why. TakesWithin 0 why mid left) → IfErr r (λ why. TakesWithin 1000001 why given left)
+fault_behind (Ok x) given mid left begun plain long a t = tt
+fault_behind (Err fault) given mid left begun plain long a t = within_behind fault given mid left begun plain long a t

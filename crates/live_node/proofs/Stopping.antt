@@ -1,5 +1,5 @@
 -- A node stops: what was noted and written for the line that it read last.
-use Rattle.std.proofs.Common.{◌≡◌, ◌⊎◌, Result, Ok, Err, IfErr, OnErr, inl, inr, ℕ, ◌+◌, ◌++◌, ◌<◌, true, false, Bool, List, [], ◌∷◌, Option, refl, sym, ap, ◌∙◌, subst, append_assoc, append-nil, arith}
+use Rattle.std.proofs.Common.{◌≡◌, ◌⊎◌, Result, Ok, Err, IfErr, OnErr, inl, inr, ℕ, ◌++◌, ◌<◌, true, false, Bool, List, [], ◌∷◌, Option, refl, sym, ap, ◌∙◌, subst, append_assoc, append-nil, arith}
 use Rattle.std.specs.List.{flat_map}
 use Rattle.std.specs.Result.{IsErrAnd}
 use Rattle.std.specs.Io.KnownBytes.{Appends, Consumes}
@@ -8,6 +8,7 @@ use Rattle.std_blocks.specs.declared.value.Value.{Value}
 use Rattle.task_codes.specs.declared.task_ref.TaskRef.{TaskRef}
 use Rattle.plant.specs.PlantValue.{PlantValue}
 use Rattle.evaluation.specs.declared.field_input.FieldInput.{FieldInput}
+use Rattle.evaluation.specs.Messages.{MessageValue}
 use Rattle.exchange_core.specs.MessageCoreValue.{MessageCoreValue}
 use Rattle.exchange_core.specs.Openings.{AreOpeningOf}
 use Rattle.keepers.specs.Keepers.{Telling, TellsNoMore}
@@ -16,25 +17,26 @@ use Rattle.keepers.specs.declared.keeper_fault.KeeperFault.TheVariants as keepin
 use Rattle.lists.proofs.Results.{kept_fault}
 use Rattle.text_lines.specs.Sending.{SendsPart}
 use Rattle.text_lines.proofs.Sending.{begins}
-use Rattle.text_lines.specs.Lines.{TakesSome}
 use Rattle.text_lines.specs.declared.read_fault.ReadFault.{ReadFault}
 use Rattle.text_lines.specs.declared.read_fault.ReadFault.TheVariants as reading
 use Rattle.world.proofs.LinesRead.{fed}
-use Rattle.live_node.specs.declared.node_line.NodeLine.TheVariants.{Evaluate, Restart}
+use Rattle.live_node.specs.declared.node_line.NodeLine.{NodeLine}
+use Rattle.live_node.specs.declared.node_line.NodeLine.TheVariants.{Evaluate, Take, Restart}
 use Rattle.live_node.specs.Answers.{refused_line}
 use Rattle.live_node.specs.NodeJournal.{line_note, start_note, restart_note}
 use Rattle.live_node.specs.NodeLines.{Spells}
 use Rattle.live_node.specs.declared.line_refusal.LineRefusal.TheVariants as refusal
 use Rattle.live_node.specs.NodeValue.{NodeValue}
+use Rattle.live_node.specs.NodeSteps.{IsNotRefused}
 use Rattle.live_node.specs.declared.live_lines.TakenLine.TheVariants.{Line, TooLong}
 use Rattle.live_node.specs.declared.live_stop.LiveStop.{LiveStop}
 use Rattle.live_node.specs.declared.live_stop.LiveStop.TheVariants.{Node, Read, Write, Memory}
 use Rattle.live_node.specs.declared.node_stop.NodeStop.{NodeStop}
 use Rattle.live_node.specs.declared.node_stop.NodeStop.TheVariants as ends
-use Rattle.live_node.specs.NodeAnswers.{Raising, AreTold, IsAnswered}
-use Rattle.live_node.specs.Stops.{NotesPart, NotesStart, NotesUnanswered, StopsBeginning, StopsWithin, StopsNode}
-use Rattle.live_node.specs.Steps.Answering.{IsNotKeepers, NotesRestartPart, NotesUnevaluated, TellsNothing, stop_for, stop_of}
-use Rattle.live_node.specs.Steps.LineTaking.{Takes, TakesWithin}
+use Rattle.live_node.specs.NodeAnswers.{Raising, keeper_gives, a_keeper_gives, AreTold, IsAnswered}
+use Rattle.live_node.specs.Stops.{IsNotedAsked, NotesPart, NotesStart, NotesUnanswered, ReadsWhole, StopsBeginning, StopsWithin, StopsNode}
+use Rattle.live_node.specs.Steps.Answering.{IsNotKeepers, NotesRestartPart, NotesUndone, NotesUnevaluated, NotesUnrisen, TellsNothing, stop_for, stop_of}
+use Rattle.live_node.specs.Steps.LineTaking.{Takes, TakesLine, TakesWithin}
 use Rattle.live_node.proofs.Standing.{Stands}
 
 -- nothing is a beginning
@@ -45,26 +47,14 @@ none_sent text old = begins text [] text old old refl (Appends-nil old)
 pub all_sent : (text : List ℕ) (old new : Option (List ℕ)) → Appends old new text → SendsPart text old new
 all_sent text old new h = begins text text [] old new (append-nil text) h
 
--- a line that was noted in part
-pub line_part : (s : NodeValue) (line : List ℕ) (old new : Option (List ℕ)) → SendsPart (line_note line) old new → NotesPart s line old new
-line_part s line old new h = (line_note line, inl refl, h)
-
--- nothing was noted of a line
-pub no_part : (s : NodeValue) (line : List ℕ) (old : Option (List ℕ)) → NotesPart s line old old
-no_part s line old = line_part s line old old (none_sent (line_note line) old)
-
--- nothing was noted of a restart
-pub no_restart : (s : NodeValue) (old : Option (List ℕ)) → NotesRestartPart s old old
-no_restart s old = (s.core.incarnation + 1, omega arith, none_sent (restart_note s.core.plant s.core.resource (s.core.incarnation + 1)) old)
-
--- a restart was noted in part
-pub restart_part : (s : NodeValue) (incarnation : ℕ) (old new : Option (List ℕ)) → s.core.incarnation < incarnation → SendsPart (restart_note s.core.plant s.core.resource incarnation) old new → NotesRestartPart s old new
-restart_part s incarnation old new above h = (incarnation, above, h)
+-- a line that asks what can be done was noted in part
+line_part : (raising : Raising) (s : NodeValue) (asked : NodeLine) (line : List ℕ) (old new : Option (List ℕ)) → Spells s.core.plant asked line → IsNotedAsked s asked → SendsPart (line_note line) old new → NotesPart raising s line old new
+line_part raising s asked line old new read unrefused h = (line_note line, inl (record { asked = asked; read = read; unrefused = unrefused; note_is = refl }), h)
 
 -- a line that asks for a restart
-pub asked_part : (s : NodeValue) (resource : ℕ) (line : List ℕ) (old new : Option (List ℕ)) → Spells s.core.plant (Restart resource) line → NotesRestartPart s old new → NotesPart s line old new
-asked_part s resource line old new asked h =
-    (restart_note s.core.plant s.core.resource h.0, inr (record { resource = resource; asked = asked; incarnation = h.0; above = h.1; note_is = refl }), h.2)
+asked_part : (raising : Raising) (s : NodeValue) (resource : ℕ) (line : List ℕ) (old new : Option (List ℕ)) → Spells s.core.plant (Restart resource) line → NotesRestartPart raising s resource old new → NotesPart raising s line old new
+asked_part raising s resource line old new asked h =
+    (restart_note s.core.plant s.core.resource h.incarnation, inr (record { resource = resource; asked = asked; here = h.here; incarnation = h.incarnation; raised = h.raised; above = h.above; note_is = refl }), h.sent)
 
 -- its keeper isn't raised
 pub unraised : (raises : Result ℕ KeeperFault → Type 0) (tells : Telling) (plant : PlantValue) (n above : ℕ) (f : KeeperFault) (old : Option (List ℕ)) → raises (Err f) → StopsBeginning raises tells plant n above (stop_for f) old old
@@ -100,102 +90,163 @@ start_unmade r raises tells now plant n above i opening note old new is raised r
     kept_fault ends.Memory (λ why. StopsBeginning raises tells plant n above why old new) r is
     (inr (start_part raises tells now plant n above i opening note old new raised risen opens stays told noted (all_sent note old new appended)))
 
--- a line was noted in part, and not for the keeper
-part_unanswered : (s : NodeValue) (line : List ℕ) (why : NodeStop) (old new : Option (List ℕ)) → IsNotKeepers why → NotesPart s line old new → NotesUnanswered s line why old new
-part_unanswered s line (ends.Keeper f) old new own part = absurd own
-part_unanswered s line ends.Note old new own part = part
-part_unanswered s line ends.Memory old new own part = part
+-- a message isn't answered
+message_part : (raising : Raising) (s : NodeValue) (line : List ℕ) (why : NodeStop) (old new : Option (List ℕ)) → IsNotKeepers why → NotesPart raising s line old new → NotesUnanswered raising s line why old new
+message_part raising s line (ends.Keeper f) old new own part = absurd own
+message_part raising s line ends.Note old new own part = part
+message_part raising s line ends.Memory old new own part = inr part
 
-pub line_unanswered : {T : Type 0} (r : Result T NodeStop) (s : NodeValue) (line : List ℕ) (old new : Option (List ℕ)) → IfErr r IsNotKeepers → OnErr r (SendsPart (line_note line) old new) → IfErr r (λ why. NotesUnanswered s line why old new)
-line_unanswered (Ok x) s line old new own part = tt
-line_unanswered (Err why) s line old new own part = part_unanswered s line why old new own (line_part s line old new part)
+pub message_unanswered : {T : Type 0} (r : Result T NodeStop) (raising : Raising) (s : NodeValue) (m : MessageValue) (line : List ℕ) (old new : Option (List ℕ)) → Spells s.core.plant (Take m) line → IfErr r IsNotKeepers → OnErr r (SendsPart (line_note line) old new)
+    → IfErr r (λ why. NotesUnanswered raising s line why old new)
+message_unanswered (Ok x) raising s m line old new read own part = tt
+message_unanswered (Err why) raising s m line old new read own part = message_part raising s line why old new own (line_part raising s (Take m) line old new read tt part)
 
-pub restart_unanswered : {T : Type 0} (r : Result T NodeStop) (s : NodeValue) (resource : ℕ) (line : List ℕ) (old new : Option (List ℕ)) → Spells s.core.plant (Restart resource) line → IfErr r IsNotKeepers → OnErr r (NotesRestartPart s old new)
-    → IfErr r (λ why. NotesUnanswered s line why old new)
-restart_unanswered (Ok x) s resource line old new asked own part = tt
-restart_unanswered (Err why) s resource line old new asked own part = part_unanswered s line why old new own (asked_part s resource line old new asked part)
+-- a restart isn't answered
+by_restart : (raising : Raising) (s : NodeValue) (resource : ℕ) (line : List ℕ) (why : NodeStop) (old new : Option (List ℕ)) → Spells s.core.plant (Restart resource) line → NotesUnrisen raising s resource why old new → NotesUnanswered raising s line why old new
+by_restart raising s resource line (ends.Keeper f) old new asked h = absurd h
+by_restart raising s resource line ends.Note old new asked h = asked_part raising s resource line old new asked h
+by_restart raising s resource line ends.Memory old new asked (inl h) = inl h
+by_restart raising s resource line ends.Memory old new asked (inr h) = inr (asked_part raising s resource line old new asked h)
 
-by_evaluation : (s : NodeValue) (t : TaskRef) (dt : ℕ) (inputs : List FieldInput) (line : List ℕ) (why : NodeStop) (old new : Option (List ℕ)) → Spells s.core.plant (Evaluate t dt inputs) line → NotesUnevaluated s.core t line why old new → NotesUnanswered s line why old new
-by_evaluation s t dt inputs line (ends.Keeper f) old new asked h = (h.0, record { task = t; dt = dt; inputs = inputs; asked = asked; here = h.1; noted = h.2 })
-by_evaluation s t dt inputs line ends.Note old new asked h = line_part s line old new h
-by_evaluation s t dt inputs line ends.Memory old new asked h = line_part s line old new h
+pub restart_unanswered : {T : Type 0} (r : Result T NodeStop) (raising : Raising) (s : NodeValue) (resource : ℕ) (line : List ℕ) (old new : Option (List ℕ)) → Spells s.core.plant (Restart resource) line → IfErr r (λ why. NotesUnrisen raising s resource why old new)
+    → IfErr r (λ why. NotesUnanswered raising s line why old new)
+restart_unanswered (Ok x) raising s resource line old new asked h = tt
+restart_unanswered (Err why) raising s resource line old new asked h = by_restart raising s resource line why old new asked h
 
-pub evaluation_unanswered : {T : Type 0} (r : Result T NodeStop) (s : NodeValue) (t : TaskRef) (dt : ℕ) (inputs : List FieldInput) (line : List ℕ) (old new : Option (List ℕ)) → Spells s.core.plant (Evaluate t dt inputs) line → IfErr r (λ why. NotesUnevaluated s.core t line why old new)
-    → IfErr r (λ why. NotesUnanswered s line why old new)
-evaluation_unanswered (Ok x) s t dt inputs line old new asked h = tt
-evaluation_unanswered (Err why) s t dt inputs line old new asked h = by_evaluation s t dt inputs line why old new asked h
+-- an evaluation isn't answered
+by_evaluation : (raising : Raising) (s : NodeValue) (t : TaskRef) (dt : ℕ) (inputs : List FieldInput) (line : List ℕ) (why : NodeStop) (old new : Option (List ℕ)) → Spells s.core.plant (Evaluate t dt inputs) line → NotesUnevaluated s.core t line why old new → NotesUnanswered raising s line why old new
+by_evaluation raising s t dt inputs line (ends.Keeper f) old new asked h = (h.0, record { task = t; dt = dt; inputs = inputs; asked = asked; unrefused = h.1; noted = h.2 })
+by_evaluation raising s t dt inputs line ends.Note old new asked h = line_part raising s (Evaluate t dt inputs) line old new asked h.0 h.1
+by_evaluation raising s t dt inputs line ends.Memory old new asked (inl h) = inl h
+by_evaluation raising s t dt inputs line ends.Memory old new asked (inr h) = inr (line_part raising s (Evaluate t dt inputs) line old new asked h.0 h.1)
+
+pub evaluation_unanswered : {T : Type 0} (r : Result T NodeStop) (raising : Raising) (s : NodeValue) (t : TaskRef) (dt : ℕ) (inputs : List FieldInput) (line : List ℕ) (old new : Option (List ℕ)) → Spells s.core.plant (Evaluate t dt inputs) line → IfErr r (λ why. NotesUnevaluated s.core t line why old new)
+    → IfErr r (λ why. NotesUnanswered raising s line why old new)
+evaluation_unanswered (Ok x) raising s t dt inputs line old new asked h = tt
+evaluation_unanswered (Err why) raising s t dt inputs line old new asked h = by_evaluation raising s t dt inputs line why old new asked h
+
+-- what a line asks isn't done
+by_asked : (raising : Raising) (s : NodeValue) (asked : NodeLine) (line : List ℕ) (why : NodeStop) (old new : Option (List ℕ)) → Spells s.core.plant asked line → NotesUndone s asked line why old new → NotesUnanswered raising s line why old new
+by_asked raising s asked line (ends.Keeper f) old new read h = absurd h
+by_asked raising s asked line ends.Note old new read h = line_part raising s asked line old new read h.0 h.1
+by_asked raising s asked line ends.Memory old new read (inl h) = inl h
+by_asked raising s asked line ends.Memory old new read (inr h) = inr (line_part raising s asked line old new read h.0 h.1)
+
+pub undone_unanswered : {T : Type 0} (r : Result T NodeStop) (raising : Raising) (s : NodeValue) (asked : NodeLine) (line : List ℕ) (old new : Option (List ℕ)) → Spells s.core.plant asked line → IfErr r (λ why. NotesUndone s asked line why old new)
+    → IfErr r (λ why. NotesUnanswered raising s line why old new)
+undone_unanswered (Ok x) raising s asked line old new read h = tt
+undone_unanswered (Err why) raising s asked line old new read h = by_asked raising s asked line why old new read h
 
 -- for want of memory nothing was noted of a line
-pub none_unanswered : {T : Type 0} (r : Result T NodeStop) (s : NodeValue) (line : List ℕ) (old : Option (List ℕ)) → IsErrAnd r (λ why. why ≡ ends.Memory) → IfErr r (λ why. NotesUnanswered s line why old old)
-none_unanswered r s line old is = kept_fault ends.Memory (λ why. NotesUnanswered s line why old old) r is (no_part s line old)
+pub none_unanswered : {T : Type 0} (r : Result T NodeStop) (raising : Raising) (s : NodeValue) (line : List ℕ) (old : Option (List ℕ)) → IsErrAnd r (λ why. why ≡ ends.Memory) → IfErr r (λ why. NotesUnanswered raising s line why old old)
+none_unanswered r raising s line old is = kept_fault ends.Memory (λ why. NotesUnanswered raising s line why old old) r is (inl (Keeps-refl old))
+
+pub none_unevaluated : {T : Type 0} (r : Result T NodeStop) (core : MessageCoreValue) (t : TaskRef) (line : List ℕ) (old : Option (List ℕ)) → IsErrAnd r (λ why. why ≡ ends.Memory) → IfErr r (λ why. NotesUnevaluated core t line why old old)
+none_unevaluated r core t line old is = kept_fault ends.Memory (λ why. NotesUnevaluated core t line why old old) r is (inl (Keeps-refl old))
+
+pub none_undone : {T : Type 0} (r : Result T NodeStop) (s : NodeValue) (asked : NodeLine) (line : List ℕ) (old : Option (List ℕ)) → IsErrAnd r (λ why. why ≡ ends.Memory) → IfErr r (λ why. NotesUndone s asked line why old old)
+none_undone r s asked line old is = kept_fault ends.Memory (λ why. NotesUndone s asked line why old old) r is (inl (Keeps-refl old))
+
+pub none_unrisen : {T : Type 0} (r : Result T NodeStop) (raising : Raising) (s : NodeValue) (n : ℕ) (old : Option (List ℕ)) → IsErrAnd r (λ why. why ≡ ends.Memory) → IfErr r (λ why. NotesUnrisen raising s n why old old)
+none_unrisen r raising s n old is = kept_fault ends.Memory (λ why. NotesUnrisen raising s n why old old) r is (inl (Keeps-refl old))
+
+-- nor of a restart that is refused
+pub unraised_unrisen : {T : Type 0} (r : Result T NodeStop) (raising : Raising) (s : NodeValue) (n : ℕ) (old : Option (List ℕ)) → IfErr r (λ why. why ≡ ends.Memory) → IfErr r (λ why. NotesUnrisen raising s n why old old)
+unraised_unrisen (Ok x) raising s n old is = tt
+unraised_unrisen (Err why) raising s n old is = subst (λ found. NotesUnrisen raising s n found old old) (sym is) (inl (Keeps-refl old))
+
+-- a restart to which the keeper was raised was noted in part
+by_part : (raising : Raising) (s : NodeValue) (n : ℕ) (why : NodeStop) (old new : Option (List ℕ)) → IsNotKeepers why → NotesRestartPart raising s n old new → NotesUnrisen raising s n why old new
+by_part raising s n (ends.Keeper f) old new own part = absurd own
+by_part raising s n ends.Note old new own part = part
+by_part raising s n ends.Memory old new own part = inr part
+
+pub restart_unrisen : {T : Type 0} (r : Result T NodeStop) (raising : Raising) (s : NodeValue) (n i : ℕ) (old new : Option (List ℕ)) → n ≡ s.core.resource → raising s.core.incarnation (Ok i) → s.core.incarnation < i → IfErr r IsNotKeepers
+    → OnErr r (SendsPart (restart_note s.core.plant s.core.resource i) old new) → IfErr r (λ why. NotesUnrisen raising s n why old new)
+restart_unrisen (Ok x) raising s n i old new here raised above own part = tt
+restart_unrisen (Err why) raising s n i old new here raised above own part =
+    by_part raising s n why old new own (record { here = here; incarnation = i; raised = raised; above = above; sent = part })
 
 -- an evaluation that isn't noted whole
-pub part_unevaluated : {T : Type 0} (why : NodeStop) (r : Result T NodeStop) (core : MessageCoreValue) (t : TaskRef) (line : List ℕ) (old new : Option (List ℕ)) → IsErrAnd r (λ found. found ≡ why) → IsNotKeepers why → SendsPart (line_note line) old new
+pub part_unevaluated : {T : Type 0} (why : NodeStop) (r : Result T NodeStop) (core : MessageCoreValue) (t : TaskRef) (line : List ℕ) (old new : Option (List ℕ)) → IsErrAnd r (λ found. found ≡ why) → IsNotKeepers why → IsNotRefused core t → SendsPart (line_note line) old new
     → IfErr r (λ found. NotesUnevaluated core t line found old new)
-part_unevaluated why r core t line old new is own part = kept_fault why (λ found. NotesUnevaluated core t line found old new) r is (by why own)
+part_unevaluated why r core t line old new is own unrefused part = kept_fault why (λ found. NotesUnevaluated core t line found old new) r is (by why own)
   where
     by : (found : NodeStop) → IsNotKeepers found → NotesUnevaluated core t line found old new
     by (ends.Keeper f) own = absurd own
-    by ends.Note own = part
-    by ends.Memory own = part
+    by ends.Note own = (unrefused, part)
+    by ends.Memory own = inr (unrefused, part)
+
+-- a line that isn't noted whole
+pub part_undone : {T : Type 0} (why : NodeStop) (r : Result T NodeStop) (s : NodeValue) (asked : NodeLine) (line : List ℕ) (old new : Option (List ℕ)) → IsErrAnd r (λ found. found ≡ why) → IsNotKeepers why → IsNotedAsked s asked → SendsPart (line_note line) old new
+    → IfErr r (λ found. NotesUndone s asked line found old new)
+part_undone why r s asked line old new is own unrefused part = kept_fault why (λ found. NotesUndone s asked line found old new) r is (by why own)
+  where
+    by : (found : NodeStop) → IsNotKeepers found → NotesUndone s asked line found old new
+    by (ends.Keeper f) own = absurd own
+    by ends.Note own = (unrefused, part)
+    by ends.Memory own = inr (unrefused, part)
 
 -- one whose values the keeper doesn't keep
 pub unkept : {T : Type 0} (why : NodeStop) (r : Result T NodeStop) (core : MessageCoreValue) (t : TaskRef) (line : List ℕ) (old new : Option (List ℕ)) → IsErrAnd r (λ found. found ≡ why)
-    → (why ≡ stop_for keeping.Unwritable) ⊎ (why ≡ stop_for keeping.Memory) → t.resource ≡ core.resource → Appends old new (line_note line) → IfErr r (λ found. NotesUnevaluated core t line found old new)
-unkept why r core t line old new is (inl same) here noted =
-    kept_fault why (λ found. NotesUnevaluated core t line found old new) r is (subst (λ found. NotesUnevaluated core t line found old new) (sym same) (refl, here, noted))
-unkept why r core t line old new is (inr same) here noted =
-    kept_fault why (λ found. NotesUnevaluated core t line found old new) r is (subst (λ found. NotesUnevaluated core t line found old new) (sym same) (all_sent (line_note line) old new noted))
+    → (why ≡ stop_for keeping.Unwritable) ⊎ (why ≡ stop_for keeping.Memory) → IsNotRefused core t → Appends old new (line_note line) → IfErr r (λ found. NotesUnevaluated core t line found old new)
+unkept why r core t line old new is (inl same) unrefused noted =
+    kept_fault why (λ found. NotesUnevaluated core t line found old new) r is (subst (λ found. NotesUnevaluated core t line found old new) (sym same) (refl, unrefused, noted))
+unkept why r core t line old new is (inr same) unrefused noted =
+    kept_fault why (λ found. NotesUnevaluated core t line found old new) r is (subst (λ found. NotesUnevaluated core t line found old new) (sym same) (inr (unrefused, all_sent (line_note line) old new noted)))
+
+-- what this keeper may answer, one may that was raised to the incarnation
+part_by_one : {K : Type 0} (last : K → ℕ) (gives : K → Result ℕ KeeperFault → Type 0) (keeper : K) (s : NodeValue) (line : List ℕ) (old new : Option (List ℕ)) → last keeper ≡ s.core.incarnation
+    → NotesPart (keeper_gives gives keeper) s line old new → NotesPart (a_keeper_gives last gives) s line old new
+part_by_one last gives keeper s line old new held (note, inl h, sent) = (note, inl h, sent)
+part_by_one last gives keeper s line old new held (note, inr h, sent) =
+    (note, inr (record { resource = h.resource; asked = h.asked; here = h.here; incarnation = h.incarnation; raised = (keeper, held, h.raised); above = h.above; note_is = h.note_is }), sent)
+
+pub unanswered_by_one : {K : Type 0} (last : K → ℕ) (gives : K → Result ℕ KeeperFault → Type 0) (keeper : K) (s : NodeValue) (line : List ℕ) (why : NodeStop) (old new : Option (List ℕ)) → last keeper ≡ s.core.incarnation
+    → NotesUnanswered (keeper_gives gives keeper) s line why old new → NotesUnanswered (a_keeper_gives last gives) s line why old new
+unanswered_by_one last gives keeper s line (ends.Keeper f) old new held h = h
+unanswered_by_one last gives keeper s line ends.Note old new held h = part_by_one last gives keeper s line old new held h
+unanswered_by_one last gives keeper s line ends.Memory old new held (inl h) = inl h
+unanswered_by_one last gives keeper s line ends.Memory old new held (inr h) = inr (part_by_one last gives keeper s line old new held h)
+
+-- a whole line was read
+whole_read : (given left : Option (List ℕ)) (line : List ℕ) (fed : Bool) → TakesLine given left line fed → ReadsWhole line given left
+whole_read given left line true t = inl t.2
+whole_read given left line false t = inr t.2
 
 -- the next line can't be read
-pub stops_unread : (raising : Raising) (s : NodeValue) (given left noted from : Option (List ℕ)) (found : ReadFault) → TakesWithin given left → StopsWithin raising s given left noted noted from from (stop_of found)
-stops_unread raising s given left noted from reading.Read t = record { line = t.line; bytes = t.bytes; line_is = t.line_is; read = t.taken; leaves = (Keeps-refl noted, Keeps-refl from) }
-stops_unread raising s given left noted from reading.Memory t = record { line = t.line; bytes = t.bytes; line_is = t.line_is; read = t.taken; leaves = (Keeps-refl noted, Keeps-refl from) }
+pub stops_unread : (raising : Raising) (s : NodeValue) (given left noted from : Option (List ℕ)) (found : ReadFault) → TakesWithin 1000001 found given left → StopsWithin raising s given left noted noted from from (stop_of found)
+stops_unread raising s given left noted from reading.Read t = record { line = t.0; plain = t.1; read = t.2; leaves = (Keeps-refl noted, Keeps-refl from) }
+stops_unread raising s given left noted from reading.Memory (inl t) = record { line = t.0; plain = t.1; read = inl t.2; leaves = (Keeps-refl noted, Keeps-refl from) }
+stops_unread raising s given left noted from reading.Memory (inr t) = record { line = t.0; plain = t.2; read = inr (omega (arith, t.1), t.3); leaves = (Keeps-refl noted, Keeps-refl from) }
 
 -- a line isn't answered
-pub stops_unanswered : (raising : Raising) (s : NodeValue) (given left noted_old noted_new from : Option (List ℕ)) (line : List ℕ) (fed : Bool) (why : NodeStop) → Takes given left line (Line fed) → NotesUnanswered s line why noted_old noted_new
+pub stops_unanswered : (raising : Raising) (s : NodeValue) (given left noted_old noted_new from : Option (List ℕ)) (line : List ℕ) (fed : Bool) (why : NodeStop) → Takes given left line (Line fed) → NotesUnanswered raising s line why noted_old noted_new
     → StopsWithin raising s given left noted_old noted_new from from (Node why)
-stops_unanswered raising s given left noted_old noted_new from line true why t h = record { line = line; bytes = line ++ 10 ∷ []; line_is = (t.1.0, inl refl); read = t.1.2; leaves = (h, Keeps-refl from) }
-stops_unanswered raising s given left noted_old noted_new from line false why t h = record { line = line; bytes = line; line_is = (t.1.0, inr refl); read = t.1.2.0; leaves = (h, Keeps-refl from) }
+stops_unanswered raising s given left noted_old noted_new from line fed why t h = record { line = line; plain = t.1.0; read = whole_read given left line fed t.1; leaves = (t.0, h, Keeps-refl from) }
 
 -- an answer isn't written
 pub stops_unwritten : (raising : Raising) (s last : NodeValue) (given left noted_old noted_new from to : Option (List ℕ)) (line text : List ℕ) (fed : Bool) → Takes given left line (Line fed) → IsAnswered raising s last line noted_old noted_new [] text → SendsPart text from to
     → StopsWithin raising s given left noted_old noted_new from to Write
-stops_unwritten raising s last given left noted_old noted_new from to line text true t h sent = record {
+stops_unwritten raising s last given left noted_old noted_new from to line text fed t h sent = record {
   line = line;
-  bytes = line ++ 10 ∷ [];
-  line_is = (t.1.0, inl refl);
-  read = t.1.2;
-  leaves = record { last = last; note = h.note; text = h.text; answered = inl (t.0, h.answers); noted = h.noted; sent = subst (λ l. SendsPart l from to) h.written sent };
-}
-stops_unwritten raising s last given left noted_old noted_new from to line text false t h sent = record {
-  line = line;
-  bytes = line;
-  line_is = (t.1.0, inr refl);
-  read = t.1.2.0;
+  plain = t.1.0;
+  read = whole_read given left line fed t.1;
   leaves = record { last = last; note = h.note; text = h.text; answered = inl (t.0, h.answers); noted = h.noted; sent = subst (λ l. SendsPart l from to) h.written sent };
 }
 
 -- a line is too long, and there is no memory for the refusal
 pub stops_unrefused : (raising : Raising) (s : NodeValue) (given left noted from : Option (List ℕ)) (line : List ℕ) (fed : Bool) → Takes given left line (TooLong fed) → StopsWithin raising s given left noted noted from from Memory
-stops_unrefused raising s given left noted from line true t = record { line = t.0; bytes = t.0 ++ 10 ∷ []; line_is = (t.2.0, inl refl); read = t.2.2; leaves = (Keeps-refl noted, Keeps-refl from) }
-stops_unrefused raising s given left noted from line false t = record { line = t.0; bytes = t.0; line_is = (t.2.0, inr refl); read = t.2.2.0; leaves = (Keeps-refl noted, Keeps-refl from) }
+stops_unrefused raising s given left noted from line true t = record { line = t.0; plain = t.2.0; read = inr (omega (arith, t.1), t.2.2); leaves = (Keeps-refl noted, Keeps-refl from) }
+stops_unrefused raising s given left noted from line false t = record { line = t.0; plain = t.2.0; read = inl t.2.2.0; leaves = (Keeps-refl noted, Keeps-refl from) }
 
 -- the refusal isn't written
 pub stops_too_long : (raising : Raising) (s : NodeValue) (given left noted from to : Option (List ℕ)) (line text : List ℕ) (fed : Bool) → Takes given left line (TooLong fed) → text ≡ refused_line refusal.TooLong → SendsPart text from to
     → StopsWithin raising s given left noted noted from to Write
-stops_too_long raising s given left noted from to line text true t is sent = record {
+stops_too_long raising s given left noted from to line text fed t is sent = record {
   line = t.0;
-  bytes = t.0 ++ 10 ∷ [];
-  line_is = (t.2.0, inl refl);
-  read = t.2.2;
-  leaves = record { last = s; note = []; text = text; answered = inr (t.1, record { same = refl; unnoted = refl; text_is = is }); noted = Appends-nil noted; sent = sent };
-}
-stops_too_long raising s given left noted from to line text false t is sent = record {
-  line = t.0;
-  bytes = t.0;
-  line_is = (t.2.0, inr refl);
-  read = t.2.2.0;
+  plain = t.2.0;
+  read = whole_read given left t.0 fed t.2;
   leaves = record { last = s; note = []; text = text; answered = inr (t.1, record { same = refl; unnoted = refl; text_is = is }); noted = Appends-nil noted; sent = sent };
 }
 
@@ -224,12 +275,8 @@ stops_behind raising first mid begun lines given now left noted_old noted_mid no
 
 -- no line more is read
 pub stops_endless : (raising : Raising) (s : NodeValue) (given noted from : Option (List ℕ)) → StopsWithin raising s given given noted noted from from Read
-stops_endless raising s given noted from = record { line = []; bytes = []; line_is = (λ j d lt. absurd (omega (arith, lt)), inr refl); read = Consumes-nil given; leaves = (Keeps-refl noted, Keeps-refl from) }
+stops_endless raising s given noted from = record { line = []; plain = λ j d lt. absurd (omega (arith, lt)); read = Consumes-nil given; leaves = (Keeps-refl noted, Keeps-refl from) }
 
 -- before the first line
 pub stops_at_start : (raising : Raising) (first : NodeValue) (begun : List ℕ) (given noted from to : Option (List ℕ)) (stop : LiveStop) → stop ≡ Write → SendsPart begun from to → StopsNode raising first begun given given noted noted from to stop
 stops_at_start raising first begun given noted from to stop is sent = inl (record { cause = is; unread = Consumes-nil given; unnoted = Keeps-refl noted; sent = sent })
-
--- some of a line was taken
-pub some_taken : (given left : Option (List ℕ)) → TakesSome given left → TakesWithin given left
-some_taken given left t = record { line = t.0; bytes = t.0; line_is = (t.1, inr refl); taken = t.2 }

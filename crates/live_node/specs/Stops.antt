@@ -1,7 +1,7 @@
 -- What a node leaves that stops before the end of its lines.
-use Rattle.std.specs.Prelude.{◌≡◌, ◌≢◌, ℕ, ◌<◌, ◌++◌, ◌⊎◌, List, [], ◌∷◌, Option, Some, Result, Ok, Err, reverse}
+use Rattle.std.specs.Prelude.{◌≡◌, ◌≢◌, ℕ, ◌<◌, ◌≤◌, ◌++◌, ◌⊎◌, List, [], ◌∷◌, Option, Some, Result, Ok, Err, length, reverse}
 use Rattle.std.specs.List.{AllByRecursion, flat_map}
-use Rattle.std.specs.Io.KnownBytes.{Appends, Consumes, Keeps}
+use Rattle.std.specs.Io.KnownBytes.{Appends, Consumes, IsAtEnd, Keeps}
 use Rattle.std_blocks.specs.declared.value.Value.{Value}
 use Rattle.task_codes.specs.CodeValue.{CodeValue}
 use Rattle.task_codes.specs.declared.task_ref.TaskRef.{TaskRef}
@@ -13,10 +13,12 @@ use Rattle.keepers.specs.declared.keeper_fault.KeeperFault.TheVariants as keepin
 use Rattle.exchange_core.specs.Openings.{AreOpeningOf}
 use Rattle.text_lines.specs.Sending.{SendsPart}
 use Rattle.text_lines.specs.Lines.{HasNoFeed}
-use Rattle.live_node.specs.declared.node_line.NodeLine.TheVariants.{Evaluate, Restart}
+use Rattle.live_node.specs.declared.node_line.NodeLine.{NodeLine}
+use Rattle.live_node.specs.declared.node_line.NodeLine.TheVariants.{Idle, Evaluate, Take, Hello, Restart}
 use Rattle.live_node.specs.NodeLines.{Spells}
 use Rattle.live_node.specs.NodeJournal.{line_note, start_note, restart_note}
 use Rattle.live_node.specs.NodeValue.{NodeValue}
+use Rattle.live_node.specs.NodeSteps.{IsNotRefused}
 use Rattle.live_node.specs.declared.node_stop.NodeStop.{NodeStop}
 use Rattle.live_node.specs.declared.node_stop.NodeStop.TheVariants as ends
 use Rattle.live_node.specs.declared.live_stop.LiveStop.{LiveStop}
@@ -24,43 +26,60 @@ use Rattle.live_node.specs.declared.live_stop.LiveStop.TheVariants.{Node, Read, 
 use Rattle.live_node.specs.NodeAnswers.{Raising, AreTold}
 use Rattle.live_node.specs.LiveNode.{AnswersLine, HaveAnswered}
 
--- a line, and its line feed, if it has one
-abbrev pub IsLine : List ℕ → List ℕ → Type 0
-IsLine line bytes = HasNoFeed line × ((bytes ≡ line ++ 10 ∷ []) ⊎ (bytes ≡ line))
+-- what is asked can be done, and its line is noted as it was read: an evaluation that isn't refused, a message, or a hello
+-- of a resource of the plant
+abbrev pub IsNotedAsked : NodeValue → NodeLine → Type 0
+IsNotedAsked s Idle = ⊥
+IsNotedAsked s (Evaluate task dt inputs) = IsNotRefused s.core task
+IsNotedAsked s (Take m) = Unit {0}
+IsNotedAsked s (Hello of incarnation) = of < length s.core.plant.resources
+IsNotedAsked s (Restart resource) = ⊥
 
--- a restart is noted for a line that asks for one: in a greater incarnation
-pub record IsRestartNote (s : NodeValue) (line note : List ℕ) : Type 0 where
+-- a line that asks what can be done is noted as it was read
+pub record IsLineNote (s : NodeValue) (line note : List ℕ) : Type 0 where
+  pub asked : NodeLine
+  pub read : Spells s.core.plant asked line
+  pub unrefused : IsNotedAsked s asked
+  pub note_is : note ≡ line_note line
+
+-- a restart is noted for a line that asks for one of this resource: in a greater incarnation, to which its keeper was
+-- raised
+pub record IsRestartNote (raising : Raising) (s : NodeValue) (line note : List ℕ) : Type 0 where
   pub resource : ℕ
   pub asked : Spells s.core.plant (Restart resource) line
+  pub here : resource ≡ s.core.resource
   pub incarnation : ℕ
+  pub raised : raising s.core.incarnation (Ok incarnation)
   pub above : s.core.incarnation < incarnation
   pub note_is : note ≡ restart_note s.core.plant s.core.resource incarnation
 
 -- a line is noted as it was read; for a RESTART its incarnation is noted
-abbrev pub IsNoteOf : NodeValue → List ℕ → List ℕ → Type 0
-IsNoteOf s line note = (note ≡ line_note line) ⊎ IsRestartNote s line note
+abbrev pub IsNoteOf : Raising → NodeValue → List ℕ → List ℕ → Type 0
+IsNoteOf raising s line note = IsLineNote s line note ⊎ IsRestartNote raising s line note
 
 -- no more than a beginning of the note of a line was noted
-abbrev pub NotesPart : NodeValue → List ℕ → Option (List ℕ) → Option (List ℕ) → Type 0
-NotesPart s line noted_old noted_new =
-    (note : List ℕ) × IsNoteOf s line note × SendsPart note noted_old noted_new
+abbrev pub NotesPart : Raising → NodeValue → List ℕ → Option (List ℕ) → Option (List ℕ) → Type 0
+NotesPart raising s line noted_old noted_new =
+    (note : List ℕ) × IsNoteOf raising s line note × SendsPart note noted_old noted_new
 
--- an evaluation of a task of this resource was noted whole
+-- an evaluation that isn't refused was noted whole
 pub record NotesEvaluation (s : NodeValue) (line : List ℕ) (noted_old noted_new : Option (List ℕ)) : Type 0 where
   pub task : TaskRef
   pub dt : ℕ
   pub inputs : List FieldInput
   pub asked : Spells s.core.plant (Evaluate task dt inputs) line
-  pub here : task.resource ≡ s.core.resource
+  pub unrefused : IsNotRefused s.core task
   pub noted : Appends noted_old noted_new (line_note line)
 
 -- What was noted for a line that a node doesn't answer, by the cause: the whole line, where the keeper can't keep what an
--- evaluation left; else no more than a beginning of its note.
-abbrev pub NotesUnanswered : NodeValue → List ℕ → NodeStop → Option (List ℕ) → Option (List ℕ) → Type 0
-NotesUnanswered s line (ends.Keeper fault) noted_old noted_new =
+-- evaluation left; no more than a beginning of its note, where that isn't noted whole; this or nothing, where memory is
+-- wanting.
+abbrev pub NotesUnanswered : Raising → NodeValue → List ℕ → NodeStop → Option (List ℕ) → Option (List ℕ) → Type 0
+NotesUnanswered raising s line (ends.Keeper fault) noted_old noted_new =
     (fault ≡ keeping.Unwritable) × NotesEvaluation s line noted_old noted_new
-NotesUnanswered s line ends.Note noted_old noted_new = NotesPart s line noted_old noted_new
-NotesUnanswered s line ends.Memory noted_old noted_new = NotesPart s line noted_old noted_new
+NotesUnanswered raising s line ends.Note noted_old noted_new = NotesPart raising s line noted_old noted_new
+NotesUnanswered raising s line ends.Memory noted_old noted_new =
+    Keeps noted_old noted_new ⊎ NotesPart raising s line noted_old noted_new
 
 -- No more than a beginning of the note of a start was noted: in an incarnation to which the keeper was raised, above this
 -- one, and with the values that it told.
@@ -105,13 +124,26 @@ pub record AnswersPart (raising : Raising) (s : NodeValue) (line : List ℕ)
   pub noted : Appends noted_old noted_new note
   pub sent : SendsPart text from to
 
+-- a line was read to its end: with its line feed, or up to the end of all
+abbrev pub ReadsWhole : List ℕ → Option (List ℕ) → Option (List ℕ) → Type 0
+ReadsWhole line given left = Consumes given left (line ++ 10 ∷ []) ⊎ (Consumes given left line × IsAtEnd left)
+
+-- What was read of the line that was read last, by the cause of the stop: no line feed, where it couldn't be read; its line
+-- feed only behind more than 1,000,000 bytes, where memory is wanting; else the whole line.
+abbrev pub ReadsLine : LiveStop → List ℕ → Option (List ℕ) → Option (List ℕ) → Type 0
+ReadsLine (Node why) line given left = ReadsWhole line given left
+ReadsLine Read line given left = Consumes given left line
+ReadsLine Write line given left = ReadsWhole line given left
+ReadsLine Memory line given left =
+    Consumes given left line ⊎ ((1000000 < length line) × Consumes given left (line ++ 10 ∷ []))
+
 -- What was noted and written for the line that was read last, by the cause of the stop: nothing, where it couldn't be
 -- read; its note or a beginning of it and no answer, where the node didn't answer it; its note and a beginning of its
 -- answer, where that couldn't be written.
 abbrev pub LeavesLine : Raising → NodeValue → LiveStop → List ℕ → Option (List ℕ) → Option (List ℕ) → Option (List ℕ)
     → Option (List ℕ) → Type 0
 LeavesLine raising s (Node why) line noted_old noted_new from to =
-    NotesUnanswered s line why noted_old noted_new × Keeps from to
+    (length line ≤ 16777216) × NotesUnanswered raising s line why noted_old noted_new × Keeps from to
 LeavesLine raising s Read line noted_old noted_new from to = Keeps noted_old noted_new × Keeps from to
 LeavesLine raising s Write line noted_old noted_new from to = AnswersPart raising s line noted_old noted_new from to
 LeavesLine raising s Memory line noted_old noted_new from to = Keeps noted_old noted_new × Keeps from to
@@ -120,9 +152,8 @@ LeavesLine raising s Memory line noted_old noted_new from to = Keeps noted_old n
 pub record StopsWithin (raising : Raising) (s : NodeValue) (given left noted_old noted_new from to : Option (List ℕ))
     (stop : LiveStop) : Type 0 where
   pub line : List ℕ
-  pub bytes : List ℕ
-  pub line_is : IsLine line bytes
-  pub read : Consumes given left bytes
+  pub plain : HasNoFeed line
+  pub read : ReadsLine stop line given left
   pub leaves : LeavesLine raising s stop line noted_old noted_new from to
 
 -- Lines were read, and each was answered, in order, as it should be; then the node stopped at the next one, of which

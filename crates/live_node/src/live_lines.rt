@@ -1,7 +1,8 @@
 //! The lines that a node reads. A longer one than it may have is read to its end.
 
-ghost use Rattle.std.specs.Prelude.{◌≡◌, ℕ, ◌≤◌, IfOk, OnErr, List, Option, length};
+ghost use Rattle.std.specs.Prelude.{◌≡◌, ℕ, ◌≤◌, IfOk, IfErr, List, Option, length};
 ghost use Rattle.text_lines.specs.Lines.{TakesSome};
+ghost use Rattle.text_lines.specs.declared.read_fault.ReadFault.TheVariants as reading;
 ghost use Rattle.live_node.specs.Steps.LineTaking.{IsTaken, Takes, TakesRest, TakesWithin, HasPut};
 
 use std::io::Write;
@@ -36,7 +37,8 @@ fn taken(too_long: bool, fed: bool) -> TakenLine
 /// Puts a piece behind what was read of a line, where it isn't too long; whether it is.
 fn put_piece(line: &mut Vec<u8>, piece: &[u8], too_long: bool) -> Result<bool, ReadFault>
     requires { length line.old.items ≤ 16777216 }
-    ensures { IfOk result (HasPut line.old.items line.new.items piece.now too_long) }
+    ensures put { IfOk result (HasPut line.old.items line.new.items piece.now too_long) }
+    ensures fault { IfErr result (λ why. why ≡ reading.Memory) }
 {
     if too_long || piece.len() > LONGEST - line.len() {
         return Ok(true);
@@ -55,7 +57,7 @@ fn take_rest<L: LineSource, W: Write>(
     requires few { length line.old.items ≤ 16777216 }
     requires ready { (left : Option (List ℕ)) → TakesSome (L.left source.old) left → L.is_ready left (W.contents out.now) }
     ensures ok { IfOk result (TakesRest (L.left source.old) (L.left source.new) line.old.items line.new.items) }
-    ensures fault { OnErr result (TakesWithin (L.left source.old) (L.left source.new)) }
+    ensures fault { IfErr result (λ why. TakesWithin 0 why (L.left source.old) (L.left source.new)) }
 {
     let mut too_long = false;
     for _ in 0..u64::MAX {
@@ -81,7 +83,7 @@ pub(crate) fn take_line<L: LineSource, W: Write>(
 ) -> Result<TakenLine, ReadFault>
     requires ready { (left : Option (List ℕ)) → TakesSome (L.left source.old) left → L.is_ready left (W.contents out.now) }
     ensures ok { IfOk result (Takes (L.left source.old) (L.left source.new) line.new.items) }
-    ensures fault { OnErr result (TakesWithin (L.left source.old) (L.left source.new)) }
+    ensures fault { IfErr result (λ why. TakesWithin 1000001 why (L.left source.old) (L.left source.new)) }
 {
     match source.take_line(line, out)? {
         Given::Line => Ok(TakenLine::Line { fed: true }),

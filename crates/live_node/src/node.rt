@@ -10,8 +10,9 @@ ghost use Rattle.live_node.specs.declared.line_refusal.LineRefusal.TheVariants a
 ghost use Rattle.live_node.specs.Answers.{refused_line};
 ghost use Rattle.live_node.specs.declared.node_line.NodeLine.TheVariants as asked;
 ghost use Rattle.live_node.specs.NodeAnswers.{is_told, keeper_gives, own_hello, AreTold, IsAnswered, HasBegun};
+ghost use Rattle.live_node.specs.declared.node_stop.NodeStop.TheVariants as ends;
 ghost use Rattle.live_node.specs.Stops.{NotesUnanswered, StopsBeginning};
-ghost use Rattle.live_node.specs.Steps.Answering.{HasRisenTo, IsAnsweredBy, IsNotKeepers, NotesRestartPart, NotesUnevaluated, TellsNothing, stop_for};
+ghost use Rattle.live_node.specs.Steps.Answering.{HasRisenTo, IsAnsweredBy, IsNotKeepers, NotesUndone, NotesUnevaluated, NotesUnrisen, TellsNothing, stop_for};
 ghost use Rattle.live_node.specs.NodeJournal.{line_note, restart_note};
 ghost use Rattle.text_lines.specs.Growing.{GrowsBy};
 ghost use Rattle.text_lines.specs.Sending.{SendsPart};
@@ -100,7 +101,7 @@ fn is_told(answer: Accepted, is_behind: bool) -> bool
 /// Refuses a restart for which the keeper didn't raise the incarnation. Want of memory is a stop.
 fn refuse_unraised(fault: KeeperFault, out: &mut String) -> Result<(), NodeStop>
     ensures refused { OnOk result ((fault ≢ keeping.Memory) × GrowsBy out.old out.new (refused_line refusal.Keeper)) }
-    ensures stopped { IfErr result IsNotKeepers }
+    ensures stopped { IfErr result (λ why. why ≡ ends.Memory) }
 {
     match fault {
         KeeperFault::Memory => Err(NodeStop::Memory),
@@ -280,8 +281,7 @@ impl<K: Keeper, N: Notes> Node<K, N> {
         requires few { self.old.state.lines < 18446744073709551615 }
         ensures answered { OnOk result (IsAnsweredBy (keeper_gives K.raise_gives self.old.keeper) self.old.state self.new.state line.now (Some (asked.Hello of incarnation))
             (N.noted self.old.notes) (N.noted self.new.notes) (string_bytes out.old) (string_bytes out.new)) }
-        ensures part { OnErr result (SendsPart (line_note line.now) (N.noted self.old.notes) (N.noted self.new.notes)) }
-        ensures stopped { IfErr result IsNotKeepers }
+        ensures stopped { IfErr result (λ why. NotesUndone self.old.state (asked.Hello of incarnation) line.now why (N.noted self.old.notes) (N.noted self.new.notes)) }
         ensures kept { self.new.keeper ≡ self.old.keeper }
     {
         if of >= self.state.plant().resources() {
@@ -308,8 +308,7 @@ impl<K: Keeper, N: Notes> Node<K, N> {
         requires few { self.old.state.lines < 18446744073709551615 }
         ensures answered { OnOk result (IsAnsweredBy (keeper_gives K.raise_gives self.old.keeper) self.old.state self.new.state line.now (Some (asked.Restart resource))
             (N.noted self.old.notes) (N.noted self.new.notes) (string_bytes out.old) (string_bytes out.new)) }
-        ensures part { OnErr result (NotesRestartPart self.old.state (N.noted self.old.notes) (N.noted self.new.notes)) }
-        ensures stopped { IfErr result IsNotKeepers }
+        ensures stopped { IfErr result (λ why. NotesUnrisen (keeper_gives K.raise_gives self.old.keeper) self.old.state resource why (N.noted self.old.notes) (N.noted self.new.notes)) }
         ensures kept { OnOk result (K.last self.new.keeper ≡ self.new.state.core.incarnation) }
     {
         if let Some(refusal) = self.state.refusal_of_place(resource) {
@@ -350,7 +349,7 @@ impl<K: Keeper, N: Notes> Node<K, N> {
         requires kept { K.last self.old.keeper ≡ self.old.state.core.incarnation }
         ensures answered { OnOk result (IsAnswered (keeper_gives K.raise_gives self.old.keeper) self.old.state self.new.state line.now
             (N.noted self.old.notes) (N.noted self.new.notes) (string_bytes out.old) (string_bytes out.new)) }
-        ensures stopped { IfErr result (λ why. NotesUnanswered self.old.state line.now why (N.noted self.old.notes) (N.noted self.new.notes)) }
+        ensures stopped { IfErr result (λ why. NotesUnanswered (keeper_gives K.raise_gives self.old.keeper) self.old.state line.now why (N.noted self.old.notes) (N.noted self.new.notes)) }
         ensures kept { OnOk result (K.last self.new.keeper ≡ self.new.state.core.incarnation) }
     {
         match read_node_line(self.alloc, self.state.plant(), line)? {

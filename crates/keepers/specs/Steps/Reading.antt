@@ -1,5 +1,5 @@
 -- A text of retained variables that is read line by line.
-use Rattle.std.specs.Prelude.{◌≡◌, ◌≢◌, ℕ, ◌==◌, ◌<◌, true, negsuc, List, Option, Some, None, MatchOption, ◌++◌, length, map, take}
+use Rattle.std.specs.Prelude.{◌≡◌, ◌≢◌, ℕ, ◌==◌, ◌<◌, ◌≤◌, true, negsuc, List, Option, Some, None, MatchOption, ◌++◌, length, map, take}
 use Rattle.std.specs.List.{AllByRecursion, position}
 use Rattle.std_blocks.specs.declared.value.Value.{Value}
 use Rattle.std_blocks.specs.declared.value.Value.TheVariants.{Bool as BoolValue, Int as IntValue, Time as TimeValue}
@@ -54,3 +54,8 @@ pub record AreRead (code : CodeValue) (text : List ℕ) (many : ℕ) (values : L
 abbrev pub IsReadFault : CodeValue → List ℕ → ReadFault → Type 0
 IsReadFault code text (Departs place) = DepartsAt code text place
 IsReadFault code text Memory = Unit {0}
+
+-- a line that departs is one of a code's retained variables, or stands behind them
+abbrev pub IsWithin : CodeValue → ReadFault → Type 0
+IsWithin code (Departs place) = place ≤ length code.retained
+IsWithin code Memory = Unit {0}

@@ -1,5 +1,5 @@
 -- A node takes a line and answers it.
-use Rattle.std.specs.Prelude.{◌≡◌, ◌≢◌, ℕ, ◌<◌, ◌++◌, ◌⊎◌, Bool, true, false, List, [], Option, Some, Err, codes}
+use Rattle.std.specs.Prelude.{◌≡◌, ◌≢◌, ℕ, ◌<◌, ◌++◌, ◌⊎◌, Bool, true, false, List, [], Option, Some, Ok, Err, codes}
 use Rattle.std.specs.Io.KnownBytes.{Appends, Consumes, IsAtEnd, Keeps}
 use Rattle.task_codes.specs.CodeValue.{CodeValue}
 use Rattle.task_codes.specs.declared.task_ref.TaskRef.{TaskRef}
@@ -16,13 +16,14 @@ use Rattle.live_node.specs.Sends.{greetings}
 use Rattle.live_node.specs.Answers.{risen_line}
 use Rattle.live_node.specs.NodeJournal.{line_note, restart_note}
 use Rattle.live_node.specs.NodeValue.{NodeValue}
-use Rattle.live_node.specs.NodeSteps.{HasRisen}
+use Rattle.live_node.specs.NodeSteps.{HasRisen, IsNotRefused}
 use Rattle.live_node.specs.declared.node_stop.NodeStop.{NodeStop}
 use Rattle.live_node.specs.declared.node_stop.NodeStop.TheVariants as ends
 use Rattle.live_node.specs.declared.live_stop.LiveStop.{LiveStop}
 use Rattle.live_node.specs.declared.live_stop.LiveStop.TheVariants.{Read, Write, Memory}
 use Rattle.live_node.specs.NodeAnswers.{Raising, AnswersAsked}
 use Rattle.live_node.specs.LiveNode.{AnswersLine}
+use Rattle.live_node.specs.Stops.{IsNotedAsked}
 use Rattle.live_node.specs.Steps.LineTaking.{TakesLine}
 
 -- The resource was restarted in this incarnation; the note stands behind what was noted, and what is written behind
@@ -94,9 +95,19 @@ IsNotKeepers ends.Memory = Unit {0}
 -- what was noted of an evaluation that isn't answered
 abbrev pub NotesUnevaluated : MessageCoreValue → TaskRef → List ℕ → NodeStop → Option (List ℕ) → Option (List ℕ) → Type 0
 NotesUnevaluated core t line (ends.Keeper fault) noted_old noted_new =
-    (fault ≡ keeping.Unwritable) × (t.resource ≡ core.resource) × Appends noted_old noted_new (line_note line)
-NotesUnevaluated core t line ends.Note noted_old noted_new = SendsPart (line_note line) noted_old noted_new
-NotesUnevaluated core t line ends.Memory noted_old noted_new = SendsPart (line_note line) noted_old noted_new
+    (fault ≡ keeping.Unwritable) × IsNotRefused core t × Appends noted_old noted_new (line_note line)
+NotesUnevaluated core t line ends.Note noted_old noted_new =
+    IsNotRefused core t × SendsPart (line_note line) noted_old noted_new
+NotesUnevaluated core t line ends.Memory noted_old noted_new =
+    Keeps noted_old noted_new ⊎ (IsNotRefused core t × SendsPart (line_note line) noted_old noted_new)
+
+-- what was noted of a line that asks this and isn't answered, though the keeper has no fault
+abbrev pub NotesUndone : NodeValue → NodeLine → List ℕ → NodeStop → Option (List ℕ) → Option (List ℕ) → Type 0
+NotesUndone s asked line (ends.Keeper fault) noted_old noted_new = ⊥
+NotesUndone s asked line ends.Note noted_old noted_new =
+    IsNotedAsked s asked × SendsPart (line_note line) noted_old noted_new
+NotesUndone s asked line ends.Memory noted_old noted_new =
+    Keeps noted_old noted_new ⊎ (IsNotedAsked s asked × SendsPart (line_note line) noted_old noted_new)
 
 -- why a keeper tells nothing of the tasks of a resource, as a node stops then
 abbrev pub TellsNothing : Telling → PlantValue → ℕ → NodeStop → Type 0
@@ -106,11 +117,20 @@ TellsNothing tells plant n (ends.Keeper fault) =
 TellsNothing tells plant n ends.Note = ⊥
 TellsNothing tells plant n ends.Memory = Unit {0}
 
--- no more than a beginning of the note of a restart was noted
-abbrev pub NotesRestartPart : NodeValue → Option (List ℕ) → Option (List ℕ) → Type 0
-NotesRestartPart s noted_old noted_new =
-    (incarnation : ℕ) × (s.core.incarnation < incarnation)
-    × SendsPart (restart_note s.core.plant s.core.resource incarnation) noted_old noted_new
+-- no more than a beginning of the note of a restart of this resource was noted, to which the keeper was raised
+pub record NotesRestartPart (raising : Raising) (s : NodeValue) (n : ℕ) (noted_old noted_new : Option (List ℕ)) : Type 0 where
+  pub here : n ≡ s.core.resource
+  pub incarnation : ℕ
+  pub raised : raising s.core.incarnation (Ok incarnation)
+  pub above : s.core.incarnation < incarnation
+  pub sent : SendsPart (restart_note s.core.plant s.core.resource incarnation) noted_old noted_new
+
+-- what was noted of a restart that isn't answered
+abbrev pub NotesUnrisen : Raising → NodeValue → ℕ → NodeStop → Option (List ℕ) → Option (List ℕ) → Type 0
+NotesUnrisen raising s n (ends.Keeper fault) noted_old noted_new = ⊥
+NotesUnrisen raising s n ends.Note noted_old noted_new = NotesRestartPart raising s n noted_old noted_new
+NotesUnrisen raising s n ends.Memory noted_old noted_new =
+    Keeps noted_old noted_new ⊎ NotesRestartPart raising s n noted_old noted_new
 
 -- no more than a beginning of a text was written
 abbrev pub IsUnwritten : List ℕ → Option (List ℕ) → Option (List ℕ) → LiveStop → Type 0

@@ -1,10 +1,11 @@
 -- A line that is taken of a source: one that is too long is taken to its end.
-use Rattle.std.specs.Prelude.{◌≡◌, ◌≢◌, ℕ, ◌<◌, ◌≤◌, ◌++◌, Bool, true, false, List, [], ◌∷◌, Option, length}
+use Rattle.std.specs.Prelude.{◌≡◌, ◌≢◌, ℕ, ◌<◌, ◌≤◌, ◌++◌, ◌⊎◌, Bool, true, false, List, [], ◌∷◌, Option, length}
 use Rattle.std.specs.Io.KnownBytes.{Consumes, IsAtEnd}
-use Rattle.text_lines.specs.Lines.{HasNoFeed}
+use Rattle.text_lines.specs.Lines.{HasNoFeed, TakesSome}
+use Rattle.text_lines.specs.declared.read_fault.ReadFault.{ReadFault}
+use Rattle.text_lines.specs.declared.read_fault.ReadFault.TheVariants as reading
 use Rattle.live_node.specs.declared.live_lines.TakenLine.{TakenLine}
 use Rattle.live_node.specs.declared.live_lines.TakenLine.TheVariants.{Line, TooLong, End}
-use Rattle.live_node.specs.Stops.{IsLine}
 
 -- this was taken up to the end of a line: its line feed, or the end of all
 abbrev pub TakesToEnd : Option (List ℕ) → Option (List ℕ) → List ℕ → Bool → Type 0
@@ -40,9 +41,12 @@ abbrev pub HasPut : List ℕ → List ℕ → List ℕ → Bool → Bool → Typ
 HasPut old new piece before true = (new ≡ old) × (before ≡ false → 16777216 < length (old ++ piece))
 HasPut old new piece before false = (new ≡ old ++ piece) × (before ≡ false) × (length new ≤ 16777216)
 
--- no more than one line was taken
-pub record TakesWithin (old new : Option (List ℕ)) : Type 0 where
-  pub line : List ℕ
-  pub bytes : List ℕ
-  pub line_is : IsLine line bytes
-  pub taken : Consumes old new bytes
+-- a line of at least so many bytes was taken, with its line feed
+abbrev pub TakesLong : ℕ → Option (List ℕ) → Option (List ℕ) → Type 0
+TakesLong least old new =
+    (line : List ℕ) × (least ≤ length line) × HasNoFeed line × Consumes old new (line ++ 10 ∷ [])
+
+-- what was taken of a line that can't be read: no line feed; or, for want of memory, a line of at least so many bytes
+abbrev pub TakesWithin : ℕ → ReadFault → Option (List ℕ) → Option (List ℕ) → Type 0
+TakesWithin least reading.Read old new = TakesSome old new
+TakesWithin least reading.Memory old new = TakesSome old new ⊎ TakesLong least old new

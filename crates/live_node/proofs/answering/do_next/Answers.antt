@@ -9,10 +9,22 @@ use Rattle.live_node.specs.Answers.{refused_line}
 use Rattle.live_node.specs.declared.live_stop.LiveStop.TheVariants.{Node}
 use Rattle.live_node.specs.NodeAnswers.{a_keeper_gives, IsAnswered}
 use Rattle.live_node.specs.Stops.{NotesUnanswered, StopsWithin}
+use Rattle.live_node.specs.Steps.Answering.{stop_of}
 use Rattle.live_node.specs.Steps.LineTaking.{Takes}
 use Rattle.live_node.proofs.NextAnswered.{answered_by_one, next_answered}
-use Rattle.live_node.proofs.Stopping.{stops_unanswered, stops_unwritten, stops_too_long}
+use Rattle.live_node.proofs.Stopping.{unanswered_by_one, stops_unread, stops_unanswered, stops_unwritten, stops_too_long}
 use Rattle.live_node.proofs.answering.do_next.Goals as goal
+
+pub returns-in_err-take_line-clause-stopped : goal.returns-in_err-take_line-clause-stopped
+returns-in_err-take_line-clause-stopped g c =
+    let raising = a_keeper_gives g.K.Keeper.last g.K.Keeper.raise_gives in
+    let s = c.args.node.now.state in
+    let given = g.L.LineSource.left c.args.source.now in
+    let left = g.L.LineSource.left c.take_line.new.source in
+    let noted = g.N.Notes.noted c.args.node.now.notes in
+    let from = g.W.Write.contents c.args.out.now in
+    let why = c.in_err-take_line.field-0.0 in
+    kept_fault (stop_of why) (StopsWithin raising s given left noted noted from from) c.from_residual.result c.from_residual.ensures.1 (stops_unread raising s given left noted from why c.in_err-take_line.ensures.fault)
 
 pub returns-in_err-answer-in-Line-clause-stopped : goal.returns-in_err-answer-in-Line-clause-stopped
 returns-in_err-answer-in-Line-clause-stopped g c =
@@ -26,7 +38,8 @@ returns-in_err-answer-in-Line-clause-stopped g c =
     let from = g.W.Write.contents c.args.out.now in
     let why = c.in_err-answer-in-Line.field-0.0 in
     let taken = subst (Takes given left line) c.in-Line.is c.in_ok-take_line.ensures.ok in
-    let part = subst (λ l. NotesUnanswered s l why noted_old noted_new) c.as_slice.ensures.value c.in_err-answer-in-Line.ensures.stopped in
+    let of_keeper = unanswered_by_one g.K.Keeper.last g.K.Keeper.raise_gives c.args.node.now.keeper s c.as_slice.result.now why noted_old noted_new c.requires.kept c.in_err-answer-in-Line.ensures.stopped in
+    let part = subst (λ l. NotesUnanswered raising s l why noted_old noted_new) c.as_slice.ensures.value of_keeper in
     kept_fault (Node why) (StopsWithin raising s given left noted_old noted_new from from) c.from_residual-in_err-answer-in-Line.result c.from_residual-in_err-answer-in-Line.ensures.1
     (stops_unanswered raising s given left noted_old noted_new from line c.in-Line.fed why taken part)
 
