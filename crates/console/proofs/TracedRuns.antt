@@ -1,5 +1,5 @@
 -- The texts of a schedule that was done, by what stands at its end.
-use Rattle.std.proofs.Common.{◌≡◌, ℕ, List, Option, length, sym, subst, ap, arith}
+use Rattle.std.proofs.Common.{ℕ, List, Option, length, sym, subst, ap, arith}
 use Rattle.std.specs.Prelude.{reverse}
 use Rattle.std.proofs.lemmas.List.{take_all}
 use Rattle.plant.specs.PlantValue.{PlantValue}
