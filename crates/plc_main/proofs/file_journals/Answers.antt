@@ -1,5 +1,5 @@
 -- One more journal has the next name.
-use Rattle.std.proofs.Common.{map, string_bytes, ap, arith, ◌∙◌}
+use Rattle.std.proofs.Common.{ℕ, List, map, string_bytes, ap, arith, ◌∙◌}
 use Rattle.std.specs.Borrow.{Bor}
 use Rattle.std.proofs.lemmas.List.{take_all}
 use Rattle.audit.specs.declared.journal_file.JournalFile.{JournalFile}
@@ -8,7 +8,7 @@ use Rattle.plc_main.proofs.file_journals.Goals as goal
 
 pub loop-name-preserved : goal.loop-name-preserved
 loop-name-preserved g c =
-    ap (map (λ (f : JournalFile). string_bytes f.name)) c.in_ok-push.ensures.items
+    ap (map (λ (f : JournalFile). string_bytes f.name)) c.in_ok-push-in-Ok.ensures.items
     ∙ journals_more c.loop-name.journals.items c.args.names.now c.loop-name.name-index c.in-Ok.journal _ c.loop-name.invariant (omega (arith, c.loop-name-test.true)) c.in-Ok.ensures
 
 pub returns : goal.returns
