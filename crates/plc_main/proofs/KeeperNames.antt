@@ -1,9 +1,9 @@
 -- The names of keepers, and of journals, so far.
-use Rattle.std.proofs.Common.{◌≡◌, ℕ, ◌+◌, ◌<◌, ◌++◌, List, [], ◌∷◌, length, map, take, Some, slice_get, string_bytes, ap, ap₂, sym, ◌∙◌}
+use Rattle.std.proofs.Common.{◌≡◌, ℕ, ◌+◌, ◌<◌, ◌++◌, List, [], ◌∷◌, length, map, take, get_or, string_bytes, ap, ap₂, sym, ◌∙◌}
 use Rattle.std.specs.Borrow.{Bor}
 use Rattle.std.specs.Option.{option_map}
 use Rattle.std.proofs.lemmas.List.{map_push, map_more}
-use Rattle.std.proofs.lemmas.Option.{get_or_from_slice_get, slice_get_within}
+use Rattle.std.proofs.lemmas.Option.{get_or_from_slice_get}
 use Rattle.lists.specs.Items.{items_or_none}
 use Rattle.lists.proofs.Places.{element_at}
 use Rattle.plant.specs.PlantValue.{PlantValue, ResourceValue}
@@ -23,9 +23,9 @@ keepers_more name plant keepers n keeper so_far within named =
     ∙ sym (map_more (λ (r : ResourceValue). r.name) plant.resources n found.0 within)
 
 -- one more journal has the next name
-pub journals_more : (files : List JournalFile) (names : List (Bor (List ℕ))) (n : ℕ) (file : JournalFile) (name : Bor (List ℕ)) → AreNamed files (texts (take n names)) → slice_get names n ≡ Some name
-    → string_bytes file.name ≡ name.now → AreNamed (files ++ file ∷ []) (texts (take (n + 1) names))
-journals_more files names n file name so_far at named =
+pub journals_more : (files : List JournalFile) (names : List (Bor (List ℕ))) (n : ℕ) (file : JournalFile) (name : Bor (List ℕ)) → AreNamed files (texts (take n names)) → n < length names
+    → string_bytes file.name ≡ (get_or names n name).now → AreNamed (files ++ file ∷ []) (texts (take (n + 1) names))
+journals_more files names n file name so_far within named =
     map_push (λ (f : JournalFile). string_bytes f.name) files file
-    ∙ ap₂ (λ (ns : List (List ℕ)) (n : List ℕ). ns ++ n ∷ []) so_far (named ∙ ap (λ (w : Bor (List ℕ)). w.now) (sym (get_or_from_slice_get names n name name at)))
-    ∙ sym (map_more (λ (w : Bor (List ℕ)). w.now) names n name (slice_get_within names n name at))
+    ∙ ap₂ (λ (ns : List (List ℕ)) (n : List ℕ). ns ++ n ∷ []) so_far named
+    ∙ sym (map_more (λ (w : Bor (List ℕ)). w.now) names n name within)

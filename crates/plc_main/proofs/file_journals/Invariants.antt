@@ -4,4 +4,4 @@ use Rattle.plc_main.specs.AuditCommand.{AreNamed}
 use Rattle.plc_main.proofs.file_journals.Given as goal
 
 abbrev pub invariant-loop-name : goal.invariant-loop-name
-invariant-loop-name l = AreNamed l.journals.items (texts (take l.name-index l.names))
+invariant-loop-name g l = AreNamed l.journals.items (texts (take l.name-index l.names))
