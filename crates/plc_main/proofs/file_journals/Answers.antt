@@ -9,7 +9,7 @@ use Rattle.plc_main.proofs.file_journals.Goals as goal
 pub loop-name-preserved : goal.loop-name-preserved
 loop-name-preserved g c =
     ap (map (λ (f : JournalFile). string_bytes f.name)) c.in_ok-push-in-Ok.ensures.items
-    ∙ journals_more c.loop-name.journals.items c.args.names.now c.loop-name.name-index c.in-Ok.journal _ c.loop-name.invariant (omega (arith, c.loop-name-test.true)) c.in-Ok.ensures
+    ∙ journals_more c.loop-name.journals.items c.args.names.now c.loop-name.name-index c.in-Ok.journal _ c.loop-name.invariant (omega (arith, c.loop-name-test.true)) (rw c.in-Ok.is at c.in_ok-journal.ensures)
 
 pub returns : goal.returns
 returns g c = c.loop-name.invariant ∙ ap (map (λ (w : Bor (List ℕ)). w.now)) (take_all c.loop-name.name-index c.args.names.now c.loop-name-test.false)
