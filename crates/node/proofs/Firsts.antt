@@ -1,30 +1,44 @@
 -- In which incarnations the journals begin.
-use Rattle.std.proofs.Common.{◌≡◌, ℕ, ◌<◌, List, [], ◌∷◌, ◌++◌, ◌+◌, length, map, get_or, slice_index, length-append, Some, slice_get, refl, ap, sym, ◌∙◌, subst, arith}
+use Rattle.std.proofs.Common.{◌≡◌, ℕ, Result, Ok, ◌<◌, List, [], ◌∷◌, ◌++◌, ◌+◌, length, map, get_or, slice_index, length-append, Some, slice_get, refl, ap, sym, ◌∙◌, subst, arith}
 use Rattle.std.specs.Option.{option_map}
 use Rattle.std.specs.declared.thread.PromisedHandle.{PromisedHandle}
 use Rattle.std.proofs.lemmas.List.{length-map}
 use Rattle.std.proofs.lemmas.Option.{slice_get-map, same_Some, slice_get_within, slice_get_read, get_or_from_slice_get}
 use Rattle.lists.proofs.Places.{element_at, same_by_each}
+use Rattle.keepers.specs.declared.keeper_fault.KeeperFault.{KeeperFault}
 use Rattle.node_reports.specs.declared.journal.Journal.{Journal}
 use Rattle.node_reports.specs.Journals.{BeginAbove}
+use Rattle.node.specs.Raises.{BeginAsRaised}
 use Rattle.node.specs.declared.threads.ended.Ended.{Ended}
 use Rattle.node.specs.declared.threads.lawful_for.LawfulFor.{LawfulFor}
-use Rattle.node.specs.Steps.Working.{WorkerValue, firsts_of_workers, firsts_of_ended, AreAbove}
+use Rattle.node.specs.Steps.Working.{WorkerValue, firsts_of_workers, firsts_of_ended, AreAbove, AreRaised}
 use Rattle.node.proofs.Alls.{zip_at}
 
 pub firsts_parted : (es : List Ended) → map (λ (j : Journal). j.first) (map (λ (e : Ended). e.journal) es) ≡ firsts_of_ended es
 firsts_parted [] = refl
 firsts_parted (e ∷ es) = ap (λ firsts. e.journal.first ∷ firsts) (firsts_parted es)
 
+-- the first incarnation at a place, from the journal there
+first_at : (workers : List WorkerValue) (ended : List Ended) (journals : List Journal) (k : ℕ) (j : Journal) → firsts_of_ended ended ≡ firsts_of_workers workers → journals ≡ map (λ (e : Ended). e.journal) ended
+    → slice_get journals k ≡ Some j → slice_get (firsts_of_workers workers) k ≡ Some j.first
+first_at workers ended journals k j kept are found =
+    let first_of : Journal → ℕ = λ (i : Journal). i.first in
+    let begun : slice_get (map first_of journals) k ≡ Some j.first = slice_get-map first_of journals k ∙ ap (option_map first_of) found in
+    let same : map first_of journals ≡ firsts_of_workers workers = ap (map first_of) are ∙ firsts_parted ended ∙ kept in
+    subst (λ (l : List ℕ). slice_get l k ≡ Some j.first) same begun
+
 -- the journals that threads leave begin above what their keepers held, if the workers did
 pub begin_above : {K : Type 0} (last : K → ℕ) (keepers : List K) (workers : List WorkerValue) (ended : List Ended) (journals : List Journal) → AreAbove last keepers (firsts_of_workers workers)
     → firsts_of_ended ended ≡ firsts_of_workers workers → journals ≡ map (λ (e : Ended). e.journal) ended → BeginAbove last keepers journals
 begin_above last keepers workers ended journals above kept are = λ k keeper j at found.
-    let first_of : Journal → ℕ = λ (i : Journal). i.first in
     let held : slice_get (map last keepers) k ≡ Some (last keeper) = slice_get-map last keepers k ∙ ap (option_map last) at in
-    let begun : slice_get (map first_of journals) k ≡ Some j.first = slice_get-map first_of journals k ∙ ap (option_map first_of) found in
-    let same : map first_of journals ≡ firsts_of_workers workers = ap (map first_of) are ∙ firsts_parted ended ∙ kept in
-    zip_at (λ a b. a < b) (map last keepers) (firsts_of_workers workers) k (last keeper) j.first above held (subst (λ (l : List ℕ). slice_get l k ≡ Some j.first) same begun)
+    zip_at (λ a b. a < b) (map last keepers) (firsts_of_workers workers) k (last keeper) j.first above held (first_at workers ended journals k j kept are found)
+
+-- and in those that their keepers answered
+pub begin_as_raised : {K : Type 0} (gives : K → Result ℕ KeeperFault → Type 0) (keepers : List K) (workers : List WorkerValue) (ended : List Ended) (journals : List Journal) → AreRaised gives keepers (firsts_of_workers workers)
+    → firsts_of_ended ended ≡ firsts_of_workers workers → journals ≡ map (λ (e : Ended). e.journal) ended → BeginAsRaised gives keepers journals
+begin_as_raised {K} gives keepers workers ended journals raised kept are = λ k keeper j at found.
+    zip_at (λ (one : K) (first : ℕ). gives one (Ok first)) keepers (firsts_of_workers workers) k keeper j.first raised at (first_at workers ended journals k j kept are found)
 
 -- each thread left a journal that begins where its promise says
 pub firsts_kept : (hs : List (PromisedHandle Ended LawfulFor)) (es : List Ended) → length es ≡ length hs

@@ -8,7 +8,7 @@ use Rattle.node_reports.specs.declared.journal.Journal.{Journal}
 use Rattle.node_reports.specs.declared.node_fault.NodeFault.{NodeFault}
 use Rattle.node_reports.specs.declared.run_fault.RunFault.{RunFault}
 use Rattle.node_reports.specs.declared.run_fault.RunFault.TheVariants.{Memory, Spawn, BookDisagrees, Stranger, Doubled, Keeper}
-use Rattle.node_reports.specs.Journals.{firsts_of, IsLawful, BeginAbove}
+use Rattle.node_reports.specs.Journals.{firsts_of, IsLawful}
 use Rattle.node_reports.specs.RunFaults.{IsThreadsFault}
 use Rattle.node_reports.specs.declared.report.Report.{Report}
 use Rattle.node_reports.specs.Reports.{IsCollectFault, IsRunFault}
@@ -38,7 +38,7 @@ collect_refused plant found max_number commands book journals noted (Err f) same
     collect_fault plant max_number commands book journals noted f fit lawful (subst (λ (p : PlantValue). IsCollectFault p commands book journals noted f) same fault)
 
 -- the journals of the report begin where those do that the threads left
-pub begun_kept : {K : Type 0} (last : K → ℕ) (keepers : List K) (book : BookValue) (journals : List Journal) (r : Result Report RunFault) → BeginAbove last keepers journals
-    → IfOk r (λ report. (report.book ≡ book) × (report.journals ≡ journals)) → IfOk r (λ report. BeginAbove last keepers report.journals)
-begun_kept last keepers book journals (Ok report) begun kept = subst (BeginAbove last keepers) (sym kept.1) begun
-begun_kept last keepers book journals (Err f) begun kept = tt
+pub begun_kept : (Begin : List Journal → Type 0) (book : BookValue) (journals : List Journal) (r : Result Report RunFault) → Begin journals
+    → IfOk r (λ report. (report.book ≡ book) × (report.journals ≡ journals)) → IfOk r (λ report. Begin report.journals)
+begun_kept Begin book journals (Ok report) begun kept = subst Begin (sym kept.1) begun
+begun_kept Begin book journals (Err f) begun kept = tt

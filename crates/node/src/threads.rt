@@ -27,6 +27,7 @@ ghost use Rattle.node.specs.declared.threads.ended.Ended.{Ended};
 ghost use Rattle.node_reports.specs.Codes.{AreOfPlant};
 ghost use Rattle.node_reports.specs.Journals.{firsts_of, IsLawful, BeginAbove};
 ghost use Rattle.node_reports.specs.RunFaults.{IsStartFault, IsThreadsFault};
+ghost use Rattle.node.specs.Raises.{BeginAsRaised};
 ghost use Rattle.node.specs.Steps.Working.{IsWorkerFor, firsts_of_workers, firsts_of_ended};
 
 use crate::gate::Gate;
@@ -131,6 +132,7 @@ fn run_for<P: OfPlant + Send + Sync, R: Threads + Wait + Sync, K: Keeper, G: Gat
     requires plant { plant.now.value ≡ P.plant }
     ensures lawful { IfOk result (λ o. All (IsLawful plant.now.value (firsts_of o.journals.items) max_number) o.journals.items) }
     ensures begun { IfOk result (λ o. BeginAbove K.last keepers.items o.journals.items) }
+    ensures given { IfOk result (λ o. BeginAsRaised K.raise_gives keepers.items o.journals.items) }
     ensures of_plant { IfOk result (λ o. AreOfPlant plant.now.value o.book.entries) }
     ensures fault { IfErr result IsThreadsFault }
 {
@@ -178,6 +180,7 @@ pub fn run_all<R: Threads + Wait + Sync, K: Keeper, G: Gate>(
     requires { length keepers.items ≡ length plant.now.value.resources }
     ensures lawful { IfOk result (λ o. All (IsLawful plant.now.value (firsts_of o.journals.items) max_number) o.journals.items) }
     ensures begun { IfOk result (λ o. BeginAbove K.last keepers.items o.journals.items) }
+    ensures given { IfOk result (λ o. BeginAsRaised K.raise_gives keepers.items o.journals.items) }
     ensures of_plant { IfOk result (λ o. AreOfPlant plant.now.value o.book.entries) }
     ensures fault { IfErr result IsThreadsFault }
 {

@@ -1,7 +1,8 @@
 -- What doesn't change of a resource in its thread, and what its states keep.
-use Rattle.std.specs.Prelude.{◌≡◌, ℕ, ◌+◌, ◌<◌, List, [], ◌∷◌, map}
+use Rattle.std.specs.Prelude.{◌≡◌, ℕ, ◌+◌, ◌<◌, List, [], ◌∷◌, Result, Ok, map}
 use Rattle.std.specs.List.{AllZip}
 use Rattle.plant.specs.PlantValue.{PlantValue}
+use Rattle.keepers.specs.declared.keeper_fault.KeeperFault.{KeeperFault}
 use Rattle.node.specs.declared.threads.lawful_for.LawfulFor.{LawfulFor}
 use Rattle.node.specs.declared.threads.raised.Raised.{Raised}
 use Rattle.node.specs.declared.threads.worker_state.WorkerState.{WorkerState}
@@ -55,6 +56,10 @@ firsts_of_ended ended = map (λ (e : Ended). e.journal.first) ended
 -- each of these first incarnations is above the number that the keeper at its place held last
 abbrev pub AreAbove : {K : Type 0} → (K → ℕ) → List K → List ℕ → Type 0
 AreAbove last keepers firsts = AllZip (λ held first. held < first) (map last keepers) firsts
+
+-- each of these first incarnations is what the keeper at its place answers to a raise
+abbrev pub AreRaised : {K : Type 0} → (K → Result ℕ KeeperFault → Type 0) → List K → List ℕ → Type 0
+AreRaised gives keepers firsts = AllZip (λ keeper first. gives keeper (Ok first)) keepers firsts
 
 -- the numbers that raised keepers held last
 abbrev pub lasts_of : {K : Type 0} → (K → ℕ) → List (Raised K) → List ℕ

@@ -1,4 +1,6 @@
-ghost use Rattle.std.specs.Prelude.{◌≡◌};
+ghost use Rattle.std.specs.Prelude.{◌≡◌, ◌⊎◌, IfErr, OnOk};
+ghost use Rattle.keepers.specs.LeftValues.{TellsLeft};
+ghost use Rattle.node_reports.specs.declared.cause.Cause.TheVariants.{Memory, Keeper as KeeperCause};
 
 use evaluation::{Evaluation, Retained};
 use keepers::Keeper;
@@ -12,7 +14,9 @@ pub(crate) fn keep_after<K: Keeper>(
     keeper: &mut K,
     evaluation: &Evaluation,
 ) -> Result<(), Cause>
-    ensures { K.last keeper.new ≡ K.last keeper.old }
+    ensures last { K.last keeper.new ≡ K.last keeper.old }
+    ensures kept { OnOk result (TellsLeft (K.kept_gives keeper.new) evaluation.now) }
+    ensures fault { IfErr result (λ cause. (cause ≡ Memory) ⊎ (cause ≡ KeeperCause)) }
 {
     let code = evaluation.code();
     if code.retained().is_empty() {

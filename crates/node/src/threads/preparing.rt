@@ -1,7 +1,7 @@
-ghost use Rattle.std.specs.Prelude.{◌≡◌, ◌<◌, All, IfOk, IfErr, length};
+ghost use Rattle.std.specs.Prelude.{◌≡◌, ◌<◌, All, IfOk, IfErr, Ok, length};
 ghost use Rattle.exchange_core.specs.CoreValue.{AreOpeningOf};
 ghost use Rattle.node_reports.specs.RunFaults.{IsRaiseFault};
-ghost use Rattle.node.specs.Steps.Working.{IsWorkerFor, firsts_of_workers, AreAbove, AreOpened, lasts_of};
+ghost use Rattle.node.specs.Steps.Working.{IsWorkerFor, firsts_of_workers, AreAbove, AreOpened, AreRaised, lasts_of};
 
 use crate::threads::inbox::Inbox;
 use crate::threads::raised::Raised;
@@ -65,6 +65,7 @@ fn raise_one<K: Keeper>(
     keeper: K,
 ) -> Result<(Raised<K>, u32), RunFault>
     ensures above { IfOk result (λ r. K.last keeper < r.1) }
+    ensures given { IfOk result (λ r. K.raise_gives keeper (Ok r.1)) }
     ensures raised { IfOk result (λ r. K.last r.0.keeper ≡ r.1) }
     ensures opened { IfOk result (λ r. AreOpeningOf plant.now resource r.0.opening) }
     ensures fault { IfErr result IsRaiseFault }
@@ -84,6 +85,7 @@ pub(crate) fn raise_all<K: Keeper>(
     keepers: Vec<K>,
 ) -> Result<(Vec<Raised<K>>, Vec<u32>), RunFault>
     ensures above { IfOk result (λ r. AreAbove K.last keepers.items r.1.items) }
+    ensures given { IfOk result (λ r. AreRaised K.raise_gives keepers.items r.1.items) }
     ensures raised { IfOk result (λ r. lasts_of K.last r.0.items ≡ r.1.items) }
     ensures opened { IfOk result (λ r. AreOpened plant.now 0 r.0.items) }
     ensures fault { IfErr result IsRaiseFault }

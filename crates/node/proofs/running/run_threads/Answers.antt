@@ -1,6 +1,8 @@
 -- Where there is no report, the threads left nothing, or nothing of which one could be collected.
 use Rattle.lists.proofs.Results.{kept_fault}
+use Rattle.node_reports.specs.Journals.{BeginAbove}
 use Rattle.node_reports.specs.Reports.{IsRunFault}
+use Rattle.node.specs.Raises.{BeginAsRaised}
 use Rattle.node.proofs.Unreported.{threads_fault, collect_refused, begun_kept}
 use Rattle.node.proofs.running.run_threads.Goals as goal
 
@@ -18,4 +20,9 @@ returns-clause-fault g c =
 pub returns-clause-begun : goal.returns-clause-begun
 returns-clause-begun g c =
     let left = c.in_ok-book.field-0 in
-    begun_kept g.K.Keeper.last c.args.keepers.items left.book left.journals.items c.collect.result c.in_ok-book.ensures.begun c.collect.ensures.kept
+    begun_kept (BeginAbove g.K.Keeper.last c.args.keepers.items) left.book left.journals.items c.collect.result c.in_ok-book.ensures.begun c.collect.ensures.kept
+
+pub returns-clause-given : goal.returns-clause-given
+returns-clause-given g c =
+    let left = c.in_ok-book.field-0 in
+    begun_kept (BeginAsRaised g.K.Keeper.raise_gives c.args.keepers.items) left.book left.journals.items c.collect.result c.in_ok-book.ensures.given c.collect.ensures.kept

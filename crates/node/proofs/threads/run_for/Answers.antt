@@ -7,10 +7,10 @@ use Rattle.plant.specs.PlantValue.{PlantValue}
 use Rattle.node.specs.declared.threads.ended.Ended.{Ended}
 use Rattle.node_reports.specs.declared.journal.Journal.{Journal}
 use Rattle.node_reports.specs.Journals.{firsts_of, IsLawful}
-use Rattle.node.specs.Steps.Working.{AreAbove}
+use Rattle.node.specs.Steps.Working.{AreAbove, AreRaised}
 use Rattle.node_reports.specs.RunFaults.{IsThreadsFault}
 use Rattle.node.proofs.Alls.{zip_long}
-use Rattle.node.proofs.Firsts.{begin_above, firsts_parted}
+use Rattle.node.proofs.Firsts.{begin_above, begin_as_raised, firsts_parted}
 use Rattle.node.proofs.Refusing.{raise_fault, start_fault}
 use Rattle.node.proofs.threads.run_for.Goals as goal
 
@@ -38,6 +38,12 @@ pub returns-clause-begun : goal.returns-clause-begun
 returns-clause-begun g c =
     begin_above g.K.Keeper.last c.args.keepers.items c.in_ok-workers.workers.items c.in_ok-ended.ended.items c.in_ok-journals.journals.items
     (subst (AreAbove g.K.Keeper.last c.args.keepers.items) (sym (c.in_ok-workers.ensures.firsts ∙ c.as_slice.ensures.value)) c.in_ok-raised.ensures.above)
+    c.in_ok-ended.ensures.firsts c.in_ok-journals.ensures.journals
+
+pub returns-clause-given : goal.returns-clause-given
+returns-clause-given g c =
+    begin_as_raised g.K.Keeper.raise_gives c.args.keepers.items c.in_ok-workers.workers.items c.in_ok-ended.ended.items c.in_ok-journals.journals.items
+    (subst (AreRaised g.K.Keeper.raise_gives c.args.keepers.items) (sym (c.in_ok-workers.ensures.firsts ∙ c.as_slice.ensures.value)) c.in_ok-raised.ensures.given)
     c.in_ok-ended.ensures.firsts c.in_ok-journals.ensures.journals
 
 pub returns-in_err-raised-clause-fault : goal.returns-in_err-raised-clause-fault

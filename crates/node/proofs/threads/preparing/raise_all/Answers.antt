@@ -1,15 +1,16 @@
 -- One more keeper.
-use Rattle.std.proofs.Common.{rules, ◌≡◌, ℕ, ◌<◌, ◌++◌, List, [], ◌∷◌, map, ap, sym, ◌∙◌, append_assoc, subst}
+use Rattle.std.proofs.Common.{rules, ◌≡◌, ℕ, Ok, ◌<◌, ◌++◌, List, [], ◌∷◌, map, ap, sym, ◌∙◌, append_assoc, subst}
 use Rattle.std.specs.List.{AllZip}
 use Rattle.std.specs.Vec.Iter.{into_iter_items}
 use Rattle.lists.proofs.Zips.{zip_push}
-use Rattle.node.specs.Steps.Working.{lasts_of}
+use Rattle.node.specs.Steps.Working.{AreRaised, lasts_of}
 use Rattle.node.proofs.Opened.{opened_push, lasts_push}
 use Rattle.node.proofs.threads.preparing.raise_all.Goals as goal
 
 pub loop-keeper-preserved : goal.loop-keeper-preserved
 loop-keeper-preserved g c =
     let was = c.loop-keeper.invariant.0 in
+    let asked = c.loop-keeper.invariant.3 in
     let last = g.K.Keeper.last c.in-Some.keeper in
     let old : List ℕ = c.loop-keeper.firsts.items in
     let before = c.loop-keeper.raised.items in
@@ -27,4 +28,10 @@ loop-keeper-preserved g c =
           ∙ ap (λ (n : ℕ). old ++ n ∷ []) c.in_ok-one.ensures.raised
           ∙ sym firsts,
       opened_push c.args.plant.now before c.in_ok-one.one c.push.new.self.items c.len-resource.result (search rules) c.in-Ok.ensures.items c.loop-keeper.invariant.2 c.in_ok-one.ensures.opened,
+      (
+        asked.0 ++ c.in-Some.keeper ∷ [],
+        asked.1 ∙ ap (λ ks. asked.0 ++ ks) rest_is ∙ sym (append_assoc asked.0 (c.in-Some.keeper ∷ []) (into_iter_items c.next.new.self)),
+        subst (λ (fs : List ℕ). AreRaised g.K.Keeper.raise_gives (asked.0 ++ c.in-Some.keeper ∷ []) fs) (sym firsts)
+            (zip_push (λ one first. g.K.Keeper.raise_gives one (Ok first)) asked.0 old c.in-Some.keeper c.in_ok-one.first asked.2 c.in_ok-one.ensures.given),
+      ),
     )
