@@ -7,8 +7,9 @@ use crate::status::{DIFFERS, FAILED, TEXT_REFUSED, WORD_REFUSED};
 use evaluation::InputFault;
 use guidance::{help_with, help_with_a_schedule, help_with_a_word};
 use std::alloc::AllocError;
+use std::fmt::Display;
 use std::io;
-use text_commands::{Difference, TextFault, WordFault, WordFaultKind};
+use text_commands::{Difference, TextFault, WordFaultKind};
 use world::{LiveFault, SimFault};
 
 /// Tells what helps to mend a text. The fault was told before: what can't be told here is left out.
@@ -36,25 +37,22 @@ fn print_text_fault<R: Eprint + AllocGlobal>(
     Ok(TEXT_REFUSED)
 }
 
-/// Tells the nearest names of a drawing's variables. What can't be told here is left out.
-pub(crate) fn print_nearest<R: Eprint + AllocGlobal>(rt: &R, text: &str, word: &str) {
-    print_help(rt, help_with_a_word(rt.alloc(), text, word));
-}
-
-/// Tells why a word is refused; the status.
-fn print_word_fault<R: Eprint + AllocGlobal>(
+/// Tells the fault of a word by its number, and where no variable has that name the nearest ones; the status.
+pub(crate) fn print_fault_of_word<R: Eprint + AllocGlobal, F: Display + Drop>(
     rt: &R,
     text: &str,
     words: &[&str],
-    fault: WordFault,
+    number: usize,
+    is_unknown: bool,
+    fault: F,
 ) -> io::Result<u8>
     ensures { IfOk result (λ status. status ≡ 2) }
 {
-    let word = words.get(fault.number).copied().unwrap_or("");
+    let word = words.get(number).copied().unwrap_or("");
     let shown = Shown(word);
     eprintln!(rt; "plc: {shown}: {fault}")?;
-    if fault.kind == WordFaultKind::NoVariable {
-        print_nearest(rt, text, word);
+    if is_unknown {
+        print_help(rt, help_with_a_word(rt.alloc(), text, word));
     }
     Ok(WORD_REFUSED)
 }
@@ -79,7 +77,10 @@ pub fn print_fault<R: Eprint + AllocGlobal>(
 {
     match fault {
         CommandFault::Text(fault) => print_text_fault(rt, file, text, fault),
-        CommandFault::Word(fault) => print_word_fault(rt, text, words, fault),
+        CommandFault::Word(fault) => {
+            let is_unknown = fault.kind == WordFaultKind::NoVariable;
+            print_fault_of_word(rt, text, words, fault.number, is_unknown, fault)
+        }
         CommandFault::Write | CommandFault::Run(_) | CommandFault::Memory => {
             print_failure(rt, fault)
         }

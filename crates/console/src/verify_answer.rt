@@ -4,7 +4,7 @@ ghost use Rattle.console.specs.Statuses.{status_of, status_of_question};
 ghost use Rattle.console.specs.Verifying.{asked_question};
 
 use crate::command_fault::CommandFault;
-use crate::faults::{print_failure, print_fault, print_nearest};
+use crate::faults::{print_failure, print_fault, print_fault_of_word};
 use crate::files::file_text;
 use crate::request::VerifyRequest;
 use crate::shown::Shown;
@@ -14,9 +14,7 @@ use std::io;
 use std::io::Write;
 use std::rt::{Clock, Files};
 use text_lines::{OnTerminal, Progress};
-use verifying::{
-    ClaimFault, ClaimFaultKind, HeldFault, Question, Summary, VerifyFault, verify_text,
-};
+use verifying::{ClaimFaultKind, Question, Summary, VerifyFault, verify_text};
 
 /// Writes what is true of the claims about the drawing in the text. The file is what stands for it before the words for
 /// `plc eval`. How far the search is is told meanwhile.
@@ -52,33 +50,6 @@ fn status_of(summary: Summary) -> u8
     }
 }
 
-/// Tells why a name is no claim; the status.
-fn print_claim_fault<R: Eprint + AllocGlobal>(
-    rt: &R,
-    text: &str,
-    names: &[&str],
-    fault: ClaimFault,
-) -> io::Result<u8>
-    ensures { IfOk result (λ status. status ≡ 2) }
-{
-    let name = names.get(fault.number).copied().unwrap_or("");
-    let shown = Shown(name);
-    eprintln!(rt; "plc: {shown}: {fault}")?;
-    if fault.kind == ClaimFaultKind::NoVariable {
-        print_nearest(rt, text, name);
-    }
-    Ok(WORD_REFUSED)
-}
-
-/// Tells why a word holds no input; the status.
-fn print_held_fault<R: Eprint>(rt: &R, words: &[&str], fault: HeldFault) -> io::Result<u8>
-    ensures { IfOk result (λ status. status ≡ 2) }
-{
-    let word = Shown(words.get(fault.number).copied().unwrap_or(""));
-    eprintln!(rt; "plc: {word}: {fault}")?;
-    Ok(WORD_REFUSED)
-}
-
 /// Tells why there is no answer; the status.
 fn print_verify_fault<R: Eprint + AllocGlobal>(
     rt: &R,
@@ -92,8 +63,13 @@ fn print_verify_fault<R: Eprint + AllocGlobal>(
         VerifyFault::Command(fault) => {
             print_fault(rt, request.drawing, text, &request.words, fault.into())
         }
-        VerifyFault::Claim(fault) => print_claim_fault(rt, text, &request.claims, fault),
-        VerifyFault::Held(fault) => print_held_fault(rt, &request.words, fault),
+        VerifyFault::Claim(fault) => {
+            let is_unknown = fault.kind == ClaimFaultKind::NoVariable;
+            print_fault_of_word(rt, text, &request.claims, fault.number, is_unknown, fault)
+        }
+        VerifyFault::Held(fault) => {
+            print_fault_of_word(rt, text, &request.words, fault.number, false, fault)
+        }
         VerifyFault::TooManyInputs(_) => {
             eprintln!(rt; "plc: {fault}")?;
             Ok(WORD_REFUSED)

@@ -88,8 +88,9 @@ pub record IsCircuit (ds : List Declaration) (d : Diagram) (c : Circuit) : Type 
   pub rung : IfSome c.rung (λ (r : Rung). IsRung ds c.steps.items c.coils.items c.boxes.items r.contacts.items r.coil)
 
 -- there is room for a scan of the circuit
-pub record HasRoom (links results : ℕ) (c : Circuit) : Type 0 where
+pub record HasRoom (rows links results : ℕ) (c : Circuit) : Type 0 where
   pub shape : HasShape c
+  pub rows_in : c.rows ≤ rows
   pub links_in : length c.coils.items ≤ links
   pub results_in : length c.boxes.items ≤ results
 

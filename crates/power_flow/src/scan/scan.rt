@@ -149,8 +149,7 @@ pub fn scan_circuits(
 )
     requires networks { (ds : List Declaration) × (rails : List Place) × AreCircuits ds rails circuits.now
         × AllAreWide (map (circuit_diagram rails) circuits.now) × AreSlotsOf ds slots.old }
-    requires room { AllByRecursion (HasRoom (length links.old) (length results.old)) circuits.now }
-    requires rows { length rows.old ≡ 200 }
+    requires room { AllByRecursion (HasRoom (length rows.old) (length links.old) (length results.old)) circuits.now }
     requires memories { length memories.old ≡ sum_by (λ c. length c.elements.items) circuits.now }
     ensures { (ds : List Declaration) (rails : List Place) → AreCircuits ds rails circuits.now
         → AllAreWide (map (circuit_diagram rails) circuits.now) → AreSlotsOf ds slots.old
@@ -183,12 +182,13 @@ fn still_off(all_off: bool, edges: bool) -> bool
 }
 
 impl State {
-    /// One scan of these networks, of which some may have edges. Without them memories that are all OFF stay so.
-    pub(crate) fn run(&mut self, circuits: &[Circuit], edges: bool, dt: u32)
+    /// One scan of these networks, which have so many rows at most, and of which some may have edges. Without them
+    /// memories that are all OFF stay so.
+    pub(crate) fn run(&mut self, circuits: &[Circuit], rows: usize, edges: bool, dt: u32)
         requires edges { edges ≡ false → AreEdgelessCircuits circuits.now }
         requires networks { (ds : List Declaration) × (rails : List Place) × AreCircuits ds rails circuits.now
             × AllAreWide (map (circuit_diagram rails) circuits.now) × AreSlotsOf ds self.old.slots }
-        requires room { AllByRecursion (HasRoom self.old.waiting_links self.old.waiting_results) circuits.now }
+        requires room { AllByRecursion (HasRoom rows self.old.waiting_links self.old.waiting_results) circuits.now }
         requires memories { length self.old.memories ≡ sum_by (λ c. length c.elements.items) circuits.now }
         ensures meaning { (ds : List Declaration) (rails : List Place) → AreCircuits ds rails circuits.now
             → AllAreWide (map (circuit_diagram rails) circuits.now) → AreSlotsOf ds self.old.slots
@@ -198,12 +198,19 @@ impl State {
         ensures links { self.new.waiting_links ≡ self.old.waiting_links }
         ensures results { self.new.waiting_results ≡ self.old.waiting_results }
     {
-        let mut rows = ArrayVec::<bool, 200>::from([false; 200]);
+        let mut short = ArrayVec::<bool, 16>::from([false; 16]);
+        let mut long = ArrayVec::<bool, 200>::new();
+        let column = if rows <= 16 {
+            short.as_mut_slice()
+        } else {
+            long = ArrayVec::from([false; 200]);
+            long.as_mut_slice()
+        };
         scan_circuits(
             circuits,
             &mut self.slots,
             self.memories.as_mut_slice(),
-            rows.as_mut_slice(),
+            column,
             self.links.as_mut_slice(),
             self.results.as_mut_slice(),
             dt,

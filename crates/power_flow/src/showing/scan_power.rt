@@ -62,9 +62,8 @@ fn show_circuits(
     shown: &mut Vec<bool>,
 ) -> Result<(), AllocError>
     requires circuits { AreCircuits declarations.now rails.now circuits.now }
-    requires room { AllByRecursion (HasRoom (length links.old) (length results.old)) circuits.now }
+    requires room { AllByRecursion (HasRoom (length rows.old) (length links.old) (length results.old)) circuits.now }
     requires slots { AreSlotsOf declarations.now slots.old }
-    requires rows { length rows.old ≡ 200 }
     requires memories { length memories.old ≡ sum_by (λ c. length c.elements.items) circuits.now }
     ensures { OnOk result ((told : List Bool) × (shown.new.items ≡ shown.old.items ++ told)
         × ShowsPower declarations.now dt (map (circuit_diagram rails.now) circuits.now)
@@ -116,7 +115,7 @@ impl State {
         dt: u32,
     ) -> Result<Vec<bool>, AllocError>
         requires circuits { AreCircuits declarations.now rails.now circuits.now }
-        requires room { AllByRecursion (HasRoom self.old.waiting_links self.old.waiting_results) circuits.now }
+        requires room { AllByRecursion (HasRoom 200 self.old.waiting_links self.old.waiting_results) circuits.now }
         requires slots { AreSlotsOf declarations.now self.old.slots }
         requires memories { length self.old.memories ≡ sum_by (λ c. length c.elements.items) circuits.now }
         ensures shown { IfOk result (λ shown. ShowsPower declarations.now dt

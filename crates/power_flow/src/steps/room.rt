@@ -17,6 +17,17 @@ pub fn count_elements(circuits: &[Circuit]) -> Result<usize, AllocError>
     Ok(count)
 }
 
+/// How many rows the circuit with the most of them has; 0 where there is none.
+pub fn most_rows(circuits: &[Circuit]) -> usize
+    ensures { All (λ c. c.rows ≤ result) circuits.now }
+{
+    let mut most = 0usize;
+    for circuit in circuits {
+        most = most.max(circuit.rows);
+    }
+    most
+}
+
 /// How many coils the circuit with the most of them has; 0 where there is none.
 pub fn most_coils(circuits: &[Circuit]) -> usize
     ensures enough { All (λ c. length c.coils.items ≤ result) circuits.now }

@@ -32,7 +32,7 @@ scan_circuits-requires t c =
     let sum : sum_by Count (first ∷ rest) ≡ Count first + sum_by Count rest = sum_by-cons Count first rest in
     let left : length c.split_at_mut-here.result.1.now ≡ sum_by Count rest =
     omega (arith, many, sum, c.split_at_mut-here.ensures.back_len, c.len-elements.ensures, first.elements.ok.0) in
-    (search rules, ((has.0, has.1, all.1, widths.1, fits), (search rules, (search rules, left))))
+    (search rules, ((has.0, has.1, all.1, widths.1, fits), (search rules, left)))
 
 pub returns-in-Some : goal.returns-in-Some
 returns-in-Some t c = λ ds rails are wide fits.
