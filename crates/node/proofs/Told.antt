@@ -1,5 +1,5 @@
 -- What keepers tell of the tasks of their resources, and that the journals open with it.
-use Rattle.std.proofs.Common.{arith, ◌≡◌, ◌⊎◌, inl, inr, ℕ, Ok, ◌<◌, ◌++◌, List, [], ◌∷◌, Some, length, map, slice_get, sym, ap, ◌∙◌, subst}
+use Rattle.std.proofs.Common.{arith, ◌≡◌, ◌⊎◌, inl, inr, ℕ, Ok, ◌++◌, List, [], ◌∷◌, Some, length, slice_get, sym, ap, ◌∙◌, subst}
 use Rattle.std.specs.Option.{option_map}
 use Rattle.std.proofs.lemmas.Option.{none-some, same_Some, slice_get-map, slice_get_within}
 use Rattle.lists.proofs.Places.{push_cases}

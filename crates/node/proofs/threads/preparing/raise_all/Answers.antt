@@ -1,5 +1,5 @@
 -- One more keeper.
-use Rattle.std.proofs.Common.{rules, ◌≡◌, ℕ, Ok, ◌<◌, ◌++◌, List, [], ◌∷◌, length, map, ap, sym, ◌∙◌, append_assoc, subst}
+use Rattle.std.proofs.Common.{arith, rules, ◌≡◌, ℕ, Ok, ◌<◌, ◌++◌, List, [], ◌∷◌, length, map, ap, sym, ◌∙◌, append_assoc, subst}
 use Rattle.std.specs.List.{AllZip}
 use Rattle.std.specs.Vec.Iter.{into_iter_items}
 use Rattle.std.proofs.lemmas.List.{length-map, map_push}
@@ -21,8 +21,9 @@ loop-keeper-preserved g c =
     let rest_is : into_iter_items c.loop-keeper.keeper-iterator ≡ c.in-Some.keeper ∷ into_iter_items c.next.new.self = search rules in
     let many : length before ≡ length asked.0 =
     sym (length-map before (λ r. g.K.Keeper.last r.keeper)) ∙ ap length c.loop-keeper.invariant.1 ∙ zip_long (λ one first. g.K.Keeper.raise_gives one (Ok first)) asked.0 old asked.2 in
+    let counted : c.len-resource.result ≡ length before = (let len = c.len-resource.ensures in let long = c.loop-keeper.raised.ok.0 in omega (arith, len, long)) in
     let told = told_push g.K.Keeper.kept_gives c.args.plant.now asked.0 (openings_of_raised before) c.in-Some.keeper c.in_ok-one.one.opening c.len-resource.result
-    (length-map before (λ r. r.opening) ∙ many) (c.len-resource.ensures ∙ many) asked.3 c.in_ok-one.ensures.told in
+    (length-map before (λ r. r.opening) ∙ many) (counted ∙ many) asked.3 c.in_ok-one.ensures.told in
     let firsts : c.push-in-loop-keeper.new.self.items ≡ old ++ c.in_ok-one.first ∷ [] = c.in-Ok-push.ensures.items in (
       (
         was.0 ++ last ∷ [],
