@@ -1,4 +1,4 @@
--- In which incarnations the journals begin.
+-- In which incarnations the journals begin, and with what.
 use Rattle.std.proofs.Common.{◌≡◌, ℕ, Result, Ok, ◌<◌, List, [], ◌∷◌, ◌++◌, ◌+◌, length, map, get_or, slice_index, length-append, Some, slice_get, refl, ap, sym, ◌∙◌, subst, arith}
 use Rattle.std.specs.Option.{option_map}
 use Rattle.std.specs.declared.thread.PromisedHandle.{PromisedHandle}
@@ -11,12 +11,16 @@ use Rattle.node_reports.specs.Journals.{BeginAbove}
 use Rattle.node.specs.Raises.{BeginAsRaised}
 use Rattle.node.specs.declared.threads.ended.Ended.{Ended}
 use Rattle.node.specs.declared.threads.lawful_for.LawfulFor.{LawfulFor}
-use Rattle.node.specs.Steps.Working.{WorkerValue, firsts_of_workers, firsts_of_ended, AreAbove, AreRaised}
+use Rattle.node.specs.Steps.Working.{WorkerValue, firsts_of_workers, firsts_of_ended, openings_of_ended, AreAbove, AreRaised}
 use Rattle.node.proofs.Alls.{zip_at}
 
 pub firsts_parted : (es : List Ended) → map (λ (j : Journal). j.first) (map (λ (e : Ended). e.journal) es) ≡ firsts_of_ended es
 firsts_parted [] = refl
 firsts_parted (e ∷ es) = ap (λ firsts. e.journal.first ∷ firsts) (firsts_parted es)
+
+pub openings_parted : (es : List Ended) → map (λ (j : Journal). j.opening) (map (λ (e : Ended). e.journal) es) ≡ openings_of_ended es
+openings_parted [] = refl
+openings_parted (e ∷ es) = ap (λ openings. e.journal.opening ∷ openings) (openings_parted es)
 
 -- the first incarnation at a place, from the journal there
 first_at : (workers : List WorkerValue) (ended : List Ended) (journals : List Journal) (k : ℕ) (j : Journal) → firsts_of_ended ended ≡ firsts_of_workers workers → journals ≡ map (λ (e : Ended). e.journal) ended
@@ -40,28 +44,22 @@ pub begin_as_raised : {K : Type 0} (gives : K → Result ℕ KeeperFault → Typ
 begin_as_raised {K} gives keepers workers ended journals raised kept are = λ k keeper j at found.
     zip_at (λ (one : K) (first : ℕ). gives one (Ok first)) keepers (firsts_of_workers workers) k keeper j.first raised at (first_at workers ended journals k j kept are found)
 
--- each thread left a journal that begins where its promise says
-pub firsts_kept : (hs : List (PromisedHandle Ended LawfulFor)) (es : List Ended) → length es ≡ length hs
-    → ((i : ℕ) (d : Ended) → i < length hs → (handle : PromisedHandle Ended LawfulFor) × (handle ≡ get_or hs i handle) × ((get_or es i d).journal.first ≡ handle.promise.first))
-    → firsts_of_ended es ≡ map (λ (h : PromisedHandle Ended LawfulFor). h.promise.first) hs
-firsts_kept hs es many each = same_by_each (firsts_of_ended es) (map promised hs) (length-map es begun ∙ many ∙ sym (length-map hs promised)) at_place
+-- what each thread left is as its promise says, place by place
+pub each_kept : {X : Type 0} (left : Ended → X) (promised : PromisedHandle Ended LawfulFor → X) (hs : List (PromisedHandle Ended LawfulFor)) (es : List Ended) → length es ≡ length hs
+    → ((i : ℕ) (d : Ended) → i < length hs → (handle : PromisedHandle Ended LawfulFor) × (handle ≡ get_or hs i handle) × (left (get_or es i d) ≡ promised handle))
+    → map left es ≡ map promised hs
+each_kept {X} left promised hs es many each = same_by_each (map left es) (map promised hs) (length-map es left ∙ many ∙ sym (length-map hs promised)) at_place
   where
-    begun : Ended → ℕ
-    begun e = e.journal.first
-
-    promised : PromisedHandle Ended LawfulFor → ℕ
-    promised h = h.promise.first
-
-    at_place : (k x y : ℕ) → slice_get (firsts_of_ended es) k ≡ Some x → slice_get (map promised hs) k ≡ Some y → x ≡ y
+    at_place : (k : ℕ) (x y : X) → slice_get (map left es) k ≡ Some x → slice_get (map promised hs) k ≡ Some y → x ≡ y
     at_place k x y at found =
-        let within = slice_get_within (firsts_of_ended es) k x at in
-        let long = length-map es begun in
+        let within = slice_get_within (map left es) k x at in
+        let long = length-map es left in
         let inside : k < length es = omega (arith, within, long) in
         let e = element_at es k inside in
         let kept = each k e.0 (omega (arith, inside, many)) in
         let handle : slice_get hs k ≡ Some kept.0 = slice_get_read hs (length hs) k kept.0 refl (omega (arith, inside, many)) kept.1 in
-        same_Some x (begun e.0) (sym at ∙ slice_get-map begun es k ∙ ap (option_map begun) e.1)
-        ∙ ap begun (sym (get_or_from_slice_get es k e.0 e.0 e.1))
+        same_Some x (left e.0) (sym at ∙ slice_get-map left es k ∙ ap (option_map left) e.1)
+        ∙ ap left (sym (get_or_from_slice_get es k e.0 e.0 e.1))
         ∙ kept.2
         ∙ same_Some (promised kept.0) y (sym (slice_get-map promised hs k ∙ ap (option_map promised) handle) ∙ found)
 

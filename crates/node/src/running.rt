@@ -1,6 +1,7 @@
 ghost use Rattle.std.specs.Prelude.{◌≡◌, IfOk, IfErr, length, vec_len};
 ghost use Rattle.node_reports.specs.Commands.{AreNumbered, AreForPlant};
 ghost use Rattle.node_reports.specs.Journals.{BeginAbove};
+ghost use Rattle.node.specs.Openings.{OpenAsTold};
 ghost use Rattle.node.specs.Raises.{BeginAsRaised};
 ghost use Rattle.node_reports.specs.Reports.{IsFittingBook, AreJournalsOf, AreInBook, AreAnswers, RunsAgain, CanBeMadeAgain, AreTold, IsRunFault};
 
@@ -39,6 +40,7 @@ pub fn run_threads<R: Threads + Wait + Sync, K: Keeper, G: Gate>(
     ensures made_again { IfOk result (λ r. CanBeMadeAgain plant.value max_number r.book r.journals) }
     ensures begun { IfOk result (λ r. BeginAbove K.last keepers.items r.journals) }
     ensures given { IfOk result (λ r. BeginAsRaised K.raise_gives keepers.items r.journals) }
+    ensures opened { IfOk result (λ r. OpenAsTold K.kept_gives plant.value keepers.items r.journals) }
     ensures fault { IfErr result (IsRunFault plant.value max_number commands.now) }
 {
     let Outcome {

@@ -27,8 +27,9 @@ ghost use Rattle.node.specs.declared.threads.ended.Ended.{Ended};
 ghost use Rattle.node_reports.specs.Codes.{AreOfPlant};
 ghost use Rattle.node_reports.specs.Journals.{firsts_of, IsLawful, BeginAbove};
 ghost use Rattle.node_reports.specs.RunFaults.{IsStartFault, IsThreadsFault};
+ghost use Rattle.node.specs.Openings.{OpenAsTold};
 ghost use Rattle.node.specs.Raises.{BeginAsRaised};
-ghost use Rattle.node.specs.Steps.Working.{IsWorkerFor, firsts_of_workers, firsts_of_ended};
+ghost use Rattle.node.specs.Steps.Working.{IsWorkerFor, firsts_of_workers, firsts_of_ended, openings_of_workers, openings_of_ended};
 
 use crate::gate::Gate;
 use crate::threads::desk::Desk;
@@ -70,6 +71,7 @@ where
     requires plant { desk.plant.now ≡ P.plant }
     ensures lawful { IfOk result (λ es. All (λ e. IsLawful desk.entry.plant.now desk.entry.firsts.now max_number e.journal) es.items) }
     ensures firsts { IfOk result (λ es. firsts_of_ended es.items ≡ firsts_of_workers workers.items) }
+    ensures openings { IfOk result (λ es. openings_of_ended es.items ≡ openings_of_workers workers.items) }
     ensures fault { IfErr result IsStartFault }
 {
     let started = start_all(scope, rt, alloc, desk, inboxes, workers, max_number);
@@ -103,6 +105,7 @@ fn run_scoped<R: Threads + Wait + Sync, K: Keeper, G: Gate, P: OfPlant + Send + 
     requires plant { desk.plant.now ≡ P.plant }
     ensures lawful { IfOk result (λ es. All (λ e. IsLawful desk.entry.plant.now desk.entry.firsts.now max_number e.journal) es.items) }
     ensures firsts { IfOk result (λ es. firsts_of_ended es.items ≡ firsts_of_workers workers.items) }
+    ensures openings { IfOk result (λ es. openings_of_ended es.items ≡ openings_of_workers workers.items) }
     ensures fault { IfErr result IsStartFault }
 {
     thread::scope(
@@ -113,6 +116,7 @@ fn run_scoped<R: Threads + Wait + Sync, K: Keeper, G: Gate, P: OfPlant + Send + 
             requires plant { desk.plant.now ≡ P.plant }
             ensures lawful { IfOk result (λ es. All (λ e. IsLawful desk.entry.plant.now desk.entry.firsts.now max_number e.journal) es.items) }
             ensures firsts { IfOk result (λ es. firsts_of_ended es.items ≡ firsts_of_workers workers.items) }
+            ensures openings { IfOk result (λ es. openings_of_ended es.items ≡ openings_of_workers workers.items) }
             ensures fault { IfErr result IsStartFault }
         { run_in(scope, rt, alloc, desk, inboxes, workers, max_number, faults) },
     )
@@ -133,6 +137,7 @@ fn run_for<P: OfPlant + Send + Sync, R: Threads + Wait + Sync, K: Keeper, G: Gat
     ensures lawful { IfOk result (λ o. All (IsLawful plant.now.value (firsts_of o.journals.items) max_number) o.journals.items) }
     ensures begun { IfOk result (λ o. BeginAbove K.last keepers.items o.journals.items) }
     ensures given { IfOk result (λ o. BeginAsRaised K.raise_gives keepers.items o.journals.items) }
+    ensures opened { IfOk result (λ o. OpenAsTold K.kept_gives plant.now.value keepers.items o.journals.items) }
     ensures of_plant { IfOk result (λ o. AreOfPlant plant.now.value o.book.entries) }
     ensures fault { IfErr result IsThreadsFault }
 {
@@ -181,6 +186,7 @@ pub fn run_all<R: Threads + Wait + Sync, K: Keeper, G: Gate>(
     ensures lawful { IfOk result (λ o. All (IsLawful plant.now.value (firsts_of o.journals.items) max_number) o.journals.items) }
     ensures begun { IfOk result (λ o. BeginAbove K.last keepers.items o.journals.items) }
     ensures given { IfOk result (λ o. BeginAsRaised K.raise_gives keepers.items o.journals.items) }
+    ensures opened { IfOk result (λ o. OpenAsTold K.kept_gives plant.now.value keepers.items o.journals.items) }
     ensures of_plant { IfOk result (λ o. AreOfPlant plant.now.value o.book.entries) }
     ensures fault { IfErr result IsThreadsFault }
 {

@@ -102,10 +102,10 @@ fn obey_run<R: AllocGlobal + Threads + Wait + Sync, K: Keeper, G: Gate, W: Write
     requires keepers { vec_len keepers ≡ length prepared.plant.value.resources }
     requires words { IsRead (one_text_of request.now.words.items) prepared.inputs }
     ensures ok { IfOk result
-        (WritesAskedRun K.last keepers.items prepared.plant.value request.now
+        (WritesAskedRun K.last K.raise_gives K.kept_gives keepers.items prepared.plant.value request.now
         (W.contents writer.old) (W.contents writer.new)) }
     ensures fault { IfErr result
-        (ExplainsRun K.last keepers.items prepared.plant.value request.now.until prepared.inputs
+        (ExplainsRun K.last K.raise_gives K.kept_gives keepers.items prepared.plant.value request.now.until prepared.inputs
         (W.contents writer.old) (W.contents writer.new)) }
 {
     let Prepared { plant, inputs } = prepared;

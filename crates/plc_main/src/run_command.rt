@@ -39,10 +39,11 @@ pub fn run_text<R: Threads + Wait + Sync, K: Keeper, G: Gate, W: Write>(
 ) -> Result<Ran, CommandFault>
     requires { vec_len keepers ≡ length plant.value.resources }
     ensures ok { IfOk result
-        (WritesReport K.last keepers.items plant.value until inputs wanted.entry
+        (WritesReport K.last K.raise_gives K.kept_gives keepers.items plant.value until inputs wanted.entry
         (W.contents writer.old) (W.contents writer.new)) }
     ensures fault { IfErr result
-        (ExplainsRun K.last keepers.items plant.value until inputs (W.contents writer.old) (W.contents writer.new)) }
+        (ExplainsRun K.last K.raise_gives K.kept_gives keepers.items plant.value until inputs
+        (W.contents writer.old) (W.contents writer.new)) }
 {
     let commands = planned_commands(alloc, &plant, until, &inputs)?;
     let shared = Arc::try_clone(&plant)?;

@@ -1,23 +1,26 @@
--- What doesn't change of a resource in its thread, and what its states keep.
-use Rattle.std.specs.Prelude.{◌≡◌, ℕ, ◌+◌, ◌<◌, List, [], ◌∷◌, Result, Ok, map}
+-- What doesn't change of a resource in its thread.
+use Rattle.std.specs.Prelude.{◌≡◌, ℕ, ◌+◌, ◌<◌, List, [], ◌∷◌, Some, Result, Ok, map, slice_get}
 use Rattle.std.specs.List.{AllZip}
+use Rattle.std.specs.declared.thread.PromisedHandle.{PromisedHandle}
+use Rattle.std_blocks.specs.declared.value.Value.{Value}
 use Rattle.plant.specs.PlantValue.{PlantValue}
+use Rattle.keepers.specs.Keepers.{Telling}
 use Rattle.keepers.specs.declared.keeper_fault.KeeperFault.{KeeperFault}
 use Rattle.node.specs.declared.threads.lawful_for.LawfulFor.{LawfulFor}
 use Rattle.node.specs.declared.threads.raised.Raised.{Raised}
-use Rattle.node.specs.declared.threads.worker_state.WorkerState.{WorkerState}
-use Rattle.node.specs.declared.threads.worker_state.WorkerState.TheVariants.{Running, Stopped}
 use Rattle.node.specs.declared.threads.ended.Ended.{Ended}
-use Rattle.exchange_core.specs.CoreValue.{CoreValue, AreOpeningOf}
-use Rattle.node_reports.specs.declared.journal.Journal.{Journal}
-use Rattle.node_reports.specs.Journals.{IsLawful}
+use Rattle.node.specs.Openings.{TellsOpening}
+use Rattle.node.specs.Steps.States.{journal_of}
+use Rattle.exchange_core.specs.CoreValue.{AreOpeningOf}
 
--- the plant, the first incarnation of each resource, the greatest number of an evaluation, and its own first incarnation
+-- the plant, the first incarnation of each resource, the greatest number of an evaluation, its own first incarnation, and
+-- the retained values with which its tasks open
 pub record WorkerValue : Type 0 where
   pub plant : PlantValue
   pub firsts : List ℕ
   pub max_number : ℕ
   pub first : ℕ
+  pub opening : List (List Value)
 
 -- a worker is of this plant and these first incarnations, and numbers its evaluations up to this
 abbrev pub IsWorkerFor : PlantValue → List ℕ → ℕ → WorkerValue → Type 0
@@ -28,30 +31,31 @@ abbrev pub IsPromisedFor : PlantValue → List ℕ → ℕ → LawfulFor → Typ
 IsPromisedFor plant firsts max_number p =
     (p.plant.now ≡ plant) × (p.firsts.now ≡ firsts) × (p.max_number ≡ max_number)
 
--- a core is of this plant, these first incarnations and this limit, and in this incarnation
-pub record IsCoreFor (plant : PlantValue) (firsts : List ℕ) (max_number last : ℕ) (core : CoreValue) : Type 0 where
-  pub plant_is : core.plant ≡ plant
-  pub firsts_are : core.first ≡ firsts
-  pub limit_is : core.max_number ≡ max_number
-  pub incarnation_is : core.incarnation ≡ last
-
--- while it runs, its core is of this plant, these first incarnations and this limit, and in the incarnation that is kept;
--- what it has done once it is stopped is lawful
-abbrev pub IsWorking : PlantValue → List ℕ → ℕ → ℕ → WorkerState → Type 0
-IsWorking plant firsts max_number last (Running s) = IsCoreFor plant firsts max_number last s.core
-IsWorking plant firsts max_number last (Stopped j) = IsLawful plant firsts max_number j
-
--- the journal of a resource, whether it runs or is stopped
-abbrev pub journal_of : WorkerState → Journal
-journal_of (Running s) = s.journal
-journal_of (Stopped j) = j
-
 -- the first incarnations of workers, and of the journals that threads leave
 abbrev pub firsts_of_workers : List WorkerValue → List ℕ
 firsts_of_workers workers = map (λ (w : WorkerValue). w.first) workers
 
 abbrev pub firsts_of_ended : List Ended → List ℕ
 firsts_of_ended ended = map (λ (e : Ended). e.journal.first) ended
+
+-- what the tasks open with: of raised keepers, of workers, as threads promise, and of the journals that they leave
+abbrev pub openings_of_raised : {K : Type 0} → List (Raised K) → List (List (List Value))
+openings_of_raised raised = map (λ r. r.opening) raised
+
+abbrev pub openings_of_workers : List WorkerValue → List (List (List Value))
+openings_of_workers workers = map (λ (w : WorkerValue). w.opening) workers
+
+abbrev pub opening_promised : PromisedHandle Ended LawfulFor → List (List Value)
+opening_promised h = (journal_of h.promise.began.value).opening
+
+abbrev pub openings_of_ended : List Ended → List (List (List Value))
+openings_of_ended ended = map (λ (e : Ended). e.journal.opening) ended
+
+-- each of these openings is what the keeper at its place may tell that it keeps of the tasks of the resource there
+abbrev pub AreTold : {K : Type 0} → (K → Telling) → PlantValue → List K → List (List (List Value)) → Type 0
+AreTold {K} tells plant keepers openings =
+    (k : ℕ) (keeper : K) (opening : List (List Value)) → slice_get keepers k ≡ Some keeper
+    → slice_get openings k ≡ Some opening → TellsOpening (tells keeper) plant k opening
 
 -- each of these first incarnations is above the number that the keeper at its place held last
 abbrev pub AreAbove : {K : Type 0} → (K → ℕ) → List K → List ℕ → Type 0

@@ -1,7 +1,7 @@
 ghost use Rattle.std.specs.Prelude.{◌≡◌, IfOk, OnOk};
 ghost use Rattle.keepers.specs.LeftValues.{TellsLeft};
 ghost use Rattle.node_reports.specs.Codes.{IsOfPlant};
-ghost use Rattle.node.specs.Steps.Working.{IsWorking, journal_of};
+ghost use Rattle.node.specs.Steps.States.{IsWorking, journal_of};
 
 use crate::threads::entered::Entered;
 use crate::threads::keeping::keep_after;
@@ -41,6 +41,7 @@ pub(crate) fn enter_pending<R: Wait, K: Keeper, P: OfPlant>(
     requires plant { pending.core.plant ≡ P.plant }
     ensures working { IsWorking pending.core.plant pending.core.first pending.core.max_number (K.last keeper.new) result.0 }
     ensures first { (journal_of result.0).first ≡ pending.journal.first }
+    ensures opening { (journal_of result.0).opening ≡ pending.journal.opening }
     ensures kept { IfOk result.1 (λ e. OnOk e.kept (TellsLeft (K.kept_gives keeper.new) pending.made)) }
 {
     if let Err(cause) = enter(rt, book, pending.frame()) {

@@ -1,7 +1,8 @@
 ghost use Rattle.std.specs.Prelude.{◌≡◌, ◌<◌, All, IfOk, IfErr, Ok, length};
 ghost use Rattle.exchange_core.specs.CoreValue.{AreOpeningOf};
 ghost use Rattle.node_reports.specs.RunFaults.{IsRaiseFault};
-ghost use Rattle.node.specs.Steps.Working.{IsWorkerFor, firsts_of_workers, AreAbove, AreOpened, AreRaised, lasts_of};
+ghost use Rattle.node.specs.Openings.{TellsOpening};
+ghost use Rattle.node.specs.Steps.Working.{IsWorkerFor, firsts_of_workers, openings_of_raised, openings_of_workers, AreAbove, AreOpened, AreRaised, AreTold, lasts_of};
 
 use crate::threads::inbox::Inbox;
 use crate::threads::raised::Raised;
@@ -30,6 +31,7 @@ pub(crate) fn make_inboxes(
 }
 
 /// What a keeper has kept of each task of its resource, in their order.
+#[tactic(auto, using(crate::proofs::Told::told_none, crate::proofs::Told::told_more, crate::proofs::Told::tells_more))]
 fn kept_opening<K: Keeper>(
     alloc: Global,
     plant: &Plant,
@@ -37,6 +39,7 @@ fn kept_opening<K: Keeper>(
     keeper: &mut K,
 ) -> Result<Opening, RunFault>
     ensures opened { IfOk result (AreOpeningOf plant.now resource) }
+    ensures told { IfOk result (TellsOpening (K.kept_gives keeper.old) plant.now resource) }
     ensures last { K.last keeper.new ≡ K.last keeper.old }
     ensures fault { IfErr result IsRaiseFault }
 {
@@ -68,6 +71,7 @@ fn raise_one<K: Keeper>(
     ensures given { IfOk result (λ r. K.raise_gives keeper (Ok r.1)) }
     ensures raised { IfOk result (λ r. K.last r.0.keeper ≡ r.1) }
     ensures opened { IfOk result (λ r. AreOpeningOf plant.now resource r.0.opening) }
+    ensures told { IfOk result (λ r. TellsOpening (K.kept_gives keeper) plant.now resource r.0.opening) }
     ensures fault { IfErr result IsRaiseFault }
 {
     let mut keeper = keeper;
@@ -88,6 +92,7 @@ pub(crate) fn raise_all<K: Keeper>(
     ensures given { IfOk result (λ r. AreRaised K.raise_gives keepers.items r.1.items) }
     ensures raised { IfOk result (λ r. lasts_of K.last r.0.items ≡ r.1.items) }
     ensures opened { IfOk result (λ r. AreOpened plant.now 0 r.0.items) }
+    ensures told { IfOk result (λ r. AreTold K.kept_gives plant.now keepers.items (openings_of_raised r.0.items)) }
     ensures fault { IfErr result IsRaiseFault }
 {
     let mut raised = Vec::new(alloc);
@@ -118,6 +123,7 @@ pub(crate) fn make_workers<K: Keeper>(
     requires opened { AreOpened plant.now.value 0 raised.items }
     ensures made { IfOk result (λ ws. All (IsWorkerFor plant.now.value firsts.now max_number) ws.items) }
     ensures firsts { IfOk result (λ ws. firsts_of_workers ws.items ≡ firsts.now) }
+    ensures openings { IfOk result (λ ws. openings_of_workers ws.items ≡ openings_of_raised raised.items) }
     ensures fault { IfErr result IsRaiseFault }
 {
     let mut workers = Vec::new(alloc);

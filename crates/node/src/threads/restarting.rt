@@ -1,5 +1,5 @@
 ghost use Rattle.std.specs.Prelude.{◌≡◌, ℕ, OnOk, Ok};
-ghost use Rattle.node.specs.Steps.Working.{IsWorking, journal_of};
+ghost use Rattle.node.specs.Steps.States.{IsWorking, journal_of};
 
 use crate::threads::worker_state::WorkerState;
 use keepers::Keeper;
@@ -16,6 +16,7 @@ pub(crate) fn restart_station<K: Keeper>(
     requires { K.last keeper.old ≡ station.core.incarnation }
     ensures working { IsWorking station.core.plant station.core.first station.core.max_number (K.last keeper.new) result.0 }
     ensures first { (journal_of result.0).first ≡ station.journal.first }
+    ensures opening { (journal_of result.0).opening ≡ station.journal.opening }
     ensures given { OnOk result.1 ((i : ℕ) × K.raise_gives keeper.old (Ok i) × (K.last keeper.new ≡ i)) }
 {
     let mut station = station;

@@ -30,6 +30,7 @@ pub(crate) fn serve<R: Wait, K: Keeper, G: Gate, P: OfPlant>(
     requires { worker.plant ≡ P.plant }
     ensures lawful { IsLawful worker.plant worker.firsts worker.max_number result.journal }
     ensures first { result.journal.first ≡ worker.first }
+    ensures opening { result.journal.opening ≡ worker.opening }
 {
     // There is room for one fault of each command.
     make_ready(alloc, faults.capacity());

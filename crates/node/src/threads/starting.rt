@@ -4,7 +4,7 @@ ghost use Rattle.node_reports.specs.Journals.{IsLawful};
 ghost use Rattle.node_reports.specs.RunFaults.{IsStartFault};
 ghost use Rattle.node.specs.declared.threads.ended.Ended.{Ended};
 ghost use Rattle.node.specs.declared.threads.lawful_for.LawfulFor.{LawfulFor};
-ghost use Rattle.node.specs.Steps.Working.{IsWorkerFor, IsPromisedFor, firsts_of_workers};
+ghost use Rattle.node.specs.Steps.Working.{IsWorkerFor, IsPromisedFor, firsts_of_workers, openings_of_workers, opening_promised};
 
 use crate::gate::Gate;
 use crate::threads::desk::Desk;
@@ -47,6 +47,7 @@ where
     requires plant { desk.plant.now ≡ P.plant }
     ensures promised { IfOk result (λ h. IsPromisedFor desk.entry.plant.now desk.entry.firsts.now max_number h.promise) }
     ensures first { IfOk result (λ h. h.promise.first ≡ worker.first) }
+    ensures opening { IfOk result (λ h. opening_promised h ≡ worker.opening) }
     ensures fault { IfErr result IsStartFault }
 {
     let promise = LawfulFor {
@@ -54,11 +55,13 @@ where
         firsts: desk.firsts,
         max_number,
         first: worker.first(),
+        began: worker.began(),
     };
     let served = move || -> Ended
         requires { worker.plant ≡ P.plant }
         ensures lawful { IsLawful worker.plant worker.firsts worker.max_number result.journal }
         ensures first { result.journal.first ≡ worker.first }
+        ensures opening { result.journal.opening ≡ worker.opening }
     { serve(rt, alloc, desk, inbox, worker, faults) };
     match scope.spawn_with(promise, served) {
         Ok(handle) => Ok(handle),
@@ -90,6 +93,7 @@ where
     requires plant { desk.plant.now ≡ P.plant }
     ensures promised { IfOk result (λ hs. All (λ h. IsPromisedFor desk.entry.plant.now desk.entry.firsts.now max_number h.promise) hs.items) }
     ensures firsts { IfOk result (λ hs. map (λ (h : PromisedHandle Ended LawfulFor). h.promise.first) hs.items ≡ firsts_of_workers workers.items) }
+    ensures openings { IfOk result (λ hs. map opening_promised hs.items ≡ openings_of_workers workers.items) }
     ensures fault { IfErr result IsStartFault }
 {
     let mut handles = Vec::new(alloc);

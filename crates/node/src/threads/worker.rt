@@ -12,6 +12,7 @@ use node_reports::{Cause, Journal, RunFault, Station};
 use plant::Plant;
 use std::alloc::Global;
 use std::marker::Model;
+use std::snapshot::Snapshot;
 use std::sync::{Arc, Mutex, Wait};
 
 /// A resource in its thread: the keeper of its incarnation, and what it does until it is stopped.
@@ -28,11 +29,12 @@ pub(crate) struct Worker<K: Keeper> {
 
 impl<K: Keeper> Model for Worker<K> {
     ghost use Rattle.std.specs.Prelude.{◌≡◌};
-    ghost use Rattle.node.specs.Steps.Working.{WorkerValue, IsWorking, journal_of};
+    ghost use Rattle.node.specs.Steps.States.{IsWorking, journal_of};
+    ghost use Rattle.node.specs.Steps.Working.{WorkerValue};
 
     ghost Value = { WorkerValue };
 
-    ghost view = { λ w. record { plant = w.plant.value; firsts = w.firsts.items; max_number = w.max_number; first = w.first } };
+    ghost view = { λ w. record { plant = w.plant.value; firsts = w.firsts.items; max_number = w.max_number; first = w.first; opening = (journal_of w.state).opening } };
 
     ghost invariant = { λ w. IsWorking w.plant.value w.firsts.items w.max_number (K.last w.keeper) w.state
         × ((journal_of w.state).first ≡ w.first) };
@@ -42,6 +44,7 @@ ghost use Rattle.std.specs.Prelude.{◌≡◌, ◌<◌, IfOk, IfErr, length, sli
 ghost use Rattle.node_reports.specs.declared.run_fault.RunFault.TheVariants.{Memory};
 ghost use Rattle.exchange_core.specs.CoreValue.{AreOpeningOf};
 ghost use Rattle.node_reports.specs.Journals.{IsLawful};
+ghost use Rattle.node.specs.Steps.States.{journal_of};
 
 impl<K: Keeper> Worker<K> {
     /// A resource in its first incarnation, which its keeper has just raised, with what was kept of its tasks. `firsts` has the first incarnation of each resource.
@@ -58,7 +61,7 @@ impl<K: Keeper> Worker<K> {
         requires raised { K.last raised.keeper ≡ slice_index firsts.now resource }
         requires opened { AreOpeningOf plant.now.value resource raised.opening }
         ensures fault { IfErr result (λ fault. fault ≡ Memory) }
-        ensures made { IfOk result (λ w. w ≡ record { plant = plant.now.value; firsts = firsts.now; max_number = max_number; first = slice_index firsts.now resource }) }
+        ensures made { IfOk result (λ w. w ≡ record { plant = plant.now.value; firsts = firsts.now; max_number = max_number; first = slice_index firsts.now resource; opening = raised.opening }) }
     {
         let Raised { keeper, opening } = raised;
         let shared = Arc::try_clone(plant)?;
@@ -81,6 +84,13 @@ impl<K: Keeper> Worker<K> {
         ensures { result ≡ self.now.first }
     {
         self.first
+    }
+
+    /// In what state it began, for what is promised of it before it does anything.
+    pub fn began(&self) -> Snapshot<WorkerState>
+        ensures { (journal_of result.value).opening ≡ self.now.opening }
+    {
+        Snapshot::of(&self.state)
     }
 
     /// Whether it obeys no more.
@@ -237,6 +247,7 @@ impl<K: Keeper> Worker<K> {
     pub fn into_journal(self) -> Journal
         ensures lawful { IsLawful self.plant self.firsts self.max_number result }
         ensures first { result.first ≡ self.first }
+        ensures opening { result.opening ≡ self.opening }
     {
         let Worker {
             plant: _,

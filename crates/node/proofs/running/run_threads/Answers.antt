@@ -2,6 +2,7 @@
 use Rattle.lists.proofs.Results.{kept_fault}
 use Rattle.node_reports.specs.Journals.{BeginAbove}
 use Rattle.node_reports.specs.Reports.{IsRunFault}
+use Rattle.node.specs.Openings.{OpenAsTold}
 use Rattle.node.specs.Raises.{BeginAsRaised}
 use Rattle.node.proofs.Unreported.{threads_fault, collect_refused, begun_kept}
 use Rattle.node.proofs.running.run_threads.Goals as goal
@@ -26,3 +27,8 @@ pub returns-clause-given : goal.returns-clause-given
 returns-clause-given g c =
     let left = c.in_ok-book.field-0 in
     begun_kept (BeginAsRaised g.K.Keeper.raise_gives c.args.keepers.items) left.book left.journals.items c.collect.result c.in_ok-book.ensures.given c.collect.ensures.kept
+
+pub returns-clause-opened : goal.returns-clause-opened
+returns-clause-opened g c =
+    let left = c.in_ok-book.field-0 in
+    begun_kept (OpenAsTold g.K.Keeper.kept_gives c.args.plant.value c.args.keepers.items) left.book left.journals.items c.collect.result c.in_ok-book.ensures.opened c.collect.ensures.kept

@@ -6,11 +6,12 @@ use Rattle.lists.proofs.Results.{kept_fault}
 use Rattle.plant.specs.PlantValue.{PlantValue}
 use Rattle.node.specs.declared.threads.ended.Ended.{Ended}
 use Rattle.node_reports.specs.declared.journal.Journal.{Journal}
-use Rattle.node_reports.specs.Journals.{firsts_of, IsLawful}
-use Rattle.node.specs.Steps.Working.{AreAbove, AreRaised}
+use Rattle.node_reports.specs.Journals.{firsts_of, openings_of, IsLawful}
+use Rattle.node.specs.Steps.Working.{AreAbove, AreRaised, AreTold, openings_of_raised}
 use Rattle.node_reports.specs.RunFaults.{IsThreadsFault}
 use Rattle.node.proofs.Alls.{zip_long}
-use Rattle.node.proofs.Firsts.{begin_above, begin_as_raised, firsts_parted}
+use Rattle.node.proofs.Firsts.{begin_above, begin_as_raised, firsts_parted, openings_parted}
+use Rattle.node.proofs.Told.{open_as_told}
 use Rattle.node.proofs.Refusing.{raise_fault, start_fault}
 use Rattle.node.proofs.threads.run_for.Goals as goal
 
@@ -45,6 +46,12 @@ returns-clause-given g c =
     begin_as_raised g.K.Keeper.raise_gives c.args.keepers.items c.in_ok-workers.workers.items c.in_ok-ended.ended.items c.in_ok-journals.journals.items
     (subst (AreRaised g.K.Keeper.raise_gives c.args.keepers.items) (sym (c.in_ok-workers.ensures.firsts ∙ c.as_slice.ensures.value)) c.in_ok-raised.ensures.given)
     c.in_ok-ended.ensures.firsts c.in_ok-journals.ensures.journals
+
+pub returns-clause-opened : goal.returns-clause-opened
+returns-clause-opened g c =
+    let told = subst (λ (p : PlantValue). AreTold g.K.Keeper.kept_gives p c.args.keepers.items (openings_of_raised c.in_ok-raised.raised.items)) c.deref.ensures c.in_ok-raised.ensures.told in
+    open_as_told g.K.Keeper.kept_gives c.args.plant.now.value c.args.keepers.items (openings_of_raised c.in_ok-raised.raised.items) c.in_ok-journals.journals.items told
+    (ap openings_of c.in_ok-journals.ensures.journals ∙ openings_parted c.in_ok-ended.ended.items ∙ c.in_ok-ended.ensures.openings ∙ c.in_ok-workers.ensures.openings)
 
 pub returns-in_err-raised-clause-fault : goal.returns-in_err-raised-clause-fault
 returns-in_err-raised-clause-fault g c =

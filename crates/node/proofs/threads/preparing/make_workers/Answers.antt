@@ -2,7 +2,8 @@
 use Rattle.std.proofs.Common.{arith, rules, ◌≡◌, ℕ, ◌++◌, List, [], ◌∷◌, length, ap, sym, subst, ◌∙◌, append_assoc}
 use Rattle.std.specs.Vec.Iter.{into_iter_items}
 use Rattle.std.proofs.lemmas.List.{length-append, length-map, map_push}
-use Rattle.node.specs.Steps.Working.{WorkerValue, IsWorkerFor, AreOpened, firsts_of_workers, lasts_of}
+use Rattle.std_blocks.specs.declared.value.Value.{Value}
+use Rattle.node.specs.Steps.Working.{WorkerValue, IsWorkerFor, AreOpened, firsts_of_workers, openings_of_raised, openings_of_workers, lasts_of}
 use Rattle.node.proofs.Alls.{all_push}
 use Rattle.node.proofs.Firsts.{next_first}
 use Rattle.node.proofs.threads.preparing.make_workers.Goals as goal
@@ -12,9 +13,11 @@ loop-one-preserved g c =
     let was = c.loop-one.invariant in
     let made = c.in_ok-worker.ensures.made in
     let first_of : WorkerValue → ℕ = λ (w : WorkerValue). w.first in
+    let opening_of : WorkerValue → List (List Value) = λ (w : WorkerValue). w.opening in
     let last = g.K.Keeper.last c.in-Some.one.keeper in
     let workers : List WorkerValue = c.loop-one.workers.items in
     let rest : List ℕ = lasts_of g.K.Keeper.last (into_iter_items c.next.new.self) in
+    let others : List (List (List Value)) = openings_of_raised (into_iter_items c.next.new.self) in
     let rest_is : into_iter_items c.loop-one.one-iterator ≡ c.in-Some.one ∷ into_iter_items c.next.new.self = search rules in
     let are : c.args.firsts.now ≡ firsts_of_workers workers ++ last ∷ rest = was.1 ∙ ap (λ rs. firsts_of_workers workers ++ lasts_of g.K.Keeper.last rs) rest_is in
     let counted : c.len-resource.result ≡ length (firsts_of_workers workers) =
@@ -29,4 +32,9 @@ loop-one-preserved g c =
           ∙ ap (λ (ns : List ℕ). ns ++ rest) (sym (ap firsts_of_workers c.in-Ok.ensures.items ∙ map_push first_of workers c.in_ok-worker.worker)),
       subst (λ (n : ℕ). AreOpened c.args.plant.now.value n (into_iter_items c.next.new.self))
           (sym (ap length c.in-Ok.ensures.items ∙ length-append workers (c.in_ok-worker.worker ∷ []))) opened.1,
+      was.3
+          ∙ ap (λ rs. openings_of_workers workers ++ openings_of_raised rs) rest_is
+          ∙ ap (λ (o : List (List Value)). openings_of_workers workers ++ o ∷ others) (sym (ap opening_of made))
+          ∙ sym (append_assoc (openings_of_workers workers) (c.in_ok-worker.worker.opening ∷ []) others)
+          ∙ ap (λ (os : List (List (List Value))). os ++ others) (sym (ap openings_of_workers c.in-Ok.ensures.items ∙ map_push opening_of workers c.in_ok-worker.worker)),
     )

@@ -1,10 +1,14 @@
 -- One more keeper.
-use Rattle.std.proofs.Common.{rules, ◌≡◌, ℕ, Ok, ◌<◌, ◌++◌, List, [], ◌∷◌, map, ap, sym, ◌∙◌, append_assoc, subst}
+use Rattle.std.proofs.Common.{arith, rules, ◌≡◌, ℕ, Ok, ◌<◌, ◌++◌, List, [], ◌∷◌, length, map, ap, sym, ◌∙◌, append_assoc, subst}
 use Rattle.std.specs.List.{AllZip}
 use Rattle.std.specs.Vec.Iter.{into_iter_items}
+use Rattle.std.proofs.lemmas.List.{length-map, map_push}
 use Rattle.lists.proofs.Zips.{zip_push}
-use Rattle.node.specs.Steps.Working.{AreRaised, lasts_of}
+use Rattle.std_blocks.specs.declared.value.Value.{Value}
+use Rattle.node.specs.Steps.Working.{AreRaised, AreTold, openings_of_raised, lasts_of}
+use Rattle.node.proofs.Alls.{zip_long}
 use Rattle.node.proofs.Opened.{opened_push, lasts_push}
+use Rattle.node.proofs.Told.{told_push}
 use Rattle.node.proofs.threads.preparing.raise_all.Goals as goal
 
 pub loop-keeper-preserved : goal.loop-keeper-preserved
@@ -15,6 +19,11 @@ loop-keeper-preserved g c =
     let old : List ℕ = c.loop-keeper.firsts.items in
     let before = c.loop-keeper.raised.items in
     let rest_is : into_iter_items c.loop-keeper.keeper-iterator ≡ c.in-Some.keeper ∷ into_iter_items c.next.new.self = search rules in
+    let many : length before ≡ length asked.0 =
+    sym (length-map before (λ r. g.K.Keeper.last r.keeper)) ∙ ap length c.loop-keeper.invariant.1 ∙ zip_long (λ one first. g.K.Keeper.raise_gives one (Ok first)) asked.0 old asked.2 in
+    let counted : c.len-resource.result ≡ length before = (let len = c.len-resource.ensures in let long = c.loop-keeper.raised.ok.0 in omega (arith, len, long)) in
+    let told = told_push g.K.Keeper.kept_gives c.args.plant.now asked.0 (openings_of_raised before) c.in-Some.keeper c.in_ok-one.one.opening c.len-resource.result
+    (length-map before (λ r. r.opening) ∙ many) (counted ∙ many) asked.3 c.in_ok-one.ensures.told in
     let firsts : c.push-in-loop-keeper.new.self.items ≡ old ++ c.in_ok-one.first ∷ [] = c.in-Ok-push.ensures.items in (
       (
         was.0 ++ last ∷ [],
@@ -33,5 +42,7 @@ loop-keeper-preserved g c =
         asked.1 ∙ ap (λ ks. asked.0 ++ ks) rest_is ∙ sym (append_assoc asked.0 (c.in-Some.keeper ∷ []) (into_iter_items c.next.new.self)),
         subst (λ (fs : List ℕ). AreRaised g.K.Keeper.raise_gives (asked.0 ++ c.in-Some.keeper ∷ []) fs) (sym firsts)
             (zip_push (λ one first. g.K.Keeper.raise_gives one (Ok first)) asked.0 old c.in-Some.keeper c.in_ok-one.first asked.2 c.in_ok-one.ensures.given),
+        subst (λ (os : List (List (List Value))). AreTold g.K.Keeper.kept_gives c.args.plant.now (asked.0 ++ c.in-Some.keeper ∷ []) os)
+            (sym (ap openings_of_raised c.in-Ok.ensures.items ∙ map_push (λ r. r.opening) before c.in_ok-one.one)) told,
       ),
     )
