@@ -3,6 +3,7 @@ mod LinesRead
 mod LineTaking
 mod NextAnswered
 mod Opening
+mod Outliving
 mod Standing
 mod Stopping
 mod Telling

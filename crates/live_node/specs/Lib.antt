@@ -1,6 +1,7 @@
 pub mod NodeSteps
 pub mod NodeValue
 pub mod Answers
+pub mod Keeping
 pub mod NodeJournal
 pub mod NodeLines
 pub mod Partners

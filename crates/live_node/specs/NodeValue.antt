@@ -1,7 +1,8 @@
 -- What a node is, and how it starts.
 use Rattle.std.specs.Prelude.{◌≡◌, ℕ, ◌+◌, ◌<◌, ◌≤◌, List, length, replicate}
 use Rattle.std_blocks.specs.declared.value.Value.{Value}
-use Rattle.plant.specs.PlantValue.{PlantValue}
+use Rattle.plant.specs.PlantValue.{PlantValue, codes_at}
+use Rattle.exchange_core.specs.HeldMessages.{IsShaped}
 use Rattle.exchange_core.specs.MessageCoreValue.{MessageCoreValue, fresh_core, IsRestartOf}
 
 -- A node: its core, how many lines it has done since it started, and how many evaluations it made of them.
@@ -32,6 +33,8 @@ pub record IsNodeOf (plant : PlantValue) (n : ℕ) (s : NodeValue) : Type 0 wher
   pub exists : n < length plant.resources
   pub firsts : length s.core.first ≡ length plant.resources
   pub heards : length s.core.heard ≡ length plant.resources
+  pub shaped : IsShaped plant s.core.table
+  pub kept_each : length s.core.kept ≡ length (codes_at plant n)
   pub fewer : s.made ≤ s.lines
 
 -- one more line was done, and of it so many evaluations were made

@@ -1,9 +1,10 @@
 //! A node reads line by line, and answers each line before it reads the next one.
 
-ghost use Rattle.std.specs.Prelude.{◌≡◌, ℕ, ◌+◌, ◌<◌, ◌≤◌, IfOk, IfErr, OnOk, List, Option, string_bytes};
+ghost use Rattle.std.specs.Prelude.{◌≡◌, ℕ, ◌+◌, ◌<◌, ◌≤◌, IfOk, IfErr, OnOk, OnErr, List, Option, string_bytes};
 ghost use Rattle.std.specs.Io.KnownBytes.{Appends};
 ghost use Rattle.text_lines.specs.Lines.{TakesSome};
 ghost use Rattle.text_lines.specs.Sending.{SendsPart};
+ghost use Rattle.live_node.specs.Keeping.{HasNotFailed, KeepsAllButOne, KeepsCore};
 ghost use Rattle.live_node.specs.LiveNode.{HasAnsweredSoFar, WritesNode};
 ghost use Rattle.live_node.specs.NodeAnswers.{a_keeper_gives};
 ghost use Rattle.live_node.specs.Stops.{StopsWithin, StopsNode};
@@ -59,6 +60,8 @@ fn do_next<K: Keeper, N: Notes, L: LineSource, W: Write>(
         (L.left source.old) (L.left source.new) (N.noted node.old.notes) (N.noted node.new.notes)
         (W.contents out.old) (W.contents out.new)) }
     ensures kept { OnOk result (K.last node.new.keeper ≡ node.new.state.core.incarnation) }
+    ensures keeps { HasNotFailed result → KeepsCore (K.kept_gives node.old.keeper) node.old.state.core → KeepsCore (K.kept_gives node.new.keeper) node.new.state.core }
+    ensures rest { OnErr result (KeepsCore (K.kept_gives node.old.keeper) node.old.state.core → KeepsAllButOne (K.kept_gives node.new.keeper) node.new.state.core) }
     ensures few { OnOk result (node.new.state.lines ≤ node.old.state.lines + 1) }
 {
     room.answer.clear();
@@ -98,6 +101,8 @@ pub fn live<K: Keeper, N: Notes, L: LineSource, W: Write>(
         (L.left source.old) (L.left source.new) (N.noted node.old.notes) (N.noted node.new.notes)
         (W.contents out.old) (W.contents out.new)) }
     ensures kept { OnOk result (K.last node.new.keeper ≡ node.new.state.core.incarnation) }
+    ensures keeps { HasNotFailed result → KeepsCore (K.kept_gives node.old.keeper) node.old.state.core → KeepsCore (K.kept_gives node.new.keeper) node.new.state.core }
+    ensures rest { OnErr result (KeepsCore (K.kept_gives node.old.keeper) node.old.state.core → KeepsAllButOne (K.kept_gives node.new.keeper) node.new.state.core) }
     ensures stopped { IfErr result (StopsNode (a_keeper_gives K.last K.raise_gives) node.old.state begun.now
         (L.left source.old) (L.left source.new) (N.noted node.old.notes) (N.noted node.new.notes)
         (W.contents out.old) (W.contents out.new)) }

@@ -5,9 +5,12 @@ ghost use Rattle.std.specs.Io.KnownBytes.{Appends};
 ghost use Rattle.evaluation.specs.Messages.{message_of};
 ghost use Rattle.exchange_core.specs.Openings.{AreOpeningOf};
 ghost use Rattle.text_lines.specs.MessageLines.{IsMessageOf};
+ghost use Rattle.keepers.specs.Keepers.{KeepsOthers, TellsNoMore};
+ghost use Rattle.keepers.specs.LeftValues.{TellsLeft};
 ghost use Rattle.keepers.specs.declared.keeper_fault.KeeperFault.TheVariants as keeping;
 ghost use Rattle.live_node.specs.declared.line_refusal.LineRefusal.TheVariants as refusal;
 ghost use Rattle.live_node.specs.Answers.{refused_line};
+ghost use Rattle.live_node.specs.Keeping.{KeepsAllButOne, KeepsCore, OutliveAlike};
 ghost use Rattle.live_node.specs.declared.node_line.NodeLine.TheVariants as asked;
 ghost use Rattle.live_node.specs.NodeAnswers.{is_told, keeper_gives, own_hello, AreTold, IsAnswered, HasBegun};
 ghost use Rattle.live_node.specs.declared.node_stop.NodeStop.TheVariants as ends;
@@ -56,6 +59,7 @@ fn kept_opening<K: Keeper>(
     ensures opened { IfOk result (λ kept. AreOpeningOf plant.now resource kept.items) }
     ensures told { IfOk result (λ kept. AreTold (K.kept_gives keeper.old) plant.now resource kept.items) }
     ensures last { OnOk result (K.last keeper.new ≡ K.last keeper.old) }
+    ensures keeps { TellsNoMore (K.kept_gives keeper.new) (K.kept_gives keeper.old) }
     ensures untold { IfErr result (TellsNothing (K.kept_gives keeper.old) plant.now resource) }
 {
     // The getter hands out that each task has its code.
@@ -70,13 +74,16 @@ fn kept_opening<K: Keeper>(
     Ok(kept)
 }
 
-/// Keeps what an evaluation left in the retained variables of its task, if the task has any.
+/// Keeps what an evaluation left in the retained variables of its task. Of a task without any the keeper isn't asked.
 fn keep_after<K: Keeper>(
     alloc: Global,
     keeper: &mut K,
     evaluation: &Evaluation,
 ) -> Result<(), NodeStop>
     ensures last { K.last keeper.new ≡ K.last keeper.old }
+    ensures kept { OnOk result (TellsLeft (K.kept_gives keeper.new) evaluation.now) }
+    ensures others { KeepsOthers (K.kept_gives keeper.old) (K.kept_gives keeper.new) evaluation.now.name.task.task }
+    ensures unasked { evaluation.now.code.retained ≡ [] → keeper.new ≡ keeper.old }
     ensures fault { IfErr result (λ stop. (stop ≡ stop_for keeping.Unwritable) ⊎ (stop ≡ stop_for keeping.Memory)) }
 {
     let code = evaluation.code();
@@ -125,6 +132,7 @@ fn open<K: Keeper, N: Notes>(
     ensures begun { IfOk result (λ s. HasBegun (K.raise_gives keeper.old) (K.kept_gives keeper.old) plant.value resource s
         (N.noted notes.old) (N.noted notes.new) (string_bytes out.old) (string_bytes out.new)) }
     ensures kept { IfOk result (λ s. K.last keeper.new ≡ s.core.incarnation) }
+    ensures keeps { IfOk result (λ s. KeepsCore (K.kept_gives keeper.new) s.core) }
     ensures above { IfOk result (λ s. K.last keeper.old < s.core.incarnation) }
     ensures fresh { IfOk result (λ s. s.lines ≡ 0) }
     ensures stopped { IfErr result (λ why. StopsBeginning (K.raise_gives keeper.old) (K.kept_gives keeper.old) plant.value resource (K.last keeper.old) why
@@ -154,6 +162,7 @@ impl<K: Keeper, N: Notes> Node<K, N> {
         ensures begun { IfOk result (λ node. HasBegun (K.raise_gives keeper) (K.kept_gives keeper) plant.value resource node.state
             (N.noted notes) (N.noted node.notes) (string_bytes out.old) (string_bytes out.new)) }
         ensures kept { IfOk result (λ node. K.last node.keeper ≡ node.state.core.incarnation) }
+        ensures keeps { IfOk result (λ node. KeepsCore (K.kept_gives node.keeper) node.state.core) }
         ensures above { IfOk result (λ node. K.last keeper < node.state.core.incarnation) }
         ensures fresh { IfOk result (λ node. node.state.lines ≡ 0) }
         ensures stopped { IfErr result (λ e. StopsBeginning (K.raise_gives keeper) (K.kept_gives keeper) plant.value resource (K.last keeper) e.1
@@ -206,6 +215,8 @@ impl<K: Keeper, N: Notes> Node<K, N> {
             (N.noted self.old.notes) (N.noted self.new.notes) (string_bytes out.old) (string_bytes out.new)) }
         ensures stopped { IfErr result (λ why. NotesUnevaluated self.old.state.core task line.now why (N.noted self.old.notes) (N.noted self.new.notes)) }
         ensures kept { OnOk result (K.last self.new.keeper ≡ K.last self.old.keeper) }
+        ensures keeps { OnOk result (KeepsCore (K.kept_gives self.old.keeper) self.old.state.core → KeepsCore (K.kept_gives self.new.keeper) self.new.state.core) }
+        ensures rest { OnErr result (KeepsCore (K.kept_gives self.old.keeper) self.old.state.core → KeepsAllButOne (K.kept_gives self.new.keeper) self.new.state.core) }
     {
         if let Some(refusal) = self.state.refusal_of_task(task) {
             push_refused(out, refusal)?;
@@ -235,6 +246,7 @@ impl<K: Keeper, N: Notes> Node<K, N> {
         ensures part { OnErr result (SendsPart (line_note line.now) (N.noted self.old.notes) (N.noted self.new.notes)) }
         ensures stopped { IfErr result IsNotKeepers }
         ensures kept { self.new.keeper ≡ self.old.keeper }
+        ensures keeps { KeepsCore (K.kept_gives self.old.keeper) self.old.state.core → KeepsCore (K.kept_gives self.new.keeper) self.new.state.core }
     {
         self.note_line(line)?;
         let name = message.name();
@@ -283,6 +295,7 @@ impl<K: Keeper, N: Notes> Node<K, N> {
             (N.noted self.old.notes) (N.noted self.new.notes) (string_bytes out.old) (string_bytes out.new)) }
         ensures stopped { IfErr result (λ why. NotesUndone self.old.state (asked.Hello of incarnation) line.now why (N.noted self.old.notes) (N.noted self.new.notes)) }
         ensures kept { self.new.keeper ≡ self.old.keeper }
+        ensures keeps { KeepsCore (K.kept_gives self.old.keeper) self.old.state.core → KeepsCore (K.kept_gives self.new.keeper) self.new.state.core }
     {
         if of >= self.state.plant().resources() {
             push_refused(out, LineRefusal::NoSuchResource)?;
@@ -310,6 +323,7 @@ impl<K: Keeper, N: Notes> Node<K, N> {
             (N.noted self.old.notes) (N.noted self.new.notes) (string_bytes out.old) (string_bytes out.new)) }
         ensures stopped { IfErr result (λ why. NotesUnrisen (keeper_gives K.raise_gives self.old.keeper) self.old.state resource why (N.noted self.old.notes) (N.noted self.new.notes)) }
         ensures kept { OnOk result (K.last self.new.keeper ≡ self.new.state.core.incarnation) }
+        ensures keeps { KeepsCore (K.kept_gives self.old.keeper) self.old.state.core → KeepsCore (K.kept_gives self.new.keeper) self.new.state.core }
     {
         if let Some(refusal) = self.state.refusal_of_place(resource) {
             push_refused(out, refusal)?;
@@ -326,6 +340,7 @@ impl<K: Keeper, N: Notes> Node<K, N> {
         requires few { self.old.state.lines < 18446744073709551615 }
         ensures risen { OnOk result (HasRisenTo self.old.state self.new.state incarnation
             (N.noted self.old.notes) (N.noted self.new.notes) (string_bytes out.old) (string_bytes out.new)) }
+        ensures left { OutliveAlike self.old.state.core self.new.state.core }
         ensures part { OnErr result
             (SendsPart (restart_note self.old.state.core.plant self.old.state.core.resource incarnation)
             (N.noted self.old.notes) (N.noted self.new.notes)) }
@@ -351,6 +366,8 @@ impl<K: Keeper, N: Notes> Node<K, N> {
             (N.noted self.old.notes) (N.noted self.new.notes) (string_bytes out.old) (string_bytes out.new)) }
         ensures stopped { IfErr result (λ why. NotesUnanswered (keeper_gives K.raise_gives self.old.keeper) self.old.state line.now why (N.noted self.old.notes) (N.noted self.new.notes)) }
         ensures kept { OnOk result (K.last self.new.keeper ≡ self.new.state.core.incarnation) }
+        ensures keeps { OnOk result (KeepsCore (K.kept_gives self.old.keeper) self.old.state.core → KeepsCore (K.kept_gives self.new.keeper) self.new.state.core) }
+        ensures rest { OnErr result (KeepsCore (K.kept_gives self.old.keeper) self.old.state.core → KeepsAllButOne (K.kept_gives self.new.keeper) self.new.state.core) }
     {
         match read_node_line(self.alloc, self.state.plant(), line)? {
             None => {

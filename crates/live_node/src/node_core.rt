@@ -31,6 +31,7 @@ impl Model for NodeCore {
 ghost use Rattle.std.specs.Prelude.{◌≡◌, ◌<◌, IfOk, IfErr, OnOk, OnErr, MatchOption, length, replicate};
 ghost use Rattle.exchange_core.specs.MessageCoreValue.{IsEvalFault};
 ghost use Rattle.exchange_core.specs.Openings.{AreOpeningOf};
+ghost use Rattle.live_node.specs.Keeping.{OutlivesMade, OutliveAlike};
 ghost use Rattle.live_node.specs.NodeValue.{IsStarted};
 ghost use Rattle.live_node.specs.NodeSteps.{HasTaken, HasHeardOf, HasRisen, HasMade, IsTaskRefusal, IsNotRefused, IsPlaceRefusal, is_behind};
 
@@ -141,6 +142,7 @@ impl NodeCore {
     ) -> Result<Frame, EvalFault>
         requires { self.old.lines < 18446744073709551615 }
         ensures made { IfOk result (HasMade self.old self.new task dt inputs.now) }
+        ensures left { IfOk result (OutlivesMade self.old.core self.new.core) }
         ensures heard { IfOk result (λ f. length f.heard ≡ length self.new.core.plant.resources) }
         ensures err { OnErr result (self.new ≡ self.old) }
         ensures fault { IfErr result (IsEvalFault self.old.core task) }
@@ -184,6 +186,7 @@ impl NodeCore {
     pub fn restart(&mut self, alloc: Global, incarnation: u32) -> Result<(), AllocError>
         requires { self.old.lines < 18446744073709551615 }
         ensures ok { OnOk result (HasRisen self.old self.new incarnation) }
+        ensures left { OutliveAlike self.old.core self.new.core }
         ensures err { OnErr result (self.new ≡ self.old) }
     {
         let core = self.core.restarted(alloc, incarnation)?;

@@ -1,6 +1,7 @@
 //! The command `node`.
 
 ghost use Rattle.std.specs.Prelude.{◌≡◌, ◌<◌, length, IfOk, IfErr};
+ghost use Rattle.live_node.specs.Keeping.{KeepsCore};
 ghost use Rattle.live_node.specs.LiveNode.{WritesNode};
 ghost use Rattle.live_node.specs.NodeAnswers.{a_keeper_gives};
 ghost use Rattle.live_node.specs.Stops.{StopsNode};
@@ -38,10 +39,12 @@ fn run_begun<K: Keeper, N: Notes, I: Read, W: Write>(
 ) -> Result<Node<K, N>, (N, LiveStop)>
     requires fresh { node.state.lines ≡ 0 }
     requires kept { K.last node.keeper ≡ node.state.core.incarnation }
+    requires keeps { KeepsCore (K.kept_gives node.keeper) node.state.core }
     ensures ok { IfOk result (λ last. WritesNode (a_keeper_gives K.last K.raise_gives) node.state last.state begun.now
         (I.remaining input.old) (I.remaining input.new) (N.noted node.notes) (N.noted last.notes)
         (W.contents writer.old) (W.contents writer.new)) }
     ensures kept { IfOk result (λ last. K.last last.keeper ≡ last.state.core.incarnation) }
+    ensures keeps { IfOk result (λ last. KeepsCore (K.kept_gives last.keeper) last.state.core) }
     ensures stopped { IfErr result (λ e. StopsNode (a_keeper_gives K.last K.raise_gives) node.state begun.now
         (I.remaining input.old) (I.remaining input.new) (N.noted node.notes) (N.noted e.0)
         (W.contents writer.old) (W.contents writer.new) e.1) }
@@ -70,6 +73,7 @@ fn run_node<K: Keeper, N: Notes, I: Read, W: Write>(
         (I.remaining input.old) (I.remaining input.new) (N.noted notes) (N.noted node.notes)
         (W.contents writer.old) (W.contents writer.new)) }
     ensures kept { IfOk result (λ node. K.last node.keeper ≡ node.state.core.incarnation) }
+    ensures keeps { IfOk result (λ node. KeepsCore (K.kept_gives node.keeper) node.state.core) }
     ensures stopped { IfErr result (λ e. StopsRunning K.last K.raise_gives K.kept_gives keeper prepared.plant.value prepared.resource
         (I.remaining input.old) (I.remaining input.new) (N.noted notes) (N.noted e.0)
         (W.contents writer.old) (W.contents writer.new) e.1) }

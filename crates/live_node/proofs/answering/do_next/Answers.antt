@@ -13,6 +13,9 @@ use Rattle.live_node.specs.Steps.Answering.{stop_of}
 use Rattle.live_node.specs.Steps.LineTaking.{Takes}
 use Rattle.live_node.proofs.NextAnswered.{answered_by_one, next_answered}
 use Rattle.live_node.proofs.Stopping.{unanswered_by_one, stops_unread, stops_unanswered, stops_unwritten, stops_too_long}
+use Rattle.text_lines.proofs.Sending.{on_err}
+use Rattle.live_node.specs.Keeping.{KeepsAllButOne, KeepsCore}
+use Rattle.live_node.proofs.Outliving.{all_but_one, same_failure}
 use Rattle.live_node.proofs.answering.do_next.Goals as goal
 
 pub returns-in_err-take_line-clause-stopped : goal.returns-in_err-take_line-clause-stopped
@@ -102,3 +105,23 @@ returns-in_err-hand_on-in-TooLong-clause-stopped g c =
     let is = c.as_str-in-TooLong.ensures.value ∙ c.in_ok-push_refused-in-TooLong.ensures ∙ ap (λ o. o ++ refused_line refusal.TooLong) c.clear.ensures.bytes in
     kept_fault stop (StopsWithin raising s given left noted noted from to) c.from_residual-in_err-hand_on-in-TooLong.result c.from_residual-in_err-hand_on-in-TooLong.ensures.1
     (subst (StopsWithin raising s given left noted noted from to) (sym unwritten.0) (stops_too_long raising s given left noted from to line c.as_str-in-TooLong.result.now c.in-TooLong.fed taken is unwritten.1))
+
+pub returns-in_ok-hand_on-in-Line-clause-keeps : goal.returns-in_ok-hand_on-in-Line-clause-keeps
+returns-in_ok-hand_on-in-Line-clause-keeps g c = λ done. c.in_ok-answer-in-Line.ensures.keeps
+
+pub returns-in_err-hand_on-in-Line-clause-keeps : goal.returns-in_err-hand_on-in-Line-clause-keeps
+returns-in_err-hand_on-in-Line-clause-keeps g c = λ done. c.in_ok-answer-in-Line.ensures.keeps
+
+pub returns-in_err-answer-in-Line-clause-keeps : goal.returns-in_err-answer-in-Line-clause-keeps
+returns-in_err-answer-in-Line-clause-keeps g c = λ unfailed.
+    absurd (same_failure (Unit {0}) (Node c.in_err-answer-in-Line.field-0.0) c.from_residual-in_err-answer-in-Line.result c.from_residual-in_err-answer-in-Line.ensures.1 unfailed)
+
+pub returns-in_err-answer-in-Line-clause-rest : goal.returns-in_err-answer-in-Line-clause-rest
+returns-in_err-answer-in-Line-clause-rest g c = on_err _ c.in_err-answer-in-Line.ensures.rest
+
+pub returns-in_err-hand_on-in-Line-clause-rest : goal.returns-in_err-hand_on-in-Line-clause-rest
+returns-in_err-hand_on-in-Line-clause-rest g c =
+    let old = KeepsCore (g.K.Keeper.kept_gives c.args.node.now.keeper) c.args.node.now.state.core in
+    let tells = g.K.Keeper.kept_gives c.answer.new.self.keeper in
+    let core = c.answer.new.self.state.core in
+    on_err {P = old → KeepsAllButOne tells core} _ (λ keeps. all_but_one tells core (c.in_ok-answer-in-Line.ensures.keeps keeps))

@@ -1,4 +1,4 @@
-use Rattle.std.proofs.Common.{[], ◌∷◌, ◌++◌, subst, arith}
+use Rattle.std.proofs.Common.{Bool, [], ◌∷◌, ◌++◌, subst, arith}
 use Rattle.lists.proofs.Results.{kept_fault}
 use Rattle.live_node.specs.NodeAnswers.{a_keeper_gives}
 use Rattle.live_node.specs.declared.live_stop.LiveStop.TheVariants.{Read}
@@ -6,13 +6,16 @@ use Rattle.live_node.specs.Stops.{StopsNode}
 use Rattle.live_node.specs.Steps.Answering.{HasAnsweredNext}
 use Rattle.live_node.proofs.Standing.{stands_first, stands_next, stands_within, stands_ended}
 use Rattle.live_node.proofs.Stopping.{stops_behind, stops_endless}
+use Rattle.text_lines.proofs.Sending.{on_err}
+use Rattle.live_node.specs.Keeping.{KeepsAllButOne, KeepsCore}
+use Rattle.live_node.proofs.Outliving.{same_failure}
 use Rattle.live_node.proofs.answering.live.Goals as goal
 
 pub loop-init : goal.loop-init
 loop-init g c =
     let first = c.args.node.now.state in
     let stands = stands_first (a_keeper_gives g.K.Keeper.last g.K.Keeper.raise_gives) first c.args.begun.now (g.L.LineSource.left c.args.source.now) (g.N.Notes.noted c.args.node.now.notes) (g.W.Write.contents c.args.out.now) (g.W.Write.contents c.hand_on.new.out) c.in_ok-hand_on.ensures.whole in
-    ([], stands, c.requires.kept, omega (arith, c.requires.fresh))
+    ([], stands, c.requires.kept, omega (arith, c.requires.fresh), λ keeps. keeps)
 
 pub do_next-requires-clause-ready : goal.do_next-requires-clause-ready
 do_next-requires-clause-ready g c κs within = λ left b.
@@ -58,6 +61,7 @@ loop-preserved g c =
       stands_next (a_keeper_gives g.K.Keeper.last g.K.Keeper.raise_gives) first mid last c.args.begun.now so_far.0 given now left noted_old noted_mid noted_new from written to so_far.1 next,
       c.in_ok-do_next.ensures.kept,
       omega (arith, so_far.3, c.in_ok-do_next.ensures.few),
+      λ keeps. c.in_ok-do_next.ensures.keeps tt (so_far.4 keeps),
     )
 
 pub returns-in_err-do_next-clause-stopped : goal.returns-in_err-do_next-clause-stopped
@@ -92,3 +96,16 @@ returns-clause-stopped g c =
     let to = g.W.Write.contents c.loop.out in
     let so_far = c.loop.invariant in
     stops_behind raising first mid c.args.begun.now so_far.0 given left left noted_old noted_new noted_new from to to Read so_far.1 (stops_endless raising mid left noted_new to)
+
+pub returns-then-not-branch-clause-keeps : goal.returns-then-not-branch-clause-keeps
+returns-then-not-branch-clause-keeps g c = λ done keeps. c.in_ok-do_next.ensures.keeps tt (c.loop.invariant.4 keeps)
+
+pub returns-in_err-do_next-clause-keeps : goal.returns-in_err-do_next-clause-keeps
+returns-in_err-do_next-clause-keeps g c = λ unfailed keeps.
+    c.in_err-do_next.ensures.keeps (same_failure Bool c.in_err-do_next.field-0.0 c.from_residual-in_err-do_next.result c.from_residual-in_err-do_next.ensures.1 unfailed) (c.loop.invariant.4 keeps)
+
+pub returns-in_err-do_next-clause-rest : goal.returns-in_err-do_next-clause-rest
+returns-in_err-do_next-clause-rest g c =
+    let old = KeepsCore (g.K.Keeper.kept_gives c.args.node.now.keeper) c.args.node.now.state.core in
+    let new = KeepsAllButOne (g.K.Keeper.kept_gives c.do_next.new.node.keeper) c.do_next.new.node.state.core in
+    on_err {P = old → new} _ (λ keeps. c.in_err-do_next.ensures.rest (c.loop.invariant.4 keeps))

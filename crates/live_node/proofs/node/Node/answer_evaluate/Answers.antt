@@ -1,7 +1,14 @@
 -- What was noted is the whole note of the line; or it is refused.
-use Rattle.std.proofs.Common.{rules, inr}
+use Rattle.std.specs.Prelude.{string_bytes}
+use Rattle.std.proofs.Common.{rules, inr, subst}
 use Rattle.live_node.specs.declared.node_stop.NodeStop.TheVariants.{Memory}
+use Rattle.text_lines.proofs.Sending.{on_err}
+use Rattle.live_node.specs.NodeAnswers.{keeper_gives}
+use Rattle.live_node.specs.NodeSteps.{HasMade}
+use Rattle.live_node.specs.NodeValue.{NodeValue}
+use Rattle.live_node.proofs.Telling.{evaluated_answer}
 use Rattle.live_node.proofs.Stopping.{all_sent, none_unevaluated, part_unevaluated, unkept}
+use Rattle.live_node.proofs.Outliving.{all_but_one, unchanged_rest, evaluated_keeps, evaluated_rest}
 use Rattle.live_node.proofs.node.Node.answer_evaluate.Goals as goal
 
 pub returns-in_err-push_refused-clause-stopped : goal.returns-in_err-push_refused-clause-stopped
@@ -26,3 +33,41 @@ returns-in_err-push_message_sends-clause-stopped g c =
 pub returns-in_err-push_evaluation-clause-stopped : goal.returns-in_err-push_evaluation-clause-stopped
 returns-in_err-push_evaluation-clause-stopped g c =
     part_unevaluated Memory c.from_residual-in_err-push_evaluation.result c.args.self.now.state.core c.args.task c.args.line.now _ _ c.from_residual-in_err-push_evaluation.ensures.1 tt (search rules) (all_sent _ _ _ c.in_ok-note_line.ensures.noted)
+
+pub returns-clause-keeps : goal.returns-clause-keeps
+returns-clause-keeps g c =
+    evaluated_keeps g.K.Keeper.kept_gives c.args.self.now.keeper c.note_line.new.self.keeper c.keep_after.new.keeper c.args.self.now.state c.note_line.new.self.state c.evaluate.new.self.core c.in-Ok.frame c.evaluation.result.now
+    c.in_ok-note_line.ensures.keeper c.in_ok-note_line.ensures.state c.evaluation.ensures c.in-Ok.ensures.left c.in_ok-keep_after.ensures.others c.in_ok-keep_after.ensures.kept
+
+pub returns-in_err-push_refused-clause-rest : goal.returns-in_err-push_refused-clause-rest
+returns-in_err-push_refused-clause-rest g c = on_err _ (all_but_one (g.K.Keeper.kept_gives c.args.self.now.keeper) c.args.self.now.state.core)
+
+pub returns-in_err-note_line-clause-rest : goal.returns-in_err-note_line-clause-rest
+returns-in_err-note_line-clause-rest g c =
+    on_err _ (unchanged_rest g.K.Keeper.kept_gives c.args.self.now.keeper c.note_line.new.self.keeper c.args.self.now.state c.note_line.new.self.state c.in_err-note_line.ensures.keeper c.in_err-note_line.ensures.state)
+
+pub returns-in_default-evaluate-clause-rest : goal.returns-in_default-evaluate-clause-rest
+returns-in_default-evaluate-clause-rest g c =
+    unchanged_rest g.K.Keeper.kept_gives c.args.self.now.keeper c.note_line.new.self.keeper c.args.self.now.state c.evaluate.new.self c.in_ok-note_line.ensures.keeper (search rules)
+
+pub returns-in_err-keep_after-clause-rest : goal.returns-in_err-keep_after-clause-rest
+returns-in_err-keep_after-clause-rest g c =
+    on_err _ (evaluated_rest g.K.Keeper.kept_gives c.args.self.now.keeper c.note_line.new.self.keeper c.keep_after.new.keeper c.args.self.now.state c.note_line.new.self.state c.evaluate.new.self.core c.in-Ok.frame c.evaluation.result.now
+    c.in_ok-note_line.ensures.keeper c.in_ok-note_line.ensures.state c.evaluation.ensures c.in-Ok.ensures.left c.in_err-keep_after.ensures.others)
+
+pub returns-in_err-push_message_sends-clause-rest : goal.returns-in_err-push_message_sends-clause-rest
+returns-in_err-push_message_sends-clause-rest g c =
+    on_err _ (evaluated_rest g.K.Keeper.kept_gives c.args.self.now.keeper c.note_line.new.self.keeper c.keep_after.new.keeper c.args.self.now.state c.note_line.new.self.state c.evaluate.new.self.core c.in-Ok.frame c.evaluation.result.now
+    c.in_ok-note_line.ensures.keeper c.in_ok-note_line.ensures.state c.evaluation.ensures c.in-Ok.ensures.left c.in_ok-keep_after.ensures.others)
+
+pub returns-in_err-push_evaluation-clause-rest : goal.returns-in_err-push_evaluation-clause-rest
+returns-in_err-push_evaluation-clause-rest g c =
+    on_err _ (evaluated_rest g.K.Keeper.kept_gives c.args.self.now.keeper c.note_line.new.self.keeper c.keep_after.new.keeper c.args.self.now.state c.note_line.new.self.state c.evaluate.new.self.core c.in-Ok.frame c.evaluation.result.now
+    c.in_ok-note_line.ensures.keeper c.in_ok-note_line.ensures.state c.evaluation.ensures c.in-Ok.ensures.left c.in_ok-keep_after.ensures.others)
+
+pub returns-clause-answered : goal.returns-clause-answered
+returns-clause-answered g c =
+    let made = subst (λ (s : NodeValue). HasMade s c.evaluate.new.self c.args.task.task c.args.dt c.args.inputs.now c.in-Ok.frame) c.in_ok-note_line.ensures.state c.in-Ok.ensures.made in
+    evaluated_answer (keeper_gives g.K.Keeper.raise_gives c.args.self.now.keeper) c.args.self.now.state c.evaluate.new.self c.args.line.now c.args.task c.args.dt c.args.inputs.now c.in-Ok.frame
+    (g.N.Notes.noted c.args.self.now.notes) (g.N.Notes.noted c.note_line.new.self.notes) (string_bytes c.args.out.now) (string_bytes c.push_message_sends.new.out) (string_bytes c.push_evaluation.new.line)
+    (search rules) made c.in_ok-note_line.ensures.noted (search rules) (search rules)
