@@ -1,2 +1,3 @@
 pub mod Raising
 pub mod Reading
+pub mod Telling

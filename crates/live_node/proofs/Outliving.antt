@@ -29,7 +29,7 @@ use Rattle.exchange_core.specs.MessageCoreValue.{MessageCoreValue, fresh_core, k
 use Rattle.live_node.specs.declared.live_stop.LiveStop.{LiveStop}
 use Rattle.live_node.specs.declared.live_stop.LiveStop.TheVariants.{Node, Read, Write, Memory}
 use Rattle.live_node.specs.Keeping.{HasNotFailed, outliving, KeepsCore, KeepsAllButOne, OutliveAlike, OutlivesMade}
-use Rattle.live_node.specs.NodeAnswers.{AreTold}
+use Rattle.keepers.specs.Openings.{TellsOpening}
 use Rattle.live_node.specs.NodeSteps.{HasTaken, HasHeardOf}
 use Rattle.live_node.specs.NodeValue.{NodeValue, core_at_0, IsStarted, IsNodeOf, node_of}
 
@@ -193,7 +193,7 @@ keeps_made before now old new x made others left keeps = λ task code found some
         subst (λ (c : CodeValue). now task c (Ok (outliving new task))) own (subst (λ (t : ℕ). now t x.code (Ok (outliving new t))) (sym same) told)
 
 -- a node that began
-pub begun_keeps : (tells now : Telling) (plant : PlantValue) (n i : ℕ) (opening : List (List Value)) (s : NodeValue) → TellsNoMore now tells → AreTold tells plant n opening → AreOpeningOf plant n opening → IsStarted plant n opening i s → KeepsCore now s.core
+pub begun_keeps : (tells now : Telling) (plant : PlantValue) (n i : ℕ) (opening : List (List Value)) (s : NodeValue) → TellsNoMore now tells → TellsOpening tells plant n opening → AreOpeningOf plant n opening → IsStarted plant n opening i s → KeepsCore now s.core
 begun_keeps tells now plant n i opening s more told suits started =
     let first = core_at_0 plant n opening in
     keeps_alike tells now first s.core more (risen_alike first s.core i suits.many started.risen) (λ task code found some.

@@ -12,6 +12,7 @@ use Rattle.evaluation.specs.Messages.{MessageValue}
 use Rattle.exchange_core.specs.MessageCoreValue.{MessageCoreValue}
 use Rattle.exchange_core.specs.Openings.{AreOpeningOf}
 use Rattle.keepers.specs.Keepers.{Telling, TellsNoMore}
+use Rattle.keepers.specs.Openings.{TellsOpening}
 use Rattle.keepers.specs.declared.keeper_fault.KeeperFault.{KeeperFault}
 use Rattle.keepers.specs.declared.keeper_fault.KeeperFault.TheVariants as keeping
 use Rattle.lists.proofs.Results.{kept_fault}
@@ -33,7 +34,7 @@ use Rattle.live_node.specs.declared.live_stop.LiveStop.{LiveStop}
 use Rattle.live_node.specs.declared.live_stop.LiveStop.TheVariants.{Node, Read, Write, Memory}
 use Rattle.live_node.specs.declared.node_stop.NodeStop.{NodeStop}
 use Rattle.live_node.specs.declared.node_stop.NodeStop.TheVariants as ends
-use Rattle.live_node.specs.NodeAnswers.{Raising, keeper_gives, a_keeper_gives, AreTold, IsAnswered}
+use Rattle.live_node.specs.NodeAnswers.{Raising, keeper_gives, a_keeper_gives, IsAnswered}
 use Rattle.live_node.specs.Stops.{IsNotedAsked, NotesPart, NotesStart, NotesUnanswered, ReadsWhole, StopsBeginning, StopsWithin, StopsNode}
 use Rattle.live_node.specs.Steps.Answering.{IsNotKeepers, NotesRestartPart, NotesUndone, NotesUnevaluated, NotesUnrisen, TellsNothing, stop_for, stop_of}
 use Rattle.live_node.specs.Steps.LineTaking.{Takes, TakesLine, TakesWithin}
@@ -72,7 +73,7 @@ untold raises tells now plant n above i ends.Memory old raised stays h = inl (Ke
 
 -- a start was noted in part
 pub start_part : (raises : Result ℕ KeeperFault → Type 0) (tells now : Telling) (plant : PlantValue) (n above i : ℕ) (opening : List (List Value)) (note : List ℕ) (old new : Option (List ℕ)) → raises (Ok i) → above < i → AreOpeningOf plant n opening
-    → TellsNoMore tells now → AreTold now plant n opening → note ≡ start_note plant n i opening → SendsPart note old new → NotesStart raises tells plant n above old new
+    → TellsNoMore tells now → TellsOpening now plant n opening → note ≡ start_note plant n i opening → SendsPart note old new → NotesStart raises tells plant n above old new
 start_part raises tells now plant n above i opening note old new raised risen opens stays told is sent = record {
   incarnation = i;
   raised = raised;
@@ -85,7 +86,7 @@ start_part raises tells now plant n above i opening note old new raised risen op
 
 -- a start was noted, and memory is wanting for what it writes
 pub start_unmade : {T : Type 0} (r : Result T NodeStop) (raises : Result ℕ KeeperFault → Type 0) (tells now : Telling) (plant : PlantValue) (n above i : ℕ) (opening : List (List Value)) (note : List ℕ) (old new : Option (List ℕ)) → IsErrAnd r (λ why. why ≡ ends.Memory)
-    → raises (Ok i) → above < i → AreOpeningOf plant n opening → TellsNoMore tells now → AreTold now plant n opening → note ≡ start_note plant n i opening → Appends old new note → IfErr r (λ why. StopsBeginning raises tells plant n above why old new)
+    → raises (Ok i) → above < i → AreOpeningOf plant n opening → TellsNoMore tells now → TellsOpening now plant n opening → note ≡ start_note plant n i opening → Appends old new note → IfErr r (λ why. StopsBeginning raises tells plant n above why old new)
 start_unmade r raises tells now plant n above i opening note old new is raised risen opens stays told noted appended =
     kept_fault ends.Memory (λ why. StopsBeginning raises tells plant n above why old new) r is
     (inr (start_part raises tells now plant n above i opening note old new raised risen opens stays told noted (all_sent note old new appended)))

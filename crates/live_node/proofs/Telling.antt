@@ -5,6 +5,7 @@ use Rattle.std.specs.Io.KnownBytes.{Appends}
 use Rattle.std.proofs.KnownBytes.{Appends-nil}
 use Rattle.std_blocks.specs.declared.value.Value.{Value}
 use Rattle.keepers.specs.Keepers.{Telling, TellsNoMore}
+use Rattle.keepers.specs.Openings.{TellsOpening}
 use Rattle.keepers.specs.declared.keeper_fault.KeeperFault.{KeeperFault}
 use Rattle.keepers.specs.declared.keeper_fault.KeeperFault.TheVariants as keeping
 use Rattle.task_codes.specs.declared.task_ref.TaskRef.{TaskRef}
@@ -27,7 +28,7 @@ use Rattle.live_node.specs.NodeSteps.{HasMade, IsPlaceRefusal, IsTaskRefusal}
 use Rattle.std.proofs.lemmas.List.{append-nil}
 use Rattle.world.specs.ScheduleText.{is_idle}
 use Rattle.live_node.specs.NodeLines.{Spells, node_words}
-use Rattle.live_node.specs.NodeAnswers.{Raising, AreTold, HasBegun, start_text, IsAnswered, IsRestartRefusal}
+use Rattle.live_node.specs.NodeAnswers.{Raising, HasBegun, start_text, IsAnswered, IsRestartRefusal}
 use Rattle.live_node.specs.Steps.Answering.{HasRisenTo, IsAnsweredBy}
 
 -- an evaluation's message has the form of the plant's
@@ -139,7 +140,7 @@ line_answered raising old new line asked noted_old noted_new out_old out_new rea
 
 -- a node began: its start is noted and told
 pub node_begun : (raises : Result ℕ KeeperFault → Type 0) (tells now : Telling) (plant : PlantValue) (n i : ℕ) (opening : List (List Value)) (s : NodeValue) (noted_old noted_new : Option (List ℕ)) (note out_old mid out_new : List ℕ) → raises (Ok i)
-    → TellsNoMore tells now → AreTold now plant n opening → IsStarted plant n opening i s → note ≡ start_note plant n i opening
+    → TellsNoMore tells now → TellsOpening now plant n opening → IsStarted plant n opening i s → note ≡ start_note plant n i opening
     → Appends noted_old noted_new note → mid ≡ out_old ++ greetings s.core.plant n i → out_new ≡ mid ++ risen_line (codes "START") s.core.plant n i → HasBegun raises tells plant n s noted_old noted_new out_old out_new
 node_begun raises tells now plant n i opening s noted_old noted_new note out_old mid out_new raised stays told started is noted first last =
     let p : s.core.plant ≡ plant = ap (λ (c : MessageCoreValue). c.plant) started.risen.is in

@@ -1,13 +1,13 @@
 -- What a node answers to a line, what it notes for it, and what it is then.
-use Rattle.std.specs.Prelude.{◌≡◌, ◌≢◌, ℕ, ◌+◌, ◌<◌, ◌≤◌, ◌++◌, ◌⊎◌, ◌&&◌, Bool, false, List, [], Option, Some, None, Result, Ok, Err, MatchOption, codes, length, slice_get, if◌then◌else◌}
+use Rattle.std.specs.Prelude.{◌≡◌, ◌≢◌, ℕ, ◌+◌, ◌<◌, ◌≤◌, ◌++◌, ◌⊎◌, ◌&&◌, Bool, false, List, [], Option, Some, None, Result, Ok, Err, MatchOption, codes, length, if◌then◌else◌}
 use Rattle.std.specs.Io.KnownBytes.{Appends}
 use Rattle.std_blocks.specs.declared.value.Value.{Value}
 use Rattle.task_codes.specs.declared.task_ref.TaskRef.{TaskRef}
-use Rattle.task_codes.specs.CodeValue.{CodeValue}
 use Rattle.keepers.specs.Keepers.{Telling}
+use Rattle.keepers.specs.Openings.{TellsOpening}
 use Rattle.keepers.specs.declared.keeper_fault.KeeperFault.{KeeperFault}
 use Rattle.keepers.specs.declared.keeper_fault.KeeperFault.TheVariants.{Memory}
-use Rattle.plant.specs.PlantValue.{PlantValue, code_at}
+use Rattle.plant.specs.PlantValue.{PlantValue}
 use Rattle.evaluation.specs.declared.field_input.FieldInput.{FieldInput}
 use Rattle.evaluation.specs.Meaning.{Evaluated}
 use Rattle.evaluation.specs.Messages.{MessageValue, message_of}
@@ -158,19 +158,13 @@ pub record IsAnswered (raising : Raising) (old new : NodeValue) (line : List ℕ
 abbrev pub start_text : PlantValue → ℕ → ℕ → List ℕ
 start_text plant n incarnation = greetings plant n incarnation ++ risen_line (codes "START") plant n incarnation
 
--- these values of a resource's tasks are what a keeper may tell that it keeps of them
-abbrev pub AreTold : Telling → PlantValue → ℕ → List (List Value) → Type 0
-AreTold tells plant n opening =
-    (task : ℕ) (code : CodeValue) (values : List Value) → code_at plant (record { resource = n; task = task }) ≡ Some code
-    → slice_get opening task ≡ Some values → tells task code (Ok values)
-
 -- A node began in this incarnation, to which its keeper was raised, and its tasks opened with these values, which the
 -- keeper told; both are noted.
 pub record HasBegun (raises : Result ℕ KeeperFault → Type 0) (tells : Telling) (plant : PlantValue) (n : ℕ) (s : NodeValue)
     (noted_old noted_new : Option (List ℕ)) (out_old out_new : List ℕ) : Type 0 where
   pub raised : raises (Ok s.core.incarnation)
   pub opening : List (List Value)
-  pub told : AreTold tells plant n opening
+  pub told : TellsOpening tells plant n opening
   pub started : IsStarted plant n opening s.core.incarnation s
   pub noted : Appends noted_old noted_new (start_note plant n s.core.incarnation opening)
   pub written : out_new ≡ out_old ++ start_text plant n s.core.incarnation

@@ -8,6 +8,7 @@ use Rattle.task_codes.specs.declared.task_ref.TaskRef.{TaskRef}
 use Rattle.plant.specs.PlantValue.{PlantValue, code_at}
 use Rattle.evaluation.specs.declared.field_input.FieldInput.{FieldInput}
 use Rattle.keepers.specs.Keepers.{Telling}
+use Rattle.keepers.specs.Openings.{TellsOpening}
 use Rattle.keepers.specs.declared.keeper_fault.KeeperFault.{KeeperFault}
 use Rattle.keepers.specs.declared.keeper_fault.KeeperFault.TheVariants as keeping
 use Rattle.exchange_core.specs.Openings.{AreOpeningOf}
@@ -23,7 +24,7 @@ use Rattle.live_node.specs.declared.node_stop.NodeStop.{NodeStop}
 use Rattle.live_node.specs.declared.node_stop.NodeStop.TheVariants as ends
 use Rattle.live_node.specs.declared.live_stop.LiveStop.{LiveStop}
 use Rattle.live_node.specs.declared.live_stop.LiveStop.TheVariants.{Node, Read, Write, Memory}
-use Rattle.live_node.specs.NodeAnswers.{Raising, AreTold}
+use Rattle.live_node.specs.NodeAnswers.{Raising}
 use Rattle.live_node.specs.LiveNode.{AnswersLine, HaveAnswered}
 
 -- what is asked can be done, and its line is noted as it was read: an evaluation that isn't refused, a message, or a hello
@@ -90,7 +91,7 @@ pub record NotesStart (raises : Result ℕ KeeperFault → Type 0) (tells : Tell
   pub risen : above < incarnation
   pub opening : List (List Value)
   pub opens : AreOpeningOf plant n opening
-  pub told : AreTold tells plant n opening
+  pub told : TellsOpening tells plant n opening
   pub sent : SendsPart (start_note plant n incarnation opening) noted_old noted_new
 
 -- a keeper was raised, and didn't tell what it keeps of a task

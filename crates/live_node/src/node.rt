@@ -6,13 +6,14 @@ ghost use Rattle.evaluation.specs.Messages.{message_of};
 ghost use Rattle.exchange_core.specs.Openings.{AreOpeningOf};
 ghost use Rattle.text_lines.specs.MessageLines.{IsMessageOf};
 ghost use Rattle.keepers.specs.Keepers.{KeepsOthers, TellsNoMore};
+ghost use Rattle.keepers.specs.Openings.{TellsOpening};
 ghost use Rattle.keepers.specs.LeftValues.{TellsLeft};
 ghost use Rattle.keepers.specs.declared.keeper_fault.KeeperFault.TheVariants as keeping;
 ghost use Rattle.live_node.specs.declared.line_refusal.LineRefusal.TheVariants as refusal;
 ghost use Rattle.live_node.specs.Answers.{refused_line};
 ghost use Rattle.live_node.specs.Keeping.{KeepsAllButOne, KeepsCore, OutliveAlike};
 ghost use Rattle.live_node.specs.declared.node_line.NodeLine.TheVariants as asked;
-ghost use Rattle.live_node.specs.NodeAnswers.{is_told, keeper_gives, own_hello, AreTold, IsAnswered, HasBegun};
+ghost use Rattle.live_node.specs.NodeAnswers.{is_told, keeper_gives, own_hello, IsAnswered, HasBegun};
 ghost use Rattle.live_node.specs.declared.node_stop.NodeStop.TheVariants as ends;
 ghost use Rattle.live_node.specs.Stops.{NotesUnanswered, StopsBeginning};
 ghost use Rattle.live_node.specs.Steps.Answering.{HasRisenTo, IsAnsweredBy, IsNotKeepers, NotesUndone, NotesUnevaluated, NotesUnrisen, TellsNothing, stop_for};
@@ -49,7 +50,7 @@ pub struct Node<K: Keeper, N: Notes> {
 }
 
 /// What a keeper has kept of each task of its resource, in their order.
-#[tactic(auto, using(crate::proofs::Opening::told_none, crate::proofs::Opening::told_more, crate::proofs::Opening::tells_more, crate::proofs::Opening::tells_nothing))]
+#[tactic(auto, using(keepers::specs::Steps::Telling::told_none, keepers::specs::Steps::Telling::told_more, keepers::specs::Steps::Telling::tells_more, crate::proofs::Opening::tells_nothing))]
 fn kept_opening<K: Keeper>(
     alloc: Global,
     plant: &Plant,
@@ -57,7 +58,7 @@ fn kept_opening<K: Keeper>(
     keeper: &mut K,
 ) -> Result<Vec<Retained>, NodeStop>
     ensures opened { IfOk result (λ kept. AreOpeningOf plant.now resource kept.items) }
-    ensures told { IfOk result (λ kept. AreTold (K.kept_gives keeper.old) plant.now resource kept.items) }
+    ensures told { IfOk result (λ kept. TellsOpening (K.kept_gives keeper.old) plant.now resource kept.items) }
     ensures last { OnOk result (K.last keeper.new ≡ K.last keeper.old) }
     ensures keeps { TellsNoMore (K.kept_gives keeper.new) (K.kept_gives keeper.old) }
     ensures untold { IfErr result (TellsNothing (K.kept_gives keeper.old) plant.now resource) }
@@ -234,6 +235,7 @@ impl<K: Keeper, N: Notes> Node<K, N> {
     }
 
     /// Answers a line `MESSAGE`.
+    #[tactic(auto, using(crate::proofs::Outliving::message_keeps))]
     fn answer_message(
         &mut self,
         line: &[u8],

@@ -1,37 +1,18 @@
 -- What keepers tell of the tasks of their resources, and that the journals open with it.
 use Rattle.std.proofs.Common.{arith, ◌≡◌, ◌⊎◌, inl, inr, ℕ, Ok, ◌++◌, List, [], ◌∷◌, Some, length, slice_get, sym, ap, ◌∙◌, subst}
 use Rattle.std.specs.Option.{option_map}
-use Rattle.std.proofs.lemmas.Option.{none-some, same_Some, slice_get-map, slice_get_within}
+use Rattle.std.proofs.lemmas.Option.{slice_get-map, slice_get_within}
 use Rattle.lists.proofs.Places.{push_cases}
 use Rattle.std_blocks.specs.declared.value.Value.{Value}
-use Rattle.task_codes.specs.CodeValue.{CodeValue}
-use Rattle.plant.specs.PlantValue.{PlantValue, codes_at}
+use Rattle.plant.specs.PlantValue.{PlantValue}
 use Rattle.keepers.specs.Keepers.{Telling, TellsNoMore}
 use Rattle.node_reports.specs.declared.journal.Journal.{Journal}
 use Rattle.node_reports.specs.Journals.{openings_of}
-use Rattle.node.specs.Openings.{TellsOpening, OpenAsTold}
+use Rattle.keepers.specs.Openings.{TellsOpening}
+use Rattle.node.specs.Openings.{OpenAsTold}
 use Rattle.node.specs.Steps.Working.{AreTold}
 
-pub told_none : (tells : Telling) (plant : PlantValue) (n : ℕ) → TellsOpening tells plant n []
-told_none tells plant n = λ task code values found at. absurd (none-some values at)
-
--- one more task
-pub told_more : (tells : Telling) (plant : PlantValue) (n task : ℕ) (old : List (List Value)) (code : CodeValue) (kept : List Value) → TellsOpening tells plant n old → length old ≡ task
-    → slice_get (codes_at plant n) task ≡ Some code → tells task code (Ok kept) → TellsOpening tells plant n (old ++ kept ∷ [])
-told_more tells plant n task old code kept told many at given = λ k other values found here. by k other values found (push_cases old kept k values here)
-  where
-    by : (k : ℕ) (other : CodeValue) (values : List Value) → slice_get (codes_at plant n) k ≡ Some other → (slice_get old k ≡ Some values) ⊎ ((k ≡ length old) × (values ≡ kept)) → tells k other (Ok values)
-    by k other values found (inl here) = told k other values found here
-    by k other values found (inr p) =
-        let same : k ≡ task = p.0 ∙ many in
-        let one : code ≡ other = same_Some code other (sym at ∙ ap (slice_get (codes_at plant n)) (sym same) ∙ found) in
-        subst (λ c. tells k c (Ok values)) one (subst (λ v. tells k code (Ok v)) (sym p.1) (subst (λ j. tells j code (Ok kept)) (sym same) given))
-
--- what is told later could be told at first
-pub tells_more : (first old new : Telling) → TellsNoMore first old → TellsNoMore old new → TellsNoMore first new
-tells_more first old new a b = λ task code answer h. a task code answer (b task code answer h)
-
--- so it is of an opening
+-- what an opening is told by later could be told at first
 pub told_before : (first later : Telling) (plant : PlantValue) (n : ℕ) (opening : List (List Value)) → TellsNoMore first later → TellsOpening later plant n opening → TellsOpening first plant n opening
 told_before first later plant n opening stays told = λ task code values found at. stays task code (Ok values) (told task code values found at)
 

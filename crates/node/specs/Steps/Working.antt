@@ -9,7 +9,7 @@ use Rattle.keepers.specs.declared.keeper_fault.KeeperFault.{KeeperFault}
 use Rattle.node.specs.declared.threads.lawful_for.LawfulFor.{LawfulFor}
 use Rattle.node.specs.declared.threads.raised.Raised.{Raised}
 use Rattle.node.specs.declared.threads.ended.Ended.{Ended}
-use Rattle.node.specs.Openings.{TellsOpening}
+use Rattle.keepers.specs.Openings.{TellsOpening}
 use Rattle.node.specs.Steps.States.{journal_of}
 use Rattle.exchange_core.specs.CoreValue.{AreOpeningOf}
 

@@ -1,7 +1,7 @@
 ghost use Rattle.std.specs.Prelude.{◌≡◌, ◌<◌, All, IfOk, IfErr, Ok, length};
 ghost use Rattle.exchange_core.specs.CoreValue.{AreOpeningOf};
 ghost use Rattle.node_reports.specs.RunFaults.{IsRaiseFault};
-ghost use Rattle.node.specs.Openings.{TellsOpening};
+ghost use Rattle.keepers.specs.Openings.{TellsOpening};
 ghost use Rattle.node.specs.Steps.Working.{IsWorkerFor, firsts_of_workers, openings_of_raised, openings_of_workers, AreAbove, AreOpened, AreRaised, AreTold, lasts_of};
 
 use crate::threads::inbox::Inbox;
@@ -31,7 +31,7 @@ pub(crate) fn make_inboxes(
 }
 
 /// What a keeper has kept of each task of its resource, in their order.
-#[tactic(auto, using(crate::proofs::Told::told_none, crate::proofs::Told::told_more, crate::proofs::Told::tells_more))]
+#[tactic(auto, using(keepers::specs::Steps::Telling::told_none, keepers::specs::Steps::Telling::told_more, keepers::specs::Steps::Telling::tells_more))]
 fn kept_opening<K: Keeper>(
     alloc: Global,
     plant: &Plant,

@@ -2,13 +2,13 @@
 use Rattle.std.proofs.Common.{◌≡◌}
 use Rattle.exchange_core.specs.Steps.Opened.{IsKeptOf}
 use Rattle.keepers.specs.Keepers.{TellsNoMore}
-use Rattle.live_node.specs.NodeAnswers.{AreTold}
+use Rattle.keepers.specs.Openings.{TellsOpening}
 use Rattle.live_node.proofs.node.kept_opening.Given as goal
 
 abbrev pub invariant-loop-task : goal.invariant-loop-task
 invariant-loop-task g l =
     IsKeptOf l.plant l.resource l.task l.kept.items
     × (g.K.Keeper.last l.keeper ≡ g.K.Keeper.last l.fn.keeper)
-    × AreTold (g.K.Keeper.kept_gives l.fn.keeper) l.plant l.resource l.kept.items
+    × TellsOpening (g.K.Keeper.kept_gives l.fn.keeper) l.plant l.resource l.kept.items
     × TellsNoMore (g.K.Keeper.kept_gives l.fn.keeper) (g.K.Keeper.kept_gives l.keeper)
     × TellsNoMore (g.K.Keeper.kept_gives l.keeper) (g.K.Keeper.kept_gives l.fn.keeper)

@@ -2,7 +2,7 @@
 use Rattle.std.proofs.Common.{◌≡◌}
 use Rattle.exchange_core.specs.Steps.Opened.{IsKeptOf}
 use Rattle.keepers.specs.Keepers.{TellsNoMore}
-use Rattle.node.specs.Openings.{TellsOpening}
+use Rattle.keepers.specs.Openings.{TellsOpening}
 use Rattle.node.proofs.threads.preparing.kept_opening.Given as goal
 
 abbrev pub invariant-loop-task : goal.invariant-loop-task
