@@ -59,22 +59,6 @@ room_of circuits rows links results shapes most_rows most_links most_results =
     recursion_from_All (HasRoom rows links results) circuits
     (λ k d lt. record { shape = shapes k d lt; rows_in = most_rows k d lt; links_in = most_links k d lt; results_in = most_results k d lt })
 
--- where there is room for a scan there is room with more rows
-pub room_in : (rows more links results : ℕ) (circuits : List Circuit) → rows ≤ more → AllByRecursion (HasRoom rows links results) circuits → AllByRecursion (HasRoom more links results) circuits
-room_in rows more links results [] le h = tt
-room_in rows more links results (c ∷ circuits) le h = (
-  record { shape = h.0.shape; rows_in = (let has = h.0.rows_in in omega arith); links_in = h.0.links_in; results_in = h.0.results_in },
-  room_in rows more links results circuits le h.1,
-)
-
--- a column of 200 rows is long enough for each circuit
-pub long_room : (rows links results : ℕ) (circuits : List Circuit) → AllByRecursion (HasRoom rows links results) circuits → AllByRecursion (HasRoom 200 links results) circuits
-long_room rows links results [] h = tt
-long_room rows links results (c ∷ circuits) h = (
-  record { shape = h.0.shape; rows_in = h.0.shape.low; links_in = h.0.links_in; results_in = h.0.results_in },
-  long_room rows links results circuits h.1,
-)
-
 abbrev pub elements_of : Circuit → List Element
 elements_of c = c.elements.items
 
