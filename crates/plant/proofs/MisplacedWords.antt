@@ -1,5 +1,6 @@
 -- Where a Syntax stands.
 use Rattle.std.proofs.Common.{◌≡◌, ◌≢◌, ◌⊎◌, inl, inr, ℕ, true, false, List, [], ◌∷◌, ◌++◌, map, length, refl, sym, ap, subst, ◌∙◌, append_assoc, arith}
+use Rattle.std.specs.List.{flat_map}
 use Rattle.std.proofs.lemmas.Bool.{cases_Bool}
 use Rattle.std.proofs.lemmas.List.{append_cancel_left, length-append, map-append}
 use Rattle.std.proofs.lemmas.List.Elements.{All-head}
@@ -9,12 +10,13 @@ use Rattle.plant_text.specs.declared.token.Token.{Token}
 use Rattle.plant_text.specs.declared.token.Token.TheVariants as token
 use Rattle.plant_text.specs.Places.{is_body, may_be_due, FitsPlace, is_body_due}
 use Rattle.plant_text.specs.Lines.{WordValue, IsSpelledBy, IsBegunBy, BeginsWithWordsThen, HasNoWordBehind, IsStoppedBy, AreWordsButLast, AreInTheirPlaces}
+use Rattle.plant_grammar.specs.Grammar.{program_words}
 use Rattle.plant_grammar.specs.WellFormed.{is_plain}
 use Rattle.plant_grammar.specs.GoesOn.{GoesOn, IsLastMisplaced}
 use Rattle.plant_grammar.specs.Steps.Lines.{ReaderValue, HasLinesOf}
 use Rattle.plant_grammar.specs.Steps.Declaring.{BeginWith, IsLineBefore}
 use Rattle.plant_grammar.specs.Steps.Expected.{MeetsMisplaced}
-use Rattle.plant.specs.PlantText.{IsMisplacedIn, IsUnknownIn, EndsEarly}
+use Rattle.plant.specs.PlantText.{AreBodiesDrawn, IsMisplacedIn, IsUnknownIn, EndsEarly}
 use Rattle.plant.proofs.KnownWords.{IsKnown, AreKnown, nothing, behind, both, words_known}
 use Rattle.plant.proofs.BodyCounts.{same_fronts}
 use Rattle.plant.proofs.RefusedKnown.{CutAtLine, cut_at_line}
@@ -82,19 +84,31 @@ plain_word (token.Body b) known none = absurd cc
 plain_word token.Unknown known none = absurd (known refl)
 plain_word _ known none = refl
 
+-- where the bodies of programs are drawn, so are those before a word
+front_drawn : (xs ys : List Token) → AreBodiesDrawn (xs ++ ys) → AreBodiesDrawn xs
+front_drawn xs ys drawn = λ ps more formed e. drawn ps (more ++ ys) formed (ap (λ zs. zs ++ ys) e ∙ append_assoc (flat_map program_words ps) more ys)
+
 -- what is known of the words read says where the first misplaced one stands
-pub syntax_first : (text : List ℕ) (ws : List WordValue) (r : ReaderValue) (line : ℕ) → map (λ (w : WordValue). w.token) ws ≡ r.words → HasLinesOf (map (λ (w : WordValue). w.line) ws) r → IsSpelledBy (without_last 13 text) ws → IsBegunBy (without_last 13 text) ws → IsStoppedBy (without_last 13 text) ws → AreWordsButLast ws → AreInTheirPlaces ws
+pub syntax_first : (text : List ℕ) (ws : List WordValue) (r : ReaderValue) (line : ℕ) → map (λ (w : WordValue). w.token) ws ≡ r.words → AreBodiesDrawn r.words → HasLinesOf (map (λ (w : WordValue). w.line) ws) r → IsSpelledBy (without_last 13 text) ws → IsBegunBy (without_last 13 text) ws → IsStoppedBy (without_last 13 text) ws → AreWordsButLast ws → AreInTheirPlaces ws
     → MeetsMisplaced r line → IsMisplacedIn text line ⊎ (IsUnknownIn text line ⊎ EndsEarly text)
-syntax_first text ws r line words lines spelled begun stopped last_one in_places (inl g) =
+syntax_first text ws r line words drawn lines spelled begun stopped last_one in_places (inl g) =
     let tokens = map (λ (w : WordValue). w.token) ws in
     let here : GoesOn tokens = subst GoesOn (sym words) g in
-    inr (inr (tokens, spelled (goes_on_known tokens here), here))
-syntax_first text ws r line words lines spelled begun stopped last_one in_places (inr b) =
+    inr (inr (tokens, spelled (goes_on_known tokens here), here, subst AreBodiesDrawn (sym words) drawn))
+syntax_first text ws r line words drawn lines spelled begun stopped last_one in_places (inr b) =
     let line_of : WordValue → ℕ = λ (w : WordValue). w.line in
     let here : BeginWith (IsLineBefore (map line_of ws) line) IsLastMisplaced r.words =
     record { front = b.front; rest = b.rest; parts = b.parts; holds = b.holds; behind = b.behind (map line_of ws) lines } in
     of_cut (cut_at_line IsLastMisplaced ws line r.words words here)
   where
+    before_drawn : (cut : CutAtLine IsLastMisplaced ws line) → AreBodiesDrawn (map (λ (w : WordValue). w.token) cut.before)
+    before_drawn cut =
+        let token_of : WordValue → Token = λ (w : WordValue). w.token in
+        let behind = cut.word ∷ cut.back in
+        let parts : ws ≡ cut.before ++ behind = cut.parts ∙ append_assoc cut.before (cut.word ∷ []) cut.back in
+        let cuts : r.words ≡ map token_of cut.before ++ map token_of behind = sym words ∙ ap (map token_of) parts ∙ map-append token_of cut.before behind in
+        front_drawn (map token_of cut.before) (map token_of behind) (subst AreBodiesDrawn cuts drawn)
+
     is : (cut : CutAtLine IsLastMisplaced ws line) → GoesOn (map (λ (w : WordValue). w.token) cut.before) → (is_body_due (map (λ (w : WordValue). w.token) cut.before) ≡ true → may_be_due cut.word.token ≡ false) → (cut.word.token ≡ token.Unknown) ⊎ (cut.word.token ≢ token.Unknown) → IsMisplacedIn text line ⊎ (IsUnknownIn text line ⊎ EndsEarly text)
     is cut goes_on misfit (inr known) =
         let token_of : WordValue → Token = λ (w : WordValue). w.token in
@@ -111,6 +125,7 @@ syntax_first text ws r line words lines spelled begun stopped last_one in_places
           plain = plain_word cut.word.token known (subst (λ b. FitsPlace b cut.word.token) elsewhere fits);
           goes_on = goes_on;
           misplaced = cut.holds.misplaced;
+          drawn = before_drawn cut;
           line_is = cut.line_is;
         })
     is cut goes_on misfit (inl unknown) =
@@ -121,6 +136,7 @@ syntax_first text ws r line words lines spelled begun stopped last_one in_places
           before = cut.before;
           goes_on = goes_on;
           stopped = subst (λ line. BeginsWithWordsThen (λ n rest. HasNoWordBehind cut.before n rest line) (without_last 13 text) cut.before) (sym cut.line_is) (stopped cut.before cut.word alone unknown);
+          drawn = before_drawn cut;
         }))
 
     of_cut : CutAtLine IsLastMisplaced ws line → IsMisplacedIn text line ⊎ (IsUnknownIn text line ⊎ EndsEarly text)

@@ -109,9 +109,13 @@ ladder_kept p q e l is =
 ladder_same : (p q : Program) → program_parts p ≡ program_parts q → HasLadder p → HasLadder q
 ladder_same p q e (l, is) = (l, ladder_kept p q e l is)
 
--- programs that say the same as the first ones of a tree have ladders
+-- programs that say the same as the first of others have ladders if these do
+pub first_have_ladders : (ps qs : List Program) (n : ℕ) → map program_parts ps ≡ map program_parts (take n qs) → All HasLadder qs → All HasLadder ps
+first_have_ladders ps qs n e all =
+    let front : All HasLadder (take n qs) = all_first HasLadder (take n qs) (drop n qs) (subst (All HasLadder) (sym (take-append-drop n qs)) all) in
+    all_same program_parts HasLadder HasLadder (take n qs) ps (sym e) ladder_same front
+
 pub ladders_same : (ts : List TextValue) (qs : List Program) (n : ℕ) → map program_parts (programs_of ts) ≡ map program_parts (take n qs) → All HasLadder qs → All (λ (t : TextValue). HasLadder t.program) ts
 ladders_same ts qs n e all =
-    let front : All HasLadder (take n qs) = all_first HasLadder (take n qs) (drop n qs) (subst (All HasLadder) (sym (take-append-drop n qs)) all) in
-    let programs : All HasLadder (programs_of ts) = all_same program_parts HasLadder HasLadder (take n qs) (programs_of ts) (sym e) ladder_same front in
+    let programs : All HasLadder (programs_of ts) = first_have_ladders (programs_of ts) qs n e all in
     all_from_places (λ (t : TextValue). HasLadder t.program) ts (λ k t at. all_at HasLadder (programs_of ts) programs k t.program (slice_get-map (λ (t : TextValue). t.program) ts k ∙ ap (option_map (λ (t : TextValue). t.program)) at))

@@ -12,7 +12,7 @@ use Rattle.plant.specs.declared.plant_fault.PlantFault.{PlantFault}
 use Rattle.plant_grammar.specs.Grammar.{TextValue, Tree, program_words, words_of}
 use Rattle.plant_grammar.specs.Lawful.{all_uses, AreProgramsDeclared, IsTreeLawful}
 use Rattle.plant_grammar.specs.SourceLines.{AreSourcesOn}
-use Rattle.plant_grammar.specs.WellFormed.{is_plain, IsTreeWellFormed}
+use Rattle.plant_grammar.specs.WellFormed.{is_plain, IsProgramWellFormed, IsTreeWellFormed}
 use Rattle.plant_grammar.specs.Parts.{IsSameTree}
 use Rattle.plant.specs.Ladders.{HasLadder}
 use Rattle.plant.specs.BodyFaults.{IsFirstBodyFault}
@@ -47,9 +47,15 @@ IsNotOfGrammar text =
     (tree : Tree) (more : List Token) → length tree.programs ≤ 65 → IsTreeWellFormed tree → list_all is_plain more ≡ true
     → Spells (without_last 13 text) (words_of tree ++ more) → (more ≢ []) × HasFaultlessWords tree
 
+-- Programs, as the grammar has them, that begin these words have bodies with ladders.
+abbrev pub AreBodiesDrawn : List Token → Type 0
+AreBodiesDrawn words =
+    (programs : List Program) (more : List Token) → All IsProgramWellFormed programs
+    → words ≡ flat_map program_words programs ++ more → All HasLadder programs
+
 -- The text, but for a carriage return at its end, begins with these words, each on its line. A plant, as the grammar has it,
 -- goes on from those before the last, and none from all of them; the line is that of the last. No body is due there, and
--- the last is none.
+-- the last is none. The bodies of the programs before it have ladders.
 pub record IsMisplacedIn (text : List ℕ) (line : ℕ) : Type 0 where
   pub before : List WordValue
   pub word : WordValue
@@ -59,18 +65,20 @@ pub record IsMisplacedIn (text : List ℕ) (line : ℕ) : Type 0 where
   pub plain : is_plain word.token ≡ true
   pub goes_on : GoesOn (map (λ (w : WordValue). w.token) before)
   pub misplaced : GoesOn (map (λ (w : WordValue). w.token) (before ++ word ∷ [])) → ⊥
+  pub drawn : AreBodiesDrawn (map (λ (w : WordValue). w.token) before)
   pub line_is : line ≡ word.line
 
 -- The text begins with words from which a plant goes on, each on its line, and then with no word. The line is that of an
--- unknown word.
+-- unknown word. The bodies of the programs before it have ladders.
 pub record IsUnknownIn (text : List ℕ) (line : ℕ) : Type 0 where
   pub before : List WordValue
   pub goes_on : GoesOn (map (λ (w : WordValue). w.token) before)
   pub stopped : BeginsWithWordsThen (λ n rest. HasNoWordBehind before n rest line) (without_last 13 text) before
+  pub drawn : AreBodiesDrawn (map (λ (w : WordValue). w.token) before)
 
--- The text spells words from which a plant goes on.
+-- The text spells words from which a plant goes on, and the bodies of the programs there have ladders.
 abbrev pub EndsEarly : List ℕ → Type 0
-EndsEarly text = (words : List Token) × Spells (without_last 13 text) words × GoesOn words
+EndsEarly text = (words : List Token) × Spells (without_last 13 text) words × GoesOn words × AreBodiesDrawn words
 
 -- The text isn't as the grammar has it: a plant goes on from its words up to one, on this line, which can't stand there; or
 -- up to what is no word; or from all of them.

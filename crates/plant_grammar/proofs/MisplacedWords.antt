@@ -15,12 +15,12 @@ use Rattle.plant_grammar.specs.Lawful.{IsProgramLawful, IsTreeLawful}
 use Rattle.plant_grammar.specs.WellFormed.{IsProgramWellFormed, IsTreeWellFormed}
 use Rattle.plant_grammar.specs.GoesOn.{GoesOn}
 use Rattle.plant_grammar.specs.Steps.Lines.{ReaderValue, KeepsLines, IsNotNext, next_line}
-use Rattle.plant_grammar.specs.Steps.Expected.{Expected, Key, AName, MoreResources, resource_rest, begun, may_end, and_then, step, walk, whole_plant, EndsUnexpected, IsStuck, GetsStuck, MeetsMisplaced}
+use Rattle.plant_grammar.specs.Steps.Expected.{Expected, Key, AName, MoreResources, program_rest, resource_rest, begun, may_end, and_then, step, walk, whole_plant, EndsUnexpected, IsStuck, GetsStuck, MeetsMisplaced}
 use Rattle.plant_grammar.proofs.ReadLines.{line_before}
 use Rattle.plant_grammar.proofs.OneTree.{one_tree}
 use Rattle.plant_grammar.proofs.ExpectedWords.{walk_append, stuck_behind}
 use Rattle.plant_grammar.proofs.DecodedWords.{goes_on}
-use Rattle.plant_grammar.proofs.WalkedPrograms.{programs_walked, stuck_behind_programs, lawful_program_formed}
+use Rattle.plant_grammar.proofs.WalkedPrograms.{one_program_walked, programs_walked, stuck_behind_programs, lawful_program_formed}
 use Rattle.plant_grammar.proofs.WalkedResources.{configured_walked, formed_resources}
 use Rattle.plant_grammar.proofs.BodyPlaces.{misfits, none_due}
 
@@ -99,26 +99,35 @@ unfolding walk step
 walk_ended [] es e = cc (e)
 walk_ended (t ∷ more) es e = cc (e)
 
--- where the words are stuck, they don't begin with a whole plant
-pub stuck_no_plant : (r : ReaderValue) (line : ℕ) → IsStuck whole_plant r line
-    → (tree : Tree) (rest : List Token) → r.words ≡ words_of tree ++ rest → IsTreeWellFormed tree → ⊥
-stuck_no_plant r line (inl (expected, walked, more)) tree rest e formed =
-    more (walk_ended rest expected (sym (walk_append whole_plant [] (words_of tree) rest (tree_walked tree formed)) ∙ ap (walk whole_plant) (sym e) ∙ walked))
-stuck_no_plant r line (inr b) tree rest e formed =
+-- where the words are stuck, they don't begin with all that is expected
+stuck_no_whole : (es : List Expected) (r : ReaderValue) (line : ℕ) (whole rest : List Token) → IsStuck es r line → walk es whole ≡ Some [] → r.words ≡ whole ++ rest → ⊥
+stuck_no_whole es r line whole rest (inl (expected, walked, more)) all e =
+    more (walk_ended rest expected (sym (walk_append es [] whole rest all) ∙ ap (walk es) (sym e) ∙ walked))
+stuck_no_whole es r line whole rest (inr b) all e =
     let s = b.holds in
-    let parts : s.before ++ s.word ∷ b.rest ≡ words_of tree ++ rest = sym (append_assoc s.before (s.word ∷ []) b.rest) ∙ ap (λ ws. ws ++ b.rest) (sym s.parts) ∙ sym b.parts ∙ e in
-    on (either_longer s.before (s.word ∷ b.rest) (words_of tree) rest parts)
+    let parts : s.before ++ s.word ∷ b.rest ≡ whole ++ rest = sym (append_assoc s.before (s.word ∷ []) b.rest) ∙ ap (λ ws. ws ++ b.rest) (sym s.parts) ∙ sym b.parts ∙ e in
+    on (either_longer s.before (s.word ∷ b.rest) whole rest parts)
   where
-    on : ((d : List Token) × (b.holds.before ≡ words_of tree ++ d)) ⊎ ((d : List Token) × (words_of tree ≡ b.holds.before ++ d) × (b.holds.word ∷ b.rest ≡ d ++ rest)) → ⊥
-    on (inl (d, is)) = b.holds.more (walk_ended d b.holds.expected (sym (walk_append whole_plant [] (words_of tree) d (tree_walked tree formed)) ∙ ap (walk whole_plant) (sym is) ∙ b.holds.walked))
+    on : ((d : List Token) × (b.holds.before ≡ whole ++ d)) ⊎ ((d : List Token) × (whole ≡ b.holds.before ++ d) × (b.holds.word ∷ b.rest ≡ d ++ rest)) → ⊥
+    on (inl (d, is)) = b.holds.more (walk_ended d b.holds.expected (sym (walk_append es [] whole d all) ∙ ap (walk es) (sym is) ∙ b.holds.walked))
     on (inr ([], is, left)) =
-        let same : Some b.holds.expected ≡ Some [] = sym b.holds.walked ∙ ap (walk whole_plant) (sym (is ∙ append-nil b.holds.before)) ∙ tree_walked tree formed in
+        let same : Some b.holds.expected ≡ Some [] = sym b.holds.walked ∙ ap (walk es) (sym (is ∙ append-nil b.holds.before)) ∙ all in
         b.holds.more cc
     on (inr (u ∷ d, is, left)) =
         let first : b.holds.word ≡ u = cc (left) in
         let none : step b.holds.expected u ≡ None = ap (step b.holds.expected) (sym first) ∙ b.holds.unexpected in
-        let ends : Some [] ≡ None = sym (tree_walked tree formed) ∙ ap (walk whole_plant) is ∙ walk_append whole_plant b.holds.expected b.holds.before (u ∷ d) b.holds.walked ∙ walk_unexpected b.holds.expected u d none in
+        let ends : Some [] ≡ None = sym all ∙ ap (walk es) is ∙ walk_append es b.holds.expected b.holds.before (u ∷ d) b.holds.walked ∙ walk_unexpected b.holds.expected u d none in
         cc
+
+-- so they don't begin with a whole plant
+pub stuck_no_plant : (r : ReaderValue) (line : ℕ) → IsStuck whole_plant r line
+    → (tree : Tree) (rest : List Token) → r.words ≡ words_of tree ++ rest → IsTreeWellFormed tree → ⊥
+stuck_no_plant r line stuck tree rest e formed = stuck_no_whole whole_plant r line (words_of tree) rest stuck (tree_walked tree formed) e
+
+-- nor, where a program gets stuck, with a whole program
+pub stuck_no_program : (r : ReaderValue) (fault : GrammarFault) → GetsStuck (Key key.Program ∷ program_rest) r fault → fault.kind ≡ Syntax
+    → (p : Program) (rest : List Token) → IsProgramWellFormed p → r.words ≡ program_words p ++ rest → ⊥
+stuck_no_program r fault stuck syntax p rest formed e = stuck_no_whole (Key key.Program ∷ program_rest) r fault.line (program_words p) rest (stuck syntax []) (one_program_walked p [] formed) e
 
 -- behind programs that were read, where no further one begins
 pub stuck_behind_read : (ps : List Program) (old one : ReaderValue) (fault : GrammarFault) → old.words ≡ flat_map program_words ps ++ one.words → KeepsLines old one → All IsProgramLawful ps → IsNotNext (key_word key.Program) one.words

@@ -1,8 +1,10 @@
 -- Words have one tree: what stands behind a part of the grammar, and what the part says, follow from the words.
 use Rattle.std.proofs.Common.{◌≡◌, ℕ, ◌<◌, List, [], ◌∷◌, ◌++◌, Option, None, Some, suc, length, map, take, refl, sym, ap, ◌∙◌, append_assoc, arith}
+use Rattle.std.specs.Prelude.{All}
 use Rattle.std.specs.List.{flat_map, enumerate_from}
 use Rattle.std.proofs.lemmas.List.{map-append}
 use Rattle.std.proofs.lemmas.List.Concat.{flat_map-cons}
+use Rattle.std.proofs.lemmas.List.Elements.{All-head, All-tail}
 use Rattle.declared_names.specs.declared.declarations.Kind.TheVariants as kind
 use Rattle.declared_names.specs.declared.declarations.Declaration.{Declaration}
 use Rattle.plant_text.specs.declared.token.Token.{Token}
@@ -32,7 +34,9 @@ use Rattle.plant_grammar.specs.Lawful.{declared_as, list_variables, lists_variab
 use Rattle.plant_grammar.specs.Retained.{block_sections, sections, place_if_retained, retained_places}
 use Rattle.plant_grammar.specs.Parts.{UseParts, program_parts, use_parts, resource_parts, IsSameTree}
 use Rattle.plant_grammar.specs.Steps.Lines.{IsNoneNext}
+use Rattle.plant_grammar.specs.WellFormed.{IsProgramWellFormed}
 use Rattle.plant_grammar.specs.Steps.ReadParts.{section_start, IsSectionWhole}
+use Rattle.plant_grammar.specs.Steps.Reading.{AreAllPrograms}
 use Rattle.plant_grammar.proofs.NewNames.{list_parts}
 use Rattle.plant_grammar.proofs.WordLists.{lists_done, items_done, resources_done}
 
@@ -470,14 +474,14 @@ one_tree t u rest more e =
     let r = one_resources t.resources u.resources rest more left in
     (r.1, record { programs = a.0; name = name; resources = r.0 })
 
--- programs that begin the words of others are the first of these
-first_programs : (ps qs : List Program) (rest tail : List Token) → ((p : Program) (q : List Token) → tail ≡ program_words p ++ q → ⊥) → flat_map program_words ps ++ rest ≡ flat_map program_words qs ++ tail
+-- programs of a kind that begin the words of others, behind which none of the kind stands, are the first of these
+first_programs : (P : Program → Type 0) (ps qs : List Program) (rest tail : List Token) → ((p : Program) (q : List Token) → P p → tail ≡ program_words p ++ q → ⊥) → All P ps → flat_map program_words ps ++ rest ≡ flat_map program_words qs ++ tail
     → (n : ℕ) × (map program_parts ps ≡ map program_parts (take n qs))
-first_programs [] qs rest tail stops e = (0, refl)
-first_programs (p ∷ ps) [] rest tail stops e = absurd (stops p (flat_map program_words ps ++ rest) (sym e ∙ cons_parts program_words p ps rest))
-first_programs (p ∷ ps) (q ∷ qs) rest tail stops e =
+first_programs P [] qs rest tail stops each e = (0, refl)
+first_programs P (p ∷ ps) [] rest tail stops each e = absurd (stops p (flat_map program_words ps ++ rest) (All-head P p ps each) (sym e ∙ cons_parts program_words p ps rest))
+first_programs P (p ∷ ps) (q ∷ qs) rest tail stops each e =
     let both = one_program p q (flat_map program_words ps ++ rest) (flat_map program_words qs ++ tail) (sym (cons_parts program_words p ps rest) ∙ e ∙ cons_parts program_words q qs tail) in
-    let more = first_programs ps qs rest tail stops both.1 in
+    let more = first_programs P ps qs rest tail stops (All-tail P p ps each) both.1 in
     let first : program_parts p ≡ program_parts q = both.0 in
     let others : map program_parts ps ≡ map program_parts (take more.0 qs) = more.1 in
     (suc more.0, cc)
@@ -485,4 +489,12 @@ first_programs (p ∷ ps) (q ∷ qs) rest tail stops e =
 pub programs_first : (ps : List Program) (t : Tree) (rest more : List Token) → flat_map program_words ps ++ rest ≡ words_of t ++ more → (n : ℕ) × (map program_parts ps ≡ map program_parts (take n t.programs))
 programs_first ps t rest more e =
     let left = token.Name t.name ∷ (resources_words t.resources ++ more) in
-    first_programs ps t.programs rest (key_word key.Configuration ∷ left) (configuration_stops left) (e ∙ tree_parts_of t more)
+    first_programs (λ p. Unit {0}) ps t.programs rest (key_word key.Configuration ∷ left) (λ p q any. configuration_stops left p q) (λ k d lt. tt) (e ∙ tree_parts_of t more)
+
+-- programs behind which no further one stands are all that begin the words
+pub all_programs : (qs : List Program) (words tail : List Token) → words ≡ flat_map program_words qs ++ tail → ((p : Program) (q : List Token) → IsProgramWellFormed p → tail ≡ program_words p ++ q → ⊥) → AreAllPrograms words qs
+all_programs qs words tail e stops = λ ps more formed parts. first_programs IsProgramWellFormed ps qs more tail stops formed (sym parts ∙ e)
+
+-- so they are where PROGRAM doesn't stand next
+pub all_programs_read : (qs : List Program) (words tail : List Token) → words ≡ flat_map program_words qs ++ tail → ((q : List Token) → tail ≡ key_word key.Program ∷ q → ⊥) → AreAllPrograms words qs
+all_programs_read qs words tail e none = all_programs qs words tail e (λ p q formed. program_stops tail none p q)

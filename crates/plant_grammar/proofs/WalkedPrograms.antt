@@ -130,19 +130,32 @@ body_walked : (b : List ℕ) (es : List Expected) → walk (MoreBlocks ∷ ABody
 unfolding walk step begun may_end
 body_walked b es = refl
 
--- PROGRAM and a name
+-- PROGRAM and a name, where more programs may follow, and where this one alone is expected
 program_begins : (n : List ℕ) (more : List Token) (es : List Expected) → walk (MorePrograms ∷ es) (key_word key.Program ∷ token.Name n ∷ more) ≡ walk (MoreBlocks ∷ ABody ∷ Key key.EndProgram ∷ MorePrograms ∷ es) more
 unfolding walk step begun may_end
 program_begins n more es = refl
 
--- a program
+one_program_begins : (n : List ℕ) (more : List Token) (es : List Expected) → walk (Key key.Program ∷ program_rest ++ es) (key_word key.Program ∷ token.Name n ∷ more) ≡ walk (MoreBlocks ∷ ABody ∷ Key key.EndProgram ∷ es) more
+unfolding walk step begun may_end
+one_program_begins n more es = refl
+
+-- what stands behind a program's name
+abbrev behind_name : Program → List Token
+behind_name p = flat_map block_words p.blocks.items ++ token.Body p.body ∷ key_word key.EndProgram ∷ []
+
+behind_name_walked : (p : Program) (es : List Expected) → IsProgramWellFormed p → walk (MoreBlocks ∷ ABody ∷ Key key.EndProgram ∷ es) (behind_name p) ≡ Some es
+behind_name_walked p es formed =
+    let rest : List Expected = ABody ∷ Key key.EndProgram ∷ es in
+    walk_append (MoreBlocks ∷ rest) (MoreBlocks ∷ rest) (flat_map block_words p.blocks.items) (token.Body p.body ∷ key_word key.EndProgram ∷ []) (blocks_walked p.blocks.items rest formed) ∙ body_walked p.body es
+
+-- a program, where more may follow, and where it alone is expected
 pub program_walked : (p : Program) (es : List Expected) → IsProgramWellFormed p → walk (MorePrograms ∷ es) (program_words p) ≡ Some (MorePrograms ∷ es)
 unfolding program_words
-program_walked p es formed =
-    let blocks = flat_map block_words p.blocks.items in
-    let end : List Token = token.Body p.body ∷ key_word key.EndProgram ∷ [] in
-    let rest : List Expected = ABody ∷ Key key.EndProgram ∷ MorePrograms ∷ es in
-    program_begins p.name (blocks ++ end) es ∙ walk_append (MoreBlocks ∷ rest) (MoreBlocks ∷ rest) blocks end (blocks_walked p.blocks.items rest formed) ∙ body_walked p.body (MorePrograms ∷ es)
+program_walked p es formed = program_begins p.name (behind_name p) es ∙ behind_name_walked p (MorePrograms ∷ es) formed
+
+pub one_program_walked : (p : Program) (es : List Expected) → IsProgramWellFormed p → walk (Key key.Program ∷ program_rest ++ es) (program_words p) ≡ Some es
+unfolding program_words
+one_program_walked p es formed = one_program_begins p.name (behind_name p) es ∙ behind_name_walked p es formed
 
 -- programs
 pub programs_walked : (ps : List Program) (es : List Expected) → All IsProgramWellFormed ps → walk (MorePrograms ∷ es) (flat_map program_words ps) ≡ Some (MorePrograms ∷ es)

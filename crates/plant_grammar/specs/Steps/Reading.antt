@@ -1,11 +1,13 @@
 -- What is known of a plant's text once its words are read, its bodies not yet drawn and its sources not yet resolved.
-use Rattle.std.specs.Prelude.{◌≡◌, ℕ, List, ◌++◌, map}
+use Rattle.std.specs.Prelude.{◌≡◌, ℕ, List, ◌++◌, map, take, All}
 use Rattle.std.specs.List.{flat_map}
 use Rattle.plant_grammar.specs.declared.grammar.tree.Program.{Program}
 use Rattle.plant_grammar.specs.declared.grammar.tree.Resource.{Resource}
 use Rattle.plant_text.specs.declared.token.Token.{Token}
 use Rattle.plant_grammar.specs.Grammar.{Tree, TextValue, program_words, words_of}
 use Rattle.plant_grammar.specs.Lawful.{IsTreeLawful}
+use Rattle.plant_grammar.specs.Parts.{program_parts}
+use Rattle.plant_grammar.specs.WellFormed.{IsProgramWellFormed}
 use Rattle.plant_grammar.specs.Steps.Lines.{ReaderValue}
 
 -- the program types as they are written
@@ -57,3 +59,9 @@ pub record BeginWithTexts (r : ReaderValue) (texts : List TextValue) : Type 0 wh
   pub more : List ℕ
   pub written : r.words ≡ all_words texts rest
   pub lines : r.bodies ≡ all_lines texts more
+
+-- Of the programs that begin the words none is missing: such programs, as the grammar has them, are the first of these.
+abbrev pub AreAllPrograms : List Token → List Program → Type 0
+AreAllPrograms words programs =
+    (ps : List Program) (more : List Token) → All IsProgramWellFormed ps → words ≡ flat_map program_words ps ++ more
+    → (n : ℕ) × (map program_parts ps ≡ map program_parts (take n programs))

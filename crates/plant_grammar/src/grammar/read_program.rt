@@ -11,7 +11,7 @@ ghost use Rattle.plant_grammar.specs.declared.grammar.tree.TypeName.{TypeName};
 ghost use Rattle.plant_grammar.specs.declared.grammar.tree.NameList.{NameList};
 ghost use Rattle.plant_grammar.specs.declared.grammar.tree.VarBlock.{VarBlock};
 ghost use Rattle.plant_grammar.specs.declared.grammar.tree.Program.{Program};
-ghost use Rattle.plant_grammar.specs.declared.grammar_fault.GrammarFaultKind.TheVariants.{Memory};
+ghost use Rattle.plant_grammar.specs.declared.grammar_fault.GrammarFaultKind.TheVariants.{Memory, Syntax};
 ghost use Rattle.plant_text.specs.declared.token.Keyword.TheVariants as key;
 ghost use Rattle.plant_text.specs.declared.token.Punctuation.TheVariants.{Colon, Semicolon, Comma};
 ghost use Rattle.plant_grammar.specs.Steps.Refusing.{MayBeDeclared};
@@ -22,7 +22,7 @@ ghost use Rattle.plant_grammar.specs.Steps.Declaring.{TellsOfType, TellsOfVariab
 ghost use Rattle.plant_grammar.specs.Steps.Lines.{next_line, syntax_at, KeepsLines, IsNotNext, IsOneNext, IsNoneNext};
 ghost use Rattle.plant_grammar.specs.Steps.ReadParts.{section_start, IsSectionWhole, IsNew, AreVariables};
 ghost use Rattle.plant_grammar.specs.Steps.Expected.{Key, AName, ABody, AType, ASection, MorePrograms, MoreBlocks, MoreLists, MoreNames, program_rest, list_rest, GetsStuck};
-ghost use Rattle.plant_grammar.specs.Steps.Reading.{programs_of, all_words, AreSameWords, AreSameLines, BeginWithWordsOf, BeginWithLinesOf};
+ghost use Rattle.plant_grammar.specs.Steps.Reading.{programs_of, all_words, AreAllPrograms, AreSameWords, AreSameLines, BeginWithWordsOf, BeginWithLinesOf};
 
 use crate::grammar::known_names::{check_new, is_program};
 use crate::grammar::name::Name;
@@ -366,6 +366,7 @@ impl<'a> Reader<'a> {
         ensures other { IfErr result (λ e. e.kind ≢ Memory → (ps : List Program) (rest : List Token) → all_words texts.old.items self.old.words ≡ flat_map program_words ps ++ rest → IsNotNext (key_word key.Program) rest → AreProgramsDeclared ps → ⊥) }
         ensures names { IfErr result (BeginRefusedBehind (RefusesFurtherProgram (programs_of texts.new.items)) self.old (all_words texts.old.items self.old.words)) }
         ensures stuck { IfErr result (GetsStuck (MorePrograms ∷ []) self.old) }
+        ensures whole { IfErr result (λ e. e.kind ≡ Syntax → AreAllPrograms (all_words texts.old.items self.old.words) (programs_of texts.new.items)) }
         ensures value { IfErr result IsGrammarFault }
     {
         'programs: while self.sees_keyword(Keyword::Program) {

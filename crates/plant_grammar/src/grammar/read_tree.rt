@@ -12,7 +12,7 @@ ghost use Rattle.plant_grammar.specs.Steps.Expected.{MeetsMisplaced};
 ghost use Rattle.plant_grammar.specs.WellFormed.{IsTreeWellFormed};
 ghost use Rattle.plant_grammar.specs.WordFaults.{IsGrammarFault};
 ghost use Rattle.plant_grammar.specs.Steps.Declaring.{BeginRefused, RefusesPlantWords};
-ghost use Rattle.plant_grammar.specs.Steps.Reading.{programs_of, IsTreeOf, BeginWithTexts, tree_written};
+ghost use Rattle.plant_grammar.specs.Steps.Reading.{programs_of, AreAllPrograms, IsTreeOf, BeginWithTexts, tree_written};
 
 use crate::grammar::program_text::ProgramText;
 use crate::grammar::reader::Reader;
@@ -41,6 +41,7 @@ pub fn read_tree<'a>(
     ensures syntax { IfErr result (λ e. e.kind ≡ Syntax → (tree : Tree) (rest : List Token) → reader.old.words ≡ words_of tree ++ rest → IsTreeWellFormed tree → ⊥) }
     ensures behind { IfOk result (λ _. reader.new.words ≢ [] → MeetsMisplaced reader.old (next_line reader.new)) }
     ensures misplaced { IfErr result (λ e. e.kind ≡ Syntax → length reader.old.words < 2 ^ 63 → MeetsMisplaced reader.old e.line) }
+    ensures whole { IfErr result (λ e. e.kind ≡ Syntax → AreAllPrograms reader.old.words (programs_of texts.new.items)) }
     ensures value { IfErr result IsGrammarFault }
     ensures name { IfErr result (BeginRefused (RefusesPlantWords (programs_of texts.new.items)) reader.old) }
 {

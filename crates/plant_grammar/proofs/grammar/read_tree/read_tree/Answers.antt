@@ -6,7 +6,7 @@ use Rattle.plant_grammar.specs.Lawful.{uses_of}
 use Rattle.plant_grammar.specs.NameFaults.{RefusesResources}
 use Rattle.plant_grammar.specs.Steps.Declaring.{BeginWith, BeginRefused, IsLineBefore, RefusesFurtherProgram, RefusesPlantWords}
 use Rattle.plant_grammar.specs.Steps.ReadParts.{tally_with, types_alone, AreResourcesLawful}
-use Rattle.plant_grammar.specs.Steps.Reading.{programs_of, all_words, tree_written}
+use Rattle.plant_grammar.specs.Steps.Reading.{programs_of, all_words, AreAllPrograms, tree_written}
 use Rattle.plant_grammar.proofs.RefusedPlaces.{further_program, in_configuration}
 use Rattle.plant_grammar.proofs.WholeTrees.{tree_is, begun_words, begin_with_texts}
 use Rattle.plant_text.specs.declared.token.Token.{Token}
@@ -19,6 +19,7 @@ use Rattle.plant_grammar.proofs.UnexpectedWords.{key_stuck, name_stuck}
 use Rattle.plant_grammar.proofs.MisplacedWords.{resources_expected, name_expected, configuration_expected, stuck_behind_read, meets_misplaced, stuck_no_plant, misplaced_behind}
 use Rattle.plant_grammar.specs.WellFormed.{IsTreeWellFormed}
 use Rattle.plant_grammar.proofs.StuckBehind.{stuck_after_key, stuck_after_name}
+use Rattle.plant_grammar.proofs.OneTree.{all_programs_read}
 use Rattle.plant_grammar.proofs.grammar.read_tree.read_tree.Goals as read_tree_goals
 
 pub returns-clause-ok : read_tree_goals.returns-clause-ok
@@ -180,3 +181,35 @@ returns-clause-behind c =
     let read = returns-clause-ok c in
     misplaced_behind (tree_written read.name c.programs.new.texts.items c.in_ok-resources.resources.items) c.args.reader.now c.resources.new.self read.written
     (λ all h. c.in_ok-resources.ensures.left all (c.in_ok-_name.ensures.left all (c.in_ok-keyword.ensures.left all (c.in_ok-programs.ensures.left all h)))) read.lawful
+
+pub returns-in_err-programs-clause-whole : read_tree_goals.returns-in_err-programs-clause-whole
+returns-in_err-programs-clause-whole c =
+    let fault = c.in_err-programs.field-0.0 in
+    let start = c.args.reader.now.words in
+    let programs = programs_of c.programs.new.texts.items in
+    kept_fault fault (λ f. f.kind ≡ Syntax → AreAllPrograms start programs) c.from_residual.result c.from_residual.ensures.1
+    (λ syntax. subst (λ (ts : List TextValue). AreAllPrograms (all_words ts start) programs) c.requires (c.in_err-programs.ensures.whole syntax))
+
+pub returns-in_err-keyword-clause-whole : read_tree_goals.returns-in_err-keyword-clause-whole
+returns-in_err-keyword-clause-whole c =
+    let start = c.args.reader.now.words in
+    let texts = c.programs.new.texts.items in
+    let one = c.programs.new.self.words in
+    kept_fault c.in_err-keyword.field-0.0 (λ f. f.kind ≡ Syntax → AreAllPrograms start (programs_of texts)) c.from_residual-in_err-keyword.result c.from_residual-in_err-keyword.ensures.1
+    (λ syntax. all_programs_read (programs_of texts) start one (begun_words c.args.texts.now.items texts start one c.requires c.in_ok-programs.ensures.ok) c.in_ok-programs.ensures.none)
+
+pub returns-in_err-_name-clause-whole : read_tree_goals.returns-in_err-_name-clause-whole
+returns-in_err-_name-clause-whole c =
+    let start = c.args.reader.now.words in
+    let texts = c.programs.new.texts.items in
+    let one = c.programs.new.self.words in
+    kept_fault c.in_err-_name.field-0.0 (λ f. f.kind ≡ Syntax → AreAllPrograms start (programs_of texts)) c.from_residual-in_err-_name.result c.from_residual-in_err-_name.ensures.1
+    (λ syntax. all_programs_read (programs_of texts) start one (begun_words c.args.texts.now.items texts start one c.requires c.in_ok-programs.ensures.ok) c.in_ok-programs.ensures.none)
+
+pub returns-in_err-resources-clause-whole : read_tree_goals.returns-in_err-resources-clause-whole
+returns-in_err-resources-clause-whole c =
+    let start = c.args.reader.now.words in
+    let texts = c.programs.new.texts.items in
+    let one = c.programs.new.self.words in
+    kept_fault c.in_err-resources.field-0.0 (λ f. f.kind ≡ Syntax → AreAllPrograms start (programs_of texts)) c.from_residual-in_err-resources.result c.from_residual-in_err-resources.ensures.1
+    (λ syntax. all_programs_read (programs_of texts) start one (begun_words c.args.texts.now.items texts start one c.requires c.in_ok-programs.ensures.ok) c.in_ok-programs.ensures.none)

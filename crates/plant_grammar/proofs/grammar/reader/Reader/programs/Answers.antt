@@ -6,7 +6,7 @@ use Rattle.plant_grammar.specs.Grammar.{TextValue, key_word, program_words}
 use Rattle.plant_text.specs.declared.token.Token.{Token}
 use Rattle.plant_grammar.specs.declared.grammar.tree.Program.{Program}
 use Rattle.plant_grammar.specs.Steps.ReadParts.{IsNew}
-use Rattle.plant_grammar.specs.Steps.Reading.{programs_of, lines_of, all_words}
+use Rattle.plant_grammar.specs.Steps.Reading.{programs_of, lines_of, all_words, AreAllPrograms}
 use Rattle.plant_grammar.proofs.FoundTypes.{programs_more, map-grown}
 use Rattle.plant_grammar.proofs.WordLists.{words_more}
 use Rattle.plant_grammar.specs.NameFaults.{RefusesProgram}
@@ -14,7 +14,7 @@ use Rattle.plant_grammar.specs.Steps.Declaring.{BeginWith, BeginRefusedBehind, I
 use Rattle.lists.proofs.Results.{kept_fault}
 use Rattle.plant_grammar.proofs.RefusedPlaces.{program_refused}
 use Rattle.plant_grammar.proofs.RefusedNames.{memory_result, memory_excused}
-use Rattle.plant_grammar.specs.declared.grammar_fault.GrammarFaultKind.TheVariants.{Memory}
+use Rattle.plant_grammar.specs.declared.grammar_fault.GrammarFaultKind.TheVariants.{Memory, Syntax}
 use Rattle.plant_text.specs.declared.token.Keyword.TheVariants as key
 use Rattle.plant_grammar.specs.declared.grammar_fault.GrammarFault.{GrammarFault}
 use Rattle.plant_grammar.specs.Steps.Lines.{IsNotNext}
@@ -24,6 +24,8 @@ use Rattle.plant_grammar.specs.Steps.Expected.{MorePrograms, GetsStuck}
 use Rattle.plant_grammar.proofs.WalkedPrograms.{programs_walked, stuck_in_program, lawful_program_formed}
 use Rattle.plant_grammar.specs.WellFormed.{IsProgramWellFormed}
 use Rattle.plant_grammar.proofs.StuckBehind.{stuck_after}
+use Rattle.plant_grammar.proofs.MisplacedWords.{stuck_no_program}
+use Rattle.plant_grammar.proofs.OneTree.{all_programs}
 use Rattle.plant_grammar.proofs.grammar.reader.Reader.programs.Goals as goal
 
 pub programs-preserved : goal.programs-preserved
@@ -96,3 +98,11 @@ returns-in_err-text-clause-stuck c =
     (stuck_after (MorePrograms ∷ []) (MorePrograms ∷ []) (flat_map program_words read.0) c.args.self.now c.programs.self fault read.1 c.programs.invariant.left
     (λ behind. programs_walked read.0 behind read.2)
     (stuck_in_program c.programs.self fault (c.programs-test.ensures.yes refl) c.in_err-text.ensures.stuck))
+
+pub returns-in_err-text-clause-whole : goal.returns-in_err-text-clause-whole
+returns-in_err-text-clause-whole c =
+    let fault = c.in_err-text.field-0.0 in
+    let start = all_words c.args.texts.now.items c.args.self.now.words in
+    let programs = programs_of c.programs.texts.items in
+    kept_fault fault (λ f. f.kind ≡ Syntax → AreAllPrograms start programs) c.from_residual.result c.from_residual.ensures.1
+    (λ syntax. all_programs programs start c.programs.self.words c.programs.invariant.words (λ p q formed. stuck_no_program c.programs.self fault c.in_err-text.ensures.stuck syntax p q formed))
