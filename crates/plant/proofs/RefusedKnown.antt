@@ -34,11 +34,11 @@ after_known t P words one more h = subst AreKnown (sym h.parts) (behind t h.more
 after_all_known : (ts : List Token) (P : List Token → Type 0) (words : List Token) → AreKnown ts → ((w : List Token) → P w → AreKnown w) → IsAfterAll ts P words → AreKnown words
 after_all_known ts P words front more h = subst AreKnown (sym h.parts) (both ts h.more front (more h.more h.holds))
 
-after_name_known : (P : List Token → Type 0) (words : List Token) → ((w : List Token) → P w → AreKnown w) → IsAfterName P words → AreKnown words
-after_name_known P words more h = after_known (token.Name h.name) P words (name_is h.name) more h.after
+after_name_known : (May : List ℕ → Type 0) (P : List Token → Type 0) (words : List Token) → ((w : List Token) → P w → AreKnown w) → IsAfterName May P words → AreKnown words
+after_name_known May P words more h = after_known (token.Name h.name) P words (name_is h.name) more h.after
 
-behind_known : {A : Type 0} (f : A → List Token) (P : List A → List Token → Type 0) (words : List Token) → ((x : A) → AreKnown (f x)) → ((xs : List A) (w : List Token) → P xs w → AreKnown w) → IsAfterWhole f P words → AreKnown words
-behind_known f P words each more h = subst AreKnown (sym h.parts) (both (flat_map f h.whole) h.more (all_of f each h.whole) (more h.whole h.more h.holds))
+behind_known : {A : Type 0} (f : A → List Token) (L : List A → Type 0) (P : List A → List Token → Type 0) (words : List Token) → ((x : A) → AreKnown (f x)) → ((xs : List A) (w : List Token) → P xs w → AreKnown w) → IsAfterWhole f L P words → AreKnown words
+behind_known f L P words each more h = subst AreKnown (sym h.parts) (both (flat_map f h.whole) h.more (all_of f each h.whole) (more h.whole h.more h.holds))
 
 either_known : (P Q : Type 0) (words : List Token) → (P → AreKnown words) → (Q → AreKnown words) → P ⊎ Q → AreKnown words
 either_known P Q words p q (inl h) = p h
@@ -52,15 +52,15 @@ bind_comma_is b = both (bind_words b) (mark_word Comma ∷ []) (bind_is b) (behi
 
 variable_known : (k : GrammarFaultKind) (before : List Declaration) (words : List Token) → RefusesVariable k before words → AreKnown words
 unfolding RefusesVariable
-variable_known k before words h = behind_known name_and_comma _ words name_comma_is (λ ns w r. refused_known k _ _ w r) h
+variable_known k before words h = behind_known name_and_comma _ _ words name_comma_is (λ ns w r. refused_known k _ _ w r) h
 
-type_known : (k : GrammarFaultKind) (s : Section) (words : List Token) → RefusesType k s words → AreKnown words
-type_known k s words h =
+type_known : (k : GrammarFaultKind) (s : Section) (before : List Declaration) (words : List Token) → RefusesType k s before words → AreKnown words
+type_known k s before words h =
     subst AreKnown (sym h.parts) (both (name_words h.names) (mark_word Colon ∷ token.Block h.block ∷ []) (names_are h.names) (behind (mark_word Colon) (token.Block h.block ∷ []) (mark_is Colon) (behind (token.Block h.block) [] (type_is (Block h.block)) nothing)))
 
 list_known : (k : GrammarFaultKind) (s : Section) (before : List Declaration) (words : List Token) → RefusesList k s before words → AreKnown words
 unfolding RefusesList
-list_known k s before words h = behind_known list_words _ words list_is (λ ls w r. either_known _ _ w (λ v. variable_known k _ w v) (λ t. type_known k s w t) r) h
+list_known k s before words h = behind_known list_words _ _ words list_is (λ ls w r. either_known _ _ w (λ v. variable_known k _ w v) (λ t. type_known k s _ w t) r) h
 
 block_known : (k : GrammarFaultKind) (before : List Declaration) (words : List Token) → RefusesBlock k before words → AreKnown words
 unfolding RefusesBlock
@@ -68,12 +68,12 @@ block_known k before words (s, h) = after_all_known (section_words s) (RefusesLi
 
 blocks_known : (k : GrammarFaultKind) (before : List Declaration) (words : List Token) → RefusesBlocks k before words → AreKnown words
 unfolding RefusesBlocks
-blocks_known k before words h = behind_known block_words _ words block_is (λ bs w r. block_known k _ w r) h
+blocks_known k before words h = behind_known block_words _ _ words block_is (λ bs w r. block_known k _ w r) h
 
 program_known : (k : GrammarFaultKind) (before : List Program) (words : List Token) → RefusesProgram k before words → AreKnown words
 unfolding RefusesProgram
 program_known k before words h =
-    after_known (key_word key.Program) _ words (key_is key.Program) (λ w r. either_known _ _ w (λ n. refused_known k _ _ w n) (λ n. after_name_known (RefusesBlocks k []) w (λ v b. blocks_known k [] v b) n) r) h
+    after_known (key_word key.Program) _ words (key_is key.Program) (λ w r. either_known _ _ w (λ n. refused_known k _ _ w n) (λ n. after_name_known _ (RefusesBlocks k []) w (λ v b. blocks_known k [] v b) n) r) h
 
 task_known : (k : GrammarFaultKind) (before : List Item) (words : List Token) → RefusesTask k before words → AreKnown words
 unfolding RefusesTask
@@ -85,13 +85,13 @@ misused_known k Unknown Bound full words h = subst AreKnown (sym h.alone) (behin
 address_is_known : (a : Address) → IsKnown (token.Address a)
 address_is_known a e = absurd cc
 
-address_known : (k : GrammarFaultKind) (ds : List Declaration) (words : List Token) → RefusesAddress k ds words → AreKnown words
-address_known k ds words h =
+address_known : (k : GrammarFaultKind) (n : ℕ) (ds : List Declaration) (before : List Bind) (words : List Token) → RefusesAddress k n ds before words → AreKnown words
+address_known k n ds before words h =
     subst AreKnown (sym h.parts) (behind (token.Name h.input) (mark_word Assign ∷ token.Address h.address ∷ []) (name_is h.input) (behind (mark_word Assign) (token.Address h.address ∷ []) (mark_is Assign) (behind (token.Address h.address) [] (address_is_known h.address) nothing)))
 
 bind_known : (k : GrammarFaultKind) (n : ℕ) (ds : List Declaration) (words : List Token) → RefusesBind k n ds words → AreKnown words
 unfolding RefusesBind
-bind_known k n ds words h = behind_known bind_and_comma _ words bind_comma_is (λ bs w r. either_known _ _ w (λ m. misused_known k _ _ _ w m) (λ a. address_known k ds w a) r) h
+bind_known k n ds words h = behind_known bind_and_comma _ _ words bind_comma_is (λ bs w r. either_known _ _ w (λ m. misused_known k _ _ _ w m) (λ a. address_known k _ ds bs w a) r) h
 
 typed_known : (k : GrammarFaultKind) (n : ℕ) (programs : List Program) (words : List Token) → RefusesTyped k n programs words → AreKnown words
 unfolding RefusesTyped
@@ -102,33 +102,33 @@ binds_known : (k : GrammarFaultKind) (n : ℕ) (programs : List Program) (before
 unfolding RefusesBinds
 binds_known k n programs before words h =
     after_known (key_word key.With) _ words (key_is key.With) (λ w r. either_known _ _ w (λ m. misused_known k _ _ _ w m)
-    (λ m. after_name_known _ w (λ w2 h2. after_known (mark_word Colon) _ w2 (mark_is Colon) (λ w3 h3. typed_known k n programs w3 h3) h2) m) r) h
+    (λ m. after_name_known _ _ w (λ w2 h2. after_known (mark_word Colon) _ w2 (mark_is Colon) (λ w3 h3. typed_known k n programs w3 h3) h2) m) r) h
 
 instance_known : (k : GrammarFaultKind) (i n : ℕ) (programs : List Program) (before : List Item) (words : List Token) → RefusesInstance k i n programs before words → AreKnown words
 unfolding RefusesInstance
 instance_known k i n programs before words h =
-    after_known (key_word key.Program) _ words (key_is key.Program) (λ w r. either_known _ _ w (λ m. refused_known k _ _ w m) (λ m. after_name_known (RefusesBinds k n programs before) w (λ v b. binds_known k n programs before v b) m) r) h
+    after_known (key_word key.Program) _ words (key_is key.Program) (λ w r. either_known _ _ w (λ m. refused_known k _ _ w m) (λ m. after_name_known _ (RefusesBinds k n programs before) w (λ v b. binds_known k n programs before v b) m) r) h
 
 items_known : (k : GrammarFaultKind) (i n : ℕ) (programs : List Program) (words : List Token) → RefusesItems k i n programs words → AreKnown words
 unfolding RefusesItems
-items_known k i n programs words h = behind_known item_words _ words item_is (λ xs w r. either_known _ _ w (λ t. task_known k xs w t) (λ u. instance_known k _ _ programs xs w u) r) h
+items_known k i n programs words h = behind_known item_words _ _ words item_is (λ xs w r. either_known _ _ w (λ t. task_known k xs w t) (λ u. instance_known k _ _ programs xs w u) r) h
 
 resource_known : (k : GrammarFaultKind) (i n : ℕ) (programs : List Program) (before : List Resource) (words : List Token) → RefusesResource k i n programs before words → AreKnown words
 unfolding RefusesResource
 resource_known k i n programs before words h =
     after_known (key_word key.Resource) _ words (key_is key.Resource) (λ w r. either_known _ _ w (λ m. refused_known k _ _ w m)
-    (λ m. after_name_known _ w (λ w1 h1. after_known (key_word key.On) _ w1 (key_is key.On) (λ w2 h2. after_name_known (RefusesItems k i n programs) w2 (λ w3 h3. items_known k i n programs w3 h3) h2) h1) m) r) h
+    (λ m. after_name_known _ _ w (λ w1 h1. after_known (key_word key.On) _ w1 (key_is key.On) (λ w2 h2. after_name_known _ (RefusesItems k i n programs) w2 (λ w3 h3. items_known k i n programs w3 h3) h2) h1) m) r) h
 
 resources_known : (k : GrammarFaultKind) (i n : ℕ) (programs : List Program) (words : List Token) → RefusesResources k i n programs words → AreKnown words
 unfolding RefusesResources
-resources_known k i n programs words h = behind_known resource_words _ words resource_is (λ rs w r. resource_known k _ _ programs rs w r) h
+resources_known k i n programs words h = behind_known resource_words _ _ words resource_is (λ rs w r. resource_known k _ _ programs rs w r) h
 
 -- none of the words up to a name refused is unknown
 plant_known : (programs : List Program) (k : GrammarFaultKind) (words : List Token) → RefusesPlantWords programs k words → AreKnown words
 unfolding RefusesBehind
 plant_known programs k words h = after_all_known (flat_map program_words programs) _ words (programs_known programs)
     (λ w r. either_known _ _ w (λ p. program_known k programs w p)
-    (λ c. after_known (key_word key.Configuration) _ w (key_is key.Configuration) (λ w1 h1. after_name_known (RefusesResources k 0 0 programs) w1 (λ w2 h2. resources_known k 0 0 programs w2 h2) h1) c) r) h
+    (λ c. after_known (key_word key.Configuration) _ w (key_is key.Configuration) (λ w1 h1. after_name_known _ (RefusesResources k 0 0 programs) w1 (λ w2 h2. resources_known k 0 0 programs w2 h2) h1) c) r) h
 
 -- a text that begins with its words, as far as they are words, begins with a front of them
 pub begun_by_front : (text : List ℕ) (ws : List WordValue) (words known rest : List Token) → IsBegunBy text ws → map (λ (w : WordValue). w.token) ws ≡ words → words ≡ known ++ rest → AreKnown known

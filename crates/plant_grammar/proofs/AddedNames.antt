@@ -9,11 +9,10 @@ use Rattle.declared_names.specs.declared.declarations.Declaration.{Declaration}
 use Rattle.declared_names.specs.declared.declarations.Declared.{Declared}
 use Rattle.declared_names.specs.Names.{IsDeclared}
 use Rattle.plant_grammar.specs.Names.{is_named}
-use Rattle.plant_grammar.specs.NameFaults.{IsNameTaken}
+use Rattle.plant_grammar.specs.NameFaults.{IsNameTaken, IsNew}
 use Rattle.plant_grammar.specs.Names.{AreNamesApart}
-use Rattle.plant_grammar.specs.Steps.ReadParts.{IsNew, AreVariables}
+use Rattle.plant_grammar.specs.Lawful.{AreVariables, MayBeDeclared}
 use Rattle.plant_grammar.proofs.Apart.{apart_more, list_any-map, any_with}
-use Rattle.plant_grammar.specs.Steps.Refusing.{MayBeDeclared}
 use Rattle.plant_grammar.proofs.NewNames.{may_be_declared}
 
 split_at : {A : Type 0} (xs : List A) (i : ℕ) (x : A) → i < length xs → x ≡ get_or xs i x → xs ≡ take i xs ++ x ∷ drop (suc i) xs
@@ -71,10 +70,12 @@ one_more_declared vs names n may undeclared new few =
       omega (arith, few, length-append names (n ∷ [])),
     )
 
+-- no names may be declared
+pub none_declared : (vs : List Declaration) (names : List (List ℕ)) → AreVariables vs → names ≡ [] → MayBeDeclared vs names
+none_declared vs names are none = subst (λ ns. MayBeDeclared vs ns) (sym none) (subst AreNamesApart (sym (append-nil (map (λ (v : Declaration). v.name) vs))) are.apart, omega (arith, are.few))
+
 -- the first name may be declared, if it is none of the variables
 pub first_declared : (vs : List Declaration) (names : List (List ℕ)) (n : List ℕ) → AreVariables vs → names ≡ [] → (IsDeclared vs n → ⊥) → length vs + length names < 1000 → MayBeDeclared vs (names ++ n ∷ [])
 first_declared vs names n are none undeclared few =
-    let old : List (List ℕ) = map (λ (v : Declaration). v.name) vs in
     let new : IsNew (λ (m : List ℕ). m) [] n = λ taken. absurd (omega (arith, taken.2)) in
-    let may : MayBeDeclared vs [] = (subst AreNamesApart (sym (append-nil old)) are.apart, omega (arith, are.few)) in
-    one_more_declared vs names n (subst (λ ns. MayBeDeclared vs ns) (sym none) may) undeclared (subst (λ ns. IsNew (λ (m : List ℕ). m) ns n) (sym none) new) few
+    one_more_declared vs names n (none_declared vs names are none) undeclared (subst (λ ns. IsNew (λ (m : List ℕ). m) ns n) (sym none) new) few

@@ -8,7 +8,7 @@ use Rattle.std.specs.List.{list_any, find}
 use Rattle.plant_grammar.specs.declared.grammar.tree.Program.{Program}
 use Rattle.plant_grammar.specs.Lawful.{IsProgramLawful, AreProgramsDeclared}
 use Rattle.plant_grammar.specs.Names.{is_named}
-use Rattle.plant_grammar.specs.Steps.ReadParts.{IsNew}
+use Rattle.plant_grammar.specs.NameFaults.{IsNew}
 use Rattle.plant_grammar.proofs.Apart.{list_any-map, apart_more, apart_none}
 use Rattle.plant_grammar.proofs.WordLists.{all_more, grown}
 use Rattle.plant_grammar.specs.Grammar.{TextValue}

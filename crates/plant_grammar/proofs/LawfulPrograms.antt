@@ -20,11 +20,11 @@ use Rattle.plant_grammar.specs.declared.grammar.tree.VarBlock.{VarBlock}
 use Rattle.plant_grammar.specs.declared.grammar.tree.Program.{Program}
 use Rattle.plant_grammar.specs.Grammar.{key_word, mark_word, section_words, type_word, name_words, list_words, lists_words, block_words, program_words}
 use Rattle.plant_grammar.specs.Names.{is_named, AreNamesApart}
-use Rattle.plant_grammar.specs.Lawful.{declared_as, list_variables, lists_variables, block_variables, IsTypeLawful, IsListLawful, IsBlockLawful, IsProgramLawful, AreProgramsDeclared}
+use Rattle.plant_grammar.specs.Lawful.{declared_as, list_variables, lists_variables, block_variables, IsTypeLawful, IsListLawful, IsBlockLawful, IsProgramLawful, AreProgramsDeclared, AreVariables, MayBeDeclared}
 use Rattle.plant_grammar.specs.Parts.{ProgramParts, program_parts}
 use Rattle.plant_grammar.specs.Steps.Lines.{IsNotNext, IsOneNext, IsNoneNext}
-use Rattle.plant_grammar.specs.Steps.ReadParts.{section_start, IsSectionWhole, AreVariables, IsNew}
-use Rattle.plant_grammar.specs.Steps.Refusing.{MayBeDeclared}
+use Rattle.plant_grammar.specs.Steps.ReadParts.{section_start, IsSectionWhole}
+use Rattle.plant_grammar.specs.NameFaults.{IsNew}
 use Rattle.plant_grammar.proofs.Apart.{list_any-map}
 use Rattle.plant_grammar.proofs.NewNames.{behind_others, list_parts}
 use Rattle.plant_grammar.proofs.OneTree.{flat_map_same, next_read, all_read, one_list, list_stops, lists_parts, lists_whole, one_section, block_parts_of, one_block, block_stops, body_no_section, program_parts_of, one_program, program_stops}
@@ -50,7 +50,8 @@ new_name f read all front x more whole same apart taken =
 pub as_many : {A B : Type 0} (f : A → B) (front read : List A) → map f front ≡ map f read → length front ≡ length read
 as_many f front read same = sym (length-map front f) ∙ ap length same ∙ length-map read f
 
-variables_front : (xs ys : List Declaration) → AreVariables (xs ++ ys) → AreVariables xs
+-- variables before others are lawful if all are
+pub variables_front : (xs ys : List Declaration) → AreVariables (xs ++ ys) → AreVariables xs
 variables_front xs ys are = record {
   apart = apart_front (map (λ (v : Declaration). v.name) xs) (map (λ (v : Declaration). v.name) ys) (subst AreNamesApart (map-append (λ (v : Declaration). v.name) xs ys) are.apart);
   few = omega (arith, length-append xs ys, are.few);

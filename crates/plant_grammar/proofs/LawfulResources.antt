@@ -24,10 +24,11 @@ use Rattle.lists.specs.Items.{items_or_none}
 use Rattle.plant_grammar.specs.Steps.SameNames.{named_both}
 use Rattle.plant_grammar.specs.Grammar.{Tree, TextValue, key_word, mark_word, bind_words, with_commas, binds_words, binds_listed, task_words, use_words, item_words, items_words, resource_words, resources_words}
 use Rattle.plant_grammar.specs.Names.{is_named, AreNamesApart}
-use Rattle.plant_grammar.specs.Lawful.{variables, task_of, use_of, uses_of, binds_of, IsUseLawful, IsResourceLawful}
+use Rattle.plant_grammar.specs.Lawful.{variables, task_of, use_of, uses_of, binds_of, IsUseLawful, IsResourceLawful, AreItemsLawful, AreResourcesLawful}
 use Rattle.plant_grammar.specs.Parts.{UseParts, ResourceParts, use_parts, resource_parts}
 use Rattle.plant_grammar.specs.Steps.Lines.{IsWordNext, IsNotNext}
-use Rattle.plant_grammar.specs.Steps.ReadParts.{TallyValue, tally_with, with_instance, EndWithBinds, IsNew, MayFollow, AreItemsLawful, AreResourcesLawful}
+use Rattle.plant_grammar.specs.Steps.ReadParts.{TallyValue, tally_with, with_instance, EndWithBinds, MayFollow}
+use Rattle.plant_grammar.specs.NameFaults.{IsNew}
 use Rattle.plant_grammar.specs.Steps.Reading.{programs_of}
 use Rattle.plant_grammar.specs.Steps.Refusing.{HasRoomFor, AreTypesApart}
 use Rattle.plant_grammar.proofs.Apart.{any_with}

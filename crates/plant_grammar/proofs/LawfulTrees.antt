@@ -12,10 +12,10 @@ use Rattle.plant_grammar.specs.declared.grammar.tree.Resource.{Resource}
 use Rattle.plant_grammar.specs.Kinds.{IsOfInputKind}
 use Rattle.plant_grammar.specs.Grammar.{Tree, TextValue, key_word, program_words, resources_words, words_of}
 use Rattle.plant_grammar.specs.Names.{is_named}
-use Rattle.plant_grammar.specs.Lawful.{uses_of, binds_of, IsUseLawful, IsResourceLawful, IsTreeLawful, AreProgramsDeclared}
+use Rattle.plant_grammar.specs.Lawful.{uses_of, binds_of, IsUseLawful, IsResourceLawful, IsTreeLawful, AreProgramsDeclared, AreResourcesLawful}
 use Rattle.plant_grammar.specs.Parts.{ProgramParts, program_parts, IsSameTree}
 use Rattle.plant_grammar.specs.Steps.Lines.{IsNotNext}
-use Rattle.plant_grammar.specs.Steps.ReadParts.{TallyValue, types_alone, AreResourcesLawful}
+use Rattle.plant_grammar.specs.Steps.ReadParts.{TallyValue, types_alone}
 use Rattle.plant_grammar.specs.Steps.Reading.{programs_of, all_words, tree_written, AreSameWords, IsTreeOf}
 use Rattle.plant_grammar.specs.Steps.Refusing.{HasRoomFor, AreTypesApart}
 use Rattle.plant_grammar.proofs.OneTree.{all_read, one_program, program_stops, configuration_stops, tree_parts_of, one_tree}

@@ -15,9 +15,8 @@ use Rattle.plant_grammar.specs.Steps.SameNames.{named_back}
 use Rattle.plant_grammar.specs.declared.grammar_fault.GrammarFaultKind.{GrammarFaultKind}
 use Rattle.plant_grammar.specs.declared.grammar_fault.GrammarFaultKind.TheVariants.{TooMany}
 use Rattle.plant_grammar.specs.declared.grammar.tree.Bind.{Bind}
-use Rattle.plant_grammar.specs.NameFaults.{IsNameTaken}
-use Rattle.plant_grammar.specs.Steps.ReadParts.{IsNew}
-use Rattle.plant_grammar.specs.Steps.Refusing.{MayBeDeclared}
+use Rattle.plant_grammar.specs.NameFaults.{IsNameTaken, IsNew}
+use Rattle.plant_grammar.specs.Lawful.{MayBeDeclared}
 
 -- a name behind others is none of them
 pub behind_others : (front : List (List ℕ)) (n : List ℕ) (more : List (List ℕ)) → AreNamesApart (front ++ n ∷ more) → (i : ℕ) (x : List ℕ) → i < length front → get_or front i x ≡ x → IsTrue (is_named n x) → ⊥

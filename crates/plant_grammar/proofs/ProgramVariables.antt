@@ -7,7 +7,7 @@ use Rattle.declared_names.specs.declared.declarations.Declared.{Declared}
 use Rattle.declared_names.specs.declared.declarations.DeclareFault.{DeclareFault}
 use Rattle.declared_names.specs.declared.declarations.DeclareFault.TheVariants.{Twice}
 use Rattle.declared_names.specs.Names.{IsDeclared}
-use Rattle.plant_grammar.specs.Steps.ReadParts.{AreVariables}
+use Rattle.plant_grammar.specs.Lawful.{AreVariables}
 use Rattle.plant_grammar.proofs.Apart.{any_with, apart_more}
 use Rattle.plant_grammar.proofs.WordLists.{grown}
 

@@ -121,18 +121,18 @@ begin_after_all ts P start now e b = record {
   behind = b.behind;
 }
 
--- a name was read before
-pub begin_after_name : {R : List Token → Type 0} (n : List ℕ) (P : List Token → Type 0) (start now : List Token) → start ≡ token.Name n ∷ now → BeginWith R P now → BeginWith R (IsAfterName P) start
-begin_after_name n P start now e b =
-    begin_with (IsAfter (token.Name n) P) (IsAfterName P) start (λ front h. record { name = n; after = h }) (begin_after (token.Name n) P start now e b)
+-- a name that may stand there was read before
+pub begin_after_name : {R : List Token → Type 0} (n : List ℕ) (May : List ℕ → Type 0) (P : List Token → Type 0) (start now : List Token) → start ≡ token.Name n ∷ now → May n → BeginWith R P now → BeginWith R (IsAfterName May P) start
+begin_after_name n May P start now e may b =
+    begin_with (IsAfter (token.Name n) P) (IsAfterName May P) start (λ front h. record { name = n; may = may; after = h }) (begin_after (token.Name n) P start now e b)
 
--- whole things were read before
-pub begin_behind : {R : List Token → Type 0} {A : Type 0} (f : A → List Token) (P : List A → List Token → Type 0) (xs : List A) (start now : List Token) → start ≡ flat_map f xs ++ now → BeginWith R (P xs) now → BeginWith R (IsAfterWhole f P) start
-begin_behind f P xs start now e b = record {
+-- whole things that are lawful were read before
+pub begin_behind : {R : List Token → Type 0} {A : Type 0} (f : A → List Token) (L : List A → Type 0) (P : List A → List Token → Type 0) (xs : List A) (start now : List Token) → start ≡ flat_map f xs ++ now → L xs → BeginWith R (P xs) now → BeginWith R (IsAfterWhole f L P) start
+begin_behind f L P xs start now e lawful b = record {
   front = flat_map f xs ++ b.front;
   rest = b.rest;
   parts = e ∙ ap (λ r. flat_map f xs ++ r) b.parts ∙ sym (append_assoc (flat_map f xs) b.front b.rest);
-  holds = record { whole = xs; more = b.front; parts = refl; holds = b.holds };
+  holds = record { whole = xs; more = b.front; parts = refl; lawful = lawful; holds = b.holds };
   behind = b.behind;
 }
 

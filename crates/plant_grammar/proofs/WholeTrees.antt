@@ -6,10 +6,10 @@ use Rattle.plant_text.specs.declared.token.Token.TheVariants as token
 use Rattle.plant_text.specs.declared.token.Keyword.TheVariants as key
 use Rattle.plant_grammar.specs.declared.grammar.tree.Resource.{Resource}
 use Rattle.plant_grammar.specs.Grammar.{TextValue, key_word, program_words, resources_words, words_of}
-use Rattle.plant_grammar.specs.Lawful.{uses_of, binds_of, IsResourceLawful, IsTreeLawful, AreProgramsDeclared}
+use Rattle.plant_grammar.specs.Lawful.{uses_of, binds_of, IsResourceLawful, IsTreeLawful, AreProgramsDeclared, AreResourcesLawful}
 use Rattle.plant_grammar.specs.Steps.Lines.{ReaderValue}
 use Rattle.plant_grammar.specs.Steps.Reading.{programs_of, all_words, tree_written, AreSameWords, AreSameLines, IsTreeOf, BeginWithTexts}
-use Rattle.plant_grammar.specs.Steps.ReadParts.{TallyValue, tally_with, types_alone, AreResourcesLawful}
+use Rattle.plant_grammar.specs.Steps.ReadParts.{TallyValue, tally_with, types_alone}
 
 -- a resource is lawful in each tree of these program types
 lawful_in : (texts : List TextValue) (rs : List Resource) (name : List ℕ) (r : Resource) → IsResourceLawful (types_alone texts) r → IsResourceLawful (tree_written name texts rs) r

@@ -1,6 +1,6 @@
 -- When a plant that is written without a mistake in grammar is lawful too, as far as its words alone tell: its bodies
 -- and its sources aside.
-use Rattle.std.specs.Prelude.{◌≡◌, ℕ, ◌<◌, ◌≤◌, IsTrue, List, [], ◌∷◌, length, map, take, slice_get, Some, All, Any}
+use Rattle.std.specs.Prelude.{◌≡◌, ℕ, ◌+◌, ◌<◌, ◌≤◌, ◌++◌, IsTrue, List, [], ◌∷◌, length, map, take, slice_get, Some, All, Any}
 use Rattle.std.specs.List.{flat_map}
 use Rattle.declared_names.specs.declared.declarations.Declared.{Declared}
 use Rattle.declared_names.specs.declared.declarations.Declared.TheVariants.{Input, Output, Local, Instance}
@@ -55,6 +55,16 @@ IsTypeLawful section.Input (Block b) = ⊥
 IsTypeLawful section.Output (Block b) = ⊥
 IsTypeLawful section.Retained (Block b) = ⊥
 
+-- each name once, and at most 1,000
+pub record AreVariables (variables : List Declaration) : Type 0 where
+  pub apart : AreNamesApart (map (λ v. v.name) variables)
+  pub few : length variables ≤ 1000
+
+-- these names may be declared behind the variables: each is new, and there are at most 1,000 then
+abbrev pub MayBeDeclared : List Declaration → List (List ℕ) → Type 0
+MayBeDeclared variables names =
+    AreNamesApart (map (λ v. v.name) variables ++ names) × (length variables + length names ≤ 1000)
+
 -- a list has a name, and a type that its section may have
 pub record IsListLawful (s : Section) (l : NameList) : Type 0 where
   pub some : 0 < length l.names.items
@@ -104,6 +114,18 @@ pub record IsUseLawful (tree : Tree) (before : List Item) (u : Use) : Type 0 whe
       tree.programs
   pub apart : AreNamesApart (map (λ b. b.input) (binds_of u))
 
+-- the tree of program types alone
+abbrev pub programs_alone : List Program → Tree
+programs_alone programs = record { programs = programs; name = []; resources = [] }
+
+-- the lines of a resource: at most 16 tasks, none of interval 0, names apart, and lawful instances
+pub record AreItemsLawful (tree : Tree) (items : List Item) : Type 0 where
+  pub tasks_apart : AreNamesApart (map (λ t. t.name) (flat_map task_of items))
+  pub few_tasks : length (flat_map task_of items) ≤ 16
+  pub intervals : All (λ t. 0 < t.interval) (flat_map task_of items)
+  pub instances_apart : AreNamesApart (map (λ u. u.instance) (flat_map use_of items))
+  pub uses_lawful : (k : ℕ) (u : Use) → slice_get items k ≡ Some (item.Use u) → IsUseLawful tree (take k items) u
+
 -- a resource: at most 16 tasks, none of interval 0, names apart, and lawful instances
 pub record IsResourceLawful (tree : Tree) (r : Resource) : Type 0 where
   pub tasks_apart : AreNamesApart (map (λ t. t.name) (tasks_of r))
@@ -112,6 +134,18 @@ pub record IsResourceLawful (tree : Tree) (r : Resource) : Type 0 where
   pub instances_apart : AreNamesApart (map (λ u. u.instance) (uses_of r))
   pub uses_lawful : (k : ℕ) (u : Use) → slice_get r.items.items k ≡ Some (item.Use u)
       → IsUseLawful tree (take k r.items.items) u
+
+-- resources: at most 16, their names apart, and each lawful
+pub record AreResourcesLawful (tree : Tree) (resources : List Resource) : Type 0 where
+  pub few : length resources ≤ 16
+  pub apart : AreNamesApart (map (λ r. r.name) resources)
+  pub lawful : All (IsResourceLawful tree) resources
+
+-- behind so many instances and binds these instances and their binds may be counted too: a plant has at most 64
+-- instances and 4,096 binds
+abbrev pub MayBeCounted : ℕ → ℕ → List Use → Type 0
+MayBeCounted instances binds uses =
+    (instances + length uses ≤ 64) × (binds + length (flat_map binds_of uses) ≤ 4096)
 
 -- all instances of a plant
 abbrev pub all_uses : Tree → List Use

@@ -1,6 +1,7 @@
--- The word at which a plant's text is refused: a name that its space has already, or that is one too many; a name that
--- isn't declared where it is sought; an input that is bound already; a type or an address of another kind.
-use Rattle.std.specs.Prelude.{◌≡◌, ◌≢◌, ◌⊎◌, ℕ, ◌+◌, ◌≤◌, IsTrue, List, [], ◌∷◌, ◌++◌, length, Any, Some, None}
+-- The first word at which a plant's text is refused: a name that its space has already, or that is one too many; a name
+-- that isn't declared where it is sought; an input that is bound already; a type or an address of another kind. What stands
+-- whole before that word is lawful, and what was read of the declaration that it stands in has no fault.
+use Rattle.std.specs.Prelude.{◌≡◌, ◌≢◌, ◌⊎◌, ℕ, ◌+◌, ◌<◌, ◌≤◌, IsTrue, List, [], ◌∷◌, ◌++◌, length, map, All, Any, Some, None}
 use Rattle.std.specs.List.{flat_map}
 use Rattle.std_blocks.specs.declared.block_type.BlockType.{BlockType}
 use Rattle.declared_names.specs.declared.declarations.Declaration.{Declaration}
@@ -23,10 +24,10 @@ use Rattle.plant_grammar.specs.declared.grammar.tree.Use.{Use}
 use Rattle.plant_grammar.specs.declared.grammar.tree.Item.{Item}
 use Rattle.plant_grammar.specs.declared.grammar.tree.Resource.{Resource}
 use Rattle.plant_grammar.specs.Grammar.{key_word, mark_word, section_words, name_words, list_words, block_words, bind_words, item_words, resource_words}
-use Rattle.plant_grammar.specs.Kinds.{input_kind_of}
+use Rattle.plant_grammar.specs.Kinds.{input_kind_of, IsOfInputKind}
 use Rattle.declared_names.specs.Kinds.{kind_of_space}
-use Rattle.plant_grammar.specs.Names.{is_named}
-use Rattle.plant_grammar.specs.Lawful.{list_variables, block_variables, variables, IsTypeLawful, task_of, use_of, uses_of, binds_of}
+use Rattle.plant_grammar.specs.Names.{is_named, AreNamesApart}
+use Rattle.plant_grammar.specs.Lawful.{list_variables, block_variables, variables, AreVariables, MayBeDeclared, IsTypeLawful, IsListLawful, IsBlockLawful, task_of, use_of, uses_of, binds_of, programs_alone, AreItemsLawful, AreResourcesLawful, MayBeCounted}
 
 -- one of the kinds of faults of a word that stands where the grammar has one like it: all but Syntax and Memory
 abbrev pub IsOfName : GrammarFaultKind → Type 0
@@ -61,6 +62,10 @@ TellsOfSoughtName k unknown bound full = Tells k ⊥ unknown ⊥ bound (full × 
 abbrev pub IsNameTaken : {A : Type 0} → (A → List ℕ) → List A → List ℕ → Type 0
 IsNameTaken name_of xs name = Any (λ x. IsTrue (is_named name (name_of x))) xs
 
+-- nothing in the list has this name
+abbrev pub IsNew : {A : Type 0} (name_of : A → List ℕ) (xs : List A) → List ℕ → Type 0
+IsNew name_of xs name = IsNameTaken name_of xs name → ⊥
+
 -- The words are a name alone. The kind is NameTwice only where the name is taken, and TooMany only where it isn't, but
 -- there are as many as there may be.
 pub record IsRefused (k : GrammarFaultKind) (Taken : List ℕ → Type 0) (full : Type 0)
@@ -93,18 +98,24 @@ pub record IsAfterAll (front : List Token) (P : List Token → Type 0) (words : 
   pub parts : words ≡ front ++ more
   pub holds : P more
 
--- any name, and behind it words of which this holds
-pub record IsAfterName (P : List Token → Type 0) (words : List Token) : Type 0 where
+-- a name that may stand there, and behind it words of which this holds
+pub record IsAfterName (MayStand : List ℕ → Type 0) (P : List Token → Type 0) (words : List Token) : Type 0 where
   pub name : List ℕ
+  pub may : MayStand name
   pub after : IsAfter (token.Name name) P words
 
--- the words of whole things, one after the other, and behind them words of which this holds
-pub record IsAfterWhole {A : Type 0} (words_of_one : A → List Token) (P : List A → List Token → Type 0)
-    (words : List Token) : Type 0 where
+-- the words of lawful things, whole and one after the other, and behind them words of which this holds
+pub record IsAfterWhole {A : Type 0} (words_of_one : A → List Token) (AreLawful : List A → Type 0)
+    (P : List A → List Token → Type 0) (words : List Token) : Type 0 where
   pub whole : List A
   pub more : List Token
   pub parts : words ≡ flat_map words_of_one whole ++ more
+  pub lawful : AreLawful whole
   pub holds : P whole more
+
+-- any name
+abbrev pub IsAnyName : List ℕ → Type 0
+IsAnyName name = Unit {0}
 
 -- a name, and the comma behind it
 abbrev pub name_and_comma : List ℕ → List Token
@@ -114,40 +125,52 @@ name_and_comma name = token.Name name ∷ mark_word Comma ∷ []
 abbrev pub bind_and_comma : Bind → List Token
 bind_and_comma b = bind_words b ++ mark_word Comma ∷ []
 
--- names of a list up to the one refused, which these variables of its program have or an earlier name of the list;
--- 1,000 variables are the most
+-- names of a list, which may be declared, up to the one refused, which these variables of its program have or an earlier
+-- name of the list; 1,000 variables are the most
 unfoldable pub RefusesVariable : GrammarFaultKind → List Declaration → List Token → Type 0
 RefusesVariable k before words =
-    IsAfterWhole name_and_comma
+    IsAfterWhole name_and_comma (MayBeDeclared before)
     (λ names more. IsRefused k
     (λ n. IsNameTaken (λ (v : Declaration). v.name) before n ⊎ IsNameTaken (λ (m : List ℕ). m) names n)
     (1000 ≤ length before + length names) more) words
 
--- names, a colon, and the type of a block, which the section doesn't have
-pub record RefusesType (k : GrammarFaultKind) (s : Section) (words : List Token) : Type 0 where
+-- names, which may be declared behind these variables, a colon, and the type of a block, which the section doesn't have
+pub record RefusesType (k : GrammarFaultKind) (s : Section) (before : List Declaration) (words : List Token) : Type 0 where
   pub names : List (List ℕ)
   pub block : BlockType
   pub parts : words ≡ name_words names ++ mark_word Colon ∷ token.Block block ∷ []
+  pub some : 0 < length names
+  pub may : MayBeDeclared before names
   pub told : Tells k ⊥ ⊥ (IsTypeLawful s (Block block) → ⊥) ⊥ ⊥
 
 -- a list up to the name or the type refused
 abbrev pub RefusesOneList : Section → List Declaration → GrammarFaultKind → List Token → Type 0
-RefusesOneList s before k words = RefusesVariable k before words ⊎ RefusesType k s words
+RefusesOneList s before k words = RefusesVariable k before words ⊎ RefusesType k s before words
+
+-- lawful lists of a section, which with these variables before them declare each name once, and at most 1,000
+abbrev pub AreListsLawful : Section → List Declaration → List NameList → Type 0
+AreListsLawful s before lists =
+    All (IsListLawful s) lists × AreVariables (before ++ flat_map (list_variables s) lists)
 
 -- lists of a section up to the word refused, behind these variables of the program
 unfoldable pub RefusesList : GrammarFaultKind → Section → List Declaration → List Token → Type 0
 RefusesList k s before words =
-    IsAfterWhole list_words
+    IsAfterWhole list_words (AreListsLawful s before)
     (λ (lists : List NameList) more. RefusesOneList s (before ++ flat_map (list_variables s) lists) k more) words
 
 -- the words of a section, and its lists up to a word refused
 unfoldable pub RefusesBlock : GrammarFaultKind → List Declaration → List Token → Type 0
 RefusesBlock k before words = (s : Section) × IsAfterAll (section_words s) (RefusesList k s before) words
 
--- the blocks of a program up to a name refused, behind these variables of the program
+-- lawful blocks, which with these variables before them declare each name once, and at most 1,000
+abbrev pub AreBlocksLawful : List Declaration → List VarBlock → Type 0
+AreBlocksLawful before blocks =
+    All IsBlockLawful blocks × AreVariables (before ++ flat_map block_variables blocks)
+
+-- the blocks of a program up to a word refused, behind these variables of the program
 unfoldable pub RefusesBlocks : GrammarFaultKind → List Declaration → List Token → Type 0
 RefusesBlocks k before words =
-    IsAfterWhole block_words
+    IsAfterWhole block_words (AreBlocksLawful before)
     (λ (blocks : List VarBlock) more. RefusesBlock k (before ++ flat_map block_variables blocks) more) words
 
 -- the name of a program, if one of these programs has it or they are 64
@@ -155,11 +178,15 @@ abbrev pub RefusesProgramName : GrammarFaultKind → List Program → List Token
 RefusesProgramName k before words =
     IsRefused k (IsNameTaken (λ (p : Program). p.name) before) (64 ≤ length before) words
 
--- a program up to its own name, if these programs have it or are 64, or up to a variable refused
+-- a program may have the name: none of these has it, and they are fewer than 64
+abbrev pub MayNameProgram : List Program → List ℕ → Type 0
+MayNameProgram before name = IsNew (λ (p : Program). p.name) before name × (length before < 64)
+
+-- a program up to its own name, if these programs have it or are 64, or up to a word refused in its blocks
 unfoldable pub RefusesProgram : GrammarFaultKind → List Program → List Token → Type 0
 RefusesProgram k before words =
     IsAfter (key_word key.Program)
-    (λ more. RefusesProgramName k before more ⊎ IsAfterName (RefusesBlocks k []) more) words
+    (λ more. RefusesProgramName k before more ⊎ IsAfterName (MayNameProgram before) (RefusesBlocks k []) more) words
 
 -- a task up to its name, if a task of these lines of its resource has it or 16 of them are tasks
 unfoldable pub RefusesTask : GrammarFaultKind → List Item → List Token → Type 0
@@ -174,23 +201,34 @@ abbrev pub RefusesInput : GrammarFaultKind → ℕ → List Declaration → List
 RefusesInput k binds ds before words =
     IsMisused k (λ n. input_kind_of ds n ≡ None) (IsNameTaken (λ (b : Bind). b.input) before) (4096 ≤ binds) words
 
--- a bind up to its address, which is of another kind than the input
-pub record RefusesAddress (k : GrammarFaultKind) (ds : List Declaration) (words : List Token) : Type 0 where
+-- a bind up to its address, which is of another kind than the input; none of these binds has the input, and the plant has
+-- fewer than 4,096
+pub record RefusesAddress (k : GrammarFaultKind) (binds : ℕ) (ds : List Declaration) (before : List Bind)
+    (words : List Token) : Type 0 where
   pub input : List ℕ
   pub address : Address
   pub its : Kind
   pub parts : words ≡ token.Name input ∷ mark_word Assign ∷ token.Address address ∷ []
   pub its_is : input_kind_of ds input ≡ Some its
+  pub new : IsNew (λ (b : Bind). b.input) before input
+  pub few : binds < 4096
   pub told : Tells k ⊥ ⊥ (kind_of_space address.space ≢ its) ⊥ ⊥
 
 -- a bind up to the word refused, behind so many binds of the plant and these of its instance
 abbrev pub RefusesOneBind : ℕ → List Declaration → List Bind → GrammarFaultKind → List Token → Type 0
-RefusesOneBind binds ds before k words = RefusesInput k binds ds before words ⊎ RefusesAddress k ds words
+RefusesOneBind binds ds before k words = RefusesInput k binds ds before words ⊎ RefusesAddress k binds ds before words
+
+-- binds of an instance whose type has these variables: no input twice, no address of another kind than its input, and with
+-- so many of the plant before them at most 4,096
+pub record AreBindsLawful (binds : ℕ) (ds : List Declaration) (bs : List Bind) : Type 0 where
+  pub apart : AreNamesApart (map (λ b. b.input) bs)
+  pub kinds : All (IsOfInputKind ds) bs
+  pub few : binds + length bs ≤ 4096
 
 -- binds of an instance whose type has these variables, up to the word refused, behind so many binds of the plant
 unfoldable pub RefusesBind : GrammarFaultKind → ℕ → List Declaration → List Token → Type 0
 RefusesBind k binds ds words =
-    IsAfterWhole bind_and_comma
+    IsAfterWhole bind_and_comma (AreBindsLawful binds ds)
     (λ (before : List Bind) more. RefusesOneBind (binds + length before) ds before k more) words
 
 -- the name of one of these programs, and behind it words of which this holds of that program
@@ -206,18 +244,27 @@ RefusesTyped k binds programs words =
     IsUnknown k (λ (p : Program). p.name) programs words
     ⊎ IsAfterType programs (λ p more. IsAfter (mark_word Open) (RefusesBind k binds (variables p)) more) words
 
--- Behind the name of a program instance: WITH and its task, which is none of these lines, or its task, a colon, and its
--- type or its binds up to a word refused.
+-- one of these lines is a task of the name
+abbrev pub NamesTask : List Item → List ℕ → Type 0
+NamesTask before name = IsNameTaken (λ (t : TaskLine). t.name) (flat_map task_of before) name
+
+-- Behind the name of a program instance: WITH and its task, which is none of these lines, or a task that is one of them, a
+-- colon, and its type or its binds up to a word refused.
 unfoldable pub RefusesBinds : GrammarFaultKind → ℕ → List Program → List Item → List Token → Type 0
 RefusesBinds k binds programs before words =
     IsAfter (key_word key.With)
     (λ more. IsUnknown k (λ (t : TaskLine). t.name) (flat_map task_of before) more
-    ⊎ IsAfterName (IsAfter (mark_word Colon) (RefusesTyped k binds programs)) more) words
+    ⊎ IsAfterName (NamesTask before) (IsAfter (mark_word Colon) (RefusesTyped k binds programs)) more) words
 
 -- the name of a program instance, if an instance of these lines of its resource has it or the plant has 64
 abbrev pub RefusesInstanceName : GrammarFaultKind → ℕ → List Item → List Token → Type 0
 RefusesInstanceName k instances before words =
     IsRefused k (IsNameTaken (λ (u : Use). u.instance) (flat_map use_of before)) (64 ≤ instances) words
+
+-- an instance may have the name: none of these lines of its resource is an instance of it, and the plant has fewer than 64
+abbrev pub MayNameInstance : ℕ → List Item → List ℕ → Type 0
+MayNameInstance instances before name =
+    IsNew (λ (u : Use). u.instance) (flat_map use_of before) name × (instances < 64)
 
 -- A program instance of one of these programs, behind so many instances and binds of the plant and these lines of its
 -- resource: up to its name, if an instance of these lines has it or the plant has 64, or up to a word behind it.
@@ -225,12 +272,17 @@ unfoldable pub RefusesInstance : GrammarFaultKind → ℕ → ℕ → List Progr
 RefusesInstance k instances binds programs before words =
     IsAfter (key_word key.Program)
     (λ more. RefusesInstanceName k instances before more
-    ⊎ IsAfterName (RefusesBinds k binds programs before) more) words
+    ⊎ IsAfterName (MayNameInstance instances before) (RefusesBinds k binds programs before) more) words
+
+-- lawful lines of a resource, in a plant of these programs, whose instances and binds may be counted behind so many
+abbrev pub AreItemsLawfulBehind : ℕ → ℕ → List Program → List Item → Type 0
+AreItemsLawfulBehind instances binds programs items =
+    AreItemsLawful (programs_alone programs) items × MayBeCounted instances binds (flat_map use_of items)
 
 -- the lines of a resource up to a word refused, behind so many instances and binds of the plant
 unfoldable pub RefusesItems : GrammarFaultKind → ℕ → ℕ → List Program → List Token → Type 0
 RefusesItems k instances binds programs words =
-    IsAfterWhole item_words
+    IsAfterWhole item_words (AreItemsLawfulBehind instances binds programs)
     (λ (items : List Item) more. RefusesTask k items more
     ⊎ RefusesInstance k (instances + length (flat_map use_of items))
     (binds + length (flat_map binds_of (flat_map use_of items))) programs items more) words
@@ -240,18 +292,28 @@ abbrev pub RefusesResourceName : GrammarFaultKind → List Resource → List Tok
 RefusesResourceName k before words =
     IsRefused k (IsNameTaken (λ (r : Resource). r.name) before) (16 ≤ length before) words
 
+-- a resource may have the name: none of these has it, and they are fewer than 16
+abbrev pub MayNameResource : List Resource → List ℕ → Type 0
+MayNameResource before name = IsNew (λ (r : Resource). r.name) before name × (length before < 16)
+
 -- A resource behind so many instances and binds of the plant: up to its own name, if these resources have it or are
 -- 16, or up to a word refused in one of its lines.
 unfoldable pub RefusesResource : GrammarFaultKind → ℕ → ℕ → List Program → List Resource → List Token → Type 0
 RefusesResource k instances binds programs before words =
     IsAfter (key_word key.Resource)
     (λ more. RefusesResourceName k before more
-    ⊎ IsAfterName (IsAfter (key_word key.On) (IsAfterName (RefusesItems k instances binds programs))) more) words
+    ⊎ IsAfterName (MayNameResource before)
+    (IsAfter (key_word key.On) (IsAfterName IsAnyName (RefusesItems k instances binds programs))) more) words
+
+-- lawful resources, in a plant of these programs, whose instances and binds may be counted behind so many
+abbrev pub AreResourcesLawfulBehind : ℕ → ℕ → List Program → List Resource → Type 0
+AreResourcesLawfulBehind instances binds programs rs =
+    AreResourcesLawful (programs_alone programs) rs × MayBeCounted instances binds (flat_map uses_of rs)
 
 -- resources up to a word refused, behind so many instances and binds of the plant
 unfoldable pub RefusesResources : GrammarFaultKind → ℕ → ℕ → List Program → List Token → Type 0
 RefusesResources k instances binds programs words =
-    IsAfterWhole resource_words
+    IsAfterWhole resource_words (AreResourcesLawfulBehind instances binds programs)
     (λ (rs : List Resource) more. RefusesResource k (instances + length (flat_map uses_of rs))
     (binds + length (flat_map binds_of (flat_map uses_of rs))) programs rs more) words
 
@@ -260,4 +322,4 @@ RefusesResources k instances binds programs words =
 unfoldable pub RefusesBehind : GrammarFaultKind → List Program → List Token → Type 0
 RefusesBehind k programs words =
     RefusesProgram k programs words
-    ⊎ IsAfter (key_word key.Configuration) (IsAfterName (RefusesResources k 0 0 programs)) words
+    ⊎ IsAfter (key_word key.Configuration) (IsAfterName IsAnyName (RefusesResources k 0 0 programs)) words

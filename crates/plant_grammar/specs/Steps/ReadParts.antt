@@ -1,5 +1,5 @@
 -- What is known of the parts of a plant's text while it is read.
-use Rattle.std.specs.Prelude.{◌≡◌, ℕ, ◌+◌, ◌<◌, ◌≤◌, ◌++◌, ◌∷◌, Bool, true, false, List, [], length, map, take, slice_get, Option, None, Some, MatchOption, IsTrue, All, Any}
+use Rattle.std.specs.Prelude.{◌≡◌, ℕ, ◌+◌, ◌<◌, ◌++◌, ◌∷◌, Bool, true, false, List, [], length, Option, None, Some, MatchOption, IsTrue, Any}
 use Rattle.declared_names.specs.Names.{place_of}
 use Rattle.std.specs.List.{flat_map}
 use Rattle.std.specs.Global.{Vec}
@@ -7,7 +7,6 @@ use Rattle.plant_grammar.specs.declared.grammar.tree.Use.{Use}
 use Rattle.declared_names.specs.declared.declarations.Declaration.{Declaration}
 use Rattle.plant_grammar.specs.declared.grammar.tree.Item.{Item}
 use Rattle.plant_grammar.specs.declared.grammar.tree.Item.TheVariants as item
-use Rattle.plant_grammar.specs.declared.grammar.tree.Resource.{Resource}
 use Rattle.declared_names.specs.declared.declarations.Kind.{Kind}
 use Rattle.plant_grammar.specs.Kinds.{input_kind_of}
 use Rattle.declared_names.specs.Kinds.{input_kind_at}
@@ -19,9 +18,9 @@ use Rattle.plant_text.specs.declared.token.Punctuation.TheVariants.{Close}
 use Rattle.plant_grammar.specs.declared.grammar.tree.Section.{Section}
 use Rattle.plant_grammar.specs.declared.grammar.tree.Section.TheVariants as section
 use Rattle.plant_grammar.specs.Grammar.{Tree, TextValue, key_word, mark_word, with_commas, binds_listed}
-use Rattle.plant_grammar.specs.Names.{is_named, AreNamesApart}
-use Rattle.plant_grammar.specs.NameFaults.{IsNameTaken}
-use Rattle.plant_grammar.specs.Lawful.{task_of, use_of, binds_of, IsUseLawful, IsResourceLawful}
+use Rattle.plant_grammar.specs.Names.{is_named}
+use Rattle.plant_grammar.specs.NameFaults.{IsNew}
+use Rattle.plant_grammar.specs.Lawful.{task_of, use_of, binds_of, programs_alone, IsUseLawful}
 use Rattle.plant_grammar.specs.declared.grammar.tree.SourceName.{SourceName}
 use Rattle.plant_grammar.specs.declared.grammar.tree.SourceLines.{SourceLines}
 use Rattle.plant_grammar.specs.SourceLines.{IsSourceOn, AreBindsOn}
@@ -69,16 +68,7 @@ EndWithBinds binds words rest = words ≡ with_commas binds ++ mark_word Close �
 
 -- the program types alone
 abbrev pub types_alone : List TextValue → Tree
-types_alone types = record { programs = programs_of types; name = []; resources = [] }
-
--- each name once, and at most 1,000
-pub record AreVariables (variables : List Declaration) : Type 0 where
-  pub apart : AreNamesApart (map (λ v. v.name) variables)
-  pub few : length variables ≤ 1000
-
--- nothing in the list has this name
-abbrev pub IsNew : {A : Type 0} (name_of : A → List ℕ) (xs : List A) → List ℕ → Type 0
-IsNew name_of xs name = IsNameTaken name_of xs name → ⊥
+types_alone types = programs_alone (programs_of types)
 
 abbrev pub is_task_line : Item → Bool
 is_task_line (item.Task t) = true
@@ -94,20 +84,6 @@ MayFollow tree before (item.Task t) =
     IsNew (λ t. t.name) (flat_map task_of before) t.name × (length (flat_map task_of before) < 16) × (0 < t.interval)
 MayFollow tree before (item.Use u) =
     IsNew (λ u. u.instance) (flat_map use_of before) u.instance × IsUseLawful tree before u
-
--- the lines of a resource: at most 16 tasks, none of interval 0, names apart, and lawful instances
-pub record AreItemsLawful (tree : Tree) (items : List Item) : Type 0 where
-  pub tasks_apart : AreNamesApart (map (λ t. t.name) (flat_map task_of items))
-  pub few_tasks : length (flat_map task_of items) ≤ 16
-  pub intervals : All (λ t. 0 < t.interval) (flat_map task_of items)
-  pub instances_apart : AreNamesApart (map (λ u. u.instance) (flat_map use_of items))
-  pub uses_lawful : (k : ℕ) (u : Use) → slice_get items k ≡ Some (item.Use u) → IsUseLawful tree (take k items) u
-
--- resources: at most 16, their names apart, and each lawful
-pub record AreResourcesLawful (tree : Tree) (resources : List Resource) : Type 0 where
-  pub few : length resources ≤ 16
-  pub apart : AreNamesApart (map (λ r. r.name) resources)
-  pub lawful : All (IsResourceLawful tree) resources
 
 -- the place of the input of this name, with its kind; none where the name is no input's
 abbrev pub FindsInput : List Declaration → List ℕ → Option (ℕ × Kind) → Type 0

@@ -14,13 +14,12 @@ ghost use Rattle.plant_grammar.specs.declared.grammar.tree.Program.{Program};
 ghost use Rattle.plant_grammar.specs.declared.grammar_fault.GrammarFaultKind.TheVariants.{Memory, Syntax};
 ghost use Rattle.plant_text.specs.declared.token.Keyword.TheVariants as key;
 ghost use Rattle.plant_text.specs.declared.token.Punctuation.TheVariants.{Colon, Semicolon, Comma};
-ghost use Rattle.plant_grammar.specs.Steps.Refusing.{MayBeDeclared};
 ghost use Rattle.plant_grammar.specs.Grammar.{key_word, mark_word, section_words, kind_word, type_word, name_words, list_words, lists_words, block_words, program_words};
-ghost use Rattle.plant_grammar.specs.Lawful.{list_variables, lists_variables, block_variables, IsTypeLawful, IsListLawful, IsBlockLawful, IsProgramLawful, AreProgramsDeclared};
-ghost use Rattle.plant_grammar.specs.NameFaults.{TellsOfName, RefusesVariable, RefusesOneList, RefusesList, RefusesBlock, RefusesBlocks, RefusesProgram};
+ghost use Rattle.plant_grammar.specs.Lawful.{list_variables, lists_variables, block_variables, IsTypeLawful, IsListLawful, IsBlockLawful, IsProgramLawful, AreProgramsDeclared, MayBeDeclared, AreVariables};
+ghost use Rattle.plant_grammar.specs.NameFaults.{IsOfName, TellsOfName, RefusesVariable, RefusesOneList, RefusesList, RefusesBlock, RefusesBlocks, RefusesProgram, IsNew};
 ghost use Rattle.plant_grammar.specs.Steps.Declaring.{TellsOfType, TellsOfVariable, TellsOfBlock, BeginRefused, BeginRefusedBehind, IsAtNext, RefusesFurtherProgram};
 ghost use Rattle.plant_grammar.specs.Steps.Lines.{next_line, syntax_at, KeepsLines, IsNotNext, IsOneNext, IsNoneNext};
-ghost use Rattle.plant_grammar.specs.Steps.ReadParts.{section_start, IsSectionWhole, IsNew, AreVariables};
+ghost use Rattle.plant_grammar.specs.Steps.ReadParts.{section_start, IsSectionWhole};
 ghost use Rattle.plant_grammar.specs.Steps.Expected.{Key, AName, ABody, AType, ASection, MorePrograms, MoreBlocks, MoreLists, MoreNames, program_rest, list_rest, GetsStuck};
 ghost use Rattle.plant_grammar.specs.Steps.Reading.{programs_of, all_words, AreAllPrograms, AreSameWords, AreSameLines, BeginWithWordsOf, BeginWithLinesOf};
 
@@ -53,6 +52,7 @@ impl<'a> Reader<'a> {
         ensures bodies { OnOk result (self.new.bodies ≡ self.old.bodies) }
         ensures other { IfErr result (λ e. e.kind ≢ Memory → (name : List ℕ) (rest : List Token) → self.old.words ≡ token.Name name ∷ rest → (IsDeclared variables.now name → ⊥) → IsNew (λ n. n) before.now name → length variables.now + length before.now < 1000 → ⊥) }
         ensures lawful { OnOk result (AreVariables variables.now) }
+        ensures before { IfErr result (λ e. IsOfName e.kind → AreVariables variables.now) }
         ensures new { IfOk result (λ name. (IsDeclared variables.now name → ⊥) × IsNew (λ n. n) before.now name × (length variables.now + length before.now < 1000)) }
         ensures tells { IfErr result (TellsOfVariable variables.now before.now self.old.words) }
         ensures line { IfErr result (IsAtNext self.old) }

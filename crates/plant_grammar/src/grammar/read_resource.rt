@@ -20,12 +20,12 @@ ghost use Rattle.plant_text.specs.declared.token.Keyword.TheVariants as key;
 ghost use Rattle.plant_text.specs.declared.token.Punctuation.TheVariants as mark;
 ghost use Rattle.plant_grammar.specs.Grammar.{key_word, mark_word, interval_words, priority_words, settings, task_words, source_words, bind_words, binds_words, binds_listed, use_words, item_words, items_words, resource_words, resources_words};
 ghost use Rattle.plant_grammar.specs.Names.{is_named, AreNamesApart};
-ghost use Rattle.plant_grammar.specs.Lawful.{variables, task_of, use_of, uses_of, IsUseLawful, IsResourceLawful};
+ghost use Rattle.plant_grammar.specs.Lawful.{variables, task_of, use_of, uses_of, IsUseLawful, IsResourceLawful, AreItemsLawful, AreResourcesLawful};
 ghost use Rattle.plant_grammar.specs.SourceLines.{IsUseOn, IsItemOn, EachBefore, IsResourceOn, AreSourcesOn};
 ghost use Rattle.plant_grammar.specs.Steps.Lines.{HasLinesOf, KeepsLines, IsNotNext, IsNoneNext};
-ghost use Rattle.plant_grammar.specs.NameFaults.{TellsOfName, IsUnknown, IsAfter, RefusesTask, RefusesOneBind, RefusesBind};
+ghost use Rattle.plant_grammar.specs.NameFaults.{TellsOfName, IsUnknown, IsAfter, RefusesTask, RefusesOneBind, RefusesBind, IsNew};
 ghost use Rattle.plant_grammar.specs.Steps.Declaring.{TellsOfTask, TellsOfInstance, TellsOfMissing, TellsOfInput, TellsOfAddress, TellsOfResource, BeginRefused, IsAtNext, RefusesFurtherInstance, RefusesItem, RefusesFurtherItems, RefusesFurtherResource, RefusesFurtherResources, RefusesInParentheses};
-ghost use Rattle.plant_grammar.specs.Steps.ReadParts.{types_alone, with_instance, with_binds, tally_with, EndWithBinds, bound_in, IsNew, MayFollow, AreItemsLawful, AreResourcesLawful, KeepsLinesOf, AreKeptLines};
+ghost use Rattle.plant_grammar.specs.Steps.ReadParts.{types_alone, with_instance, with_binds, tally_with, EndWithBinds, bound_in, MayFollow, KeepsLinesOf, AreKeptLines};
 ghost use Rattle.plant_grammar.specs.Steps.Expected.{Key, Mark, AName, ASource, AnItem, MayHaveBinds, TheSettings, FirstBind, MoreItems, MoreResources, interval_rest, priority_rest, task_rest, bind_rest, instance_rest, resource_rest, GetsStuck};
 ghost use Rattle.plant_grammar.specs.Steps.Reading.{programs_of};
 ghost use Rattle.plant_grammar.specs.Steps.Refusing.{HasRoomFor, AreTypesApart};
@@ -240,6 +240,7 @@ impl<'a> Reader<'a> {
         ensures new { IfOk result (λ i. IsNew (λ b. b.input) before.now i.0) }
         ensures kind { IfOk result (λ i. input_kind_of (variables program.now.program) i.0 ≡ Some i.1) }
         ensures tally { OnOk result (tally.new ≡ with_binds tally.old 1) }
+        ensures few { OnOk result (tally.old.binds < 4096) }
         ensures other { IfErr result (λ e. e.kind ≢ Memory → (name : List ℕ) (k : Kind) (rest : List Token) → self.old.words ≡ token.Name name ∷ rest → input_kind_of (variables program.now.program) name ≡ Some k → IsNew (λ b. b.input) before.now name → tally.old.binds < 4096 → ⊥) }
         ensures tells { IfErr result (TellsOfInput tally.old.binds (variables program.now.program) before.now self.old.words) }
         ensures line { IfErr result (IsAtNext self.old) }
@@ -309,9 +310,13 @@ impl<'a> Reader<'a> {
         ensures value { IfErr result IsGrammarFault }
     {
         let mut binds = Vec::new(alloc);
+        // The getter hands out that the plant has at most 4,096 binds so far.
+        let _bound = tally.binds();
         if !self.sees_punctuation(Punctuation::Close) {
             binds.push(self.bind(alloc, program, &binds, tally, lines)?)?;
             'binds: while self.sees_punctuation(Punctuation::Comma) {
+                // So it does with those of this instance.
+                let _bound = tally.binds();
                 self.punctuation(Punctuation::Comma)?;
                 binds.push(self.bind(alloc, program, &binds, tally, lines)?)?;
             }
@@ -363,6 +368,7 @@ impl<'a> Reader<'a> {
         ensures left { OnOk result (KeepsLines self.old self.new) }
         ensures new { IfOk result (λ name. IsNew (λ u. u.instance) (flat_map use_of before.now) name) }
         ensures tally { OnOk result (tally.new ≡ with_instance tally.old) }
+        ensures few { OnOk result (tally.old.instances < 64) }
         ensures other { IfErr result (λ e. e.kind ≢ Memory → (name : List ℕ) (rest : List Token) → self.old.words ≡ token.Name name ∷ rest → IsNew (λ u. u.instance) (flat_map use_of before.now) name → tally.old.instances < 64 → ⊥) }
         ensures tells { IfErr result (TellsOfInstance before.now tally.old.instances self.old.words) }
         ensures line { IfErr result (IsAtNext self.old) }
@@ -409,6 +415,7 @@ impl<'a> Reader<'a> {
         ensures left { OnOk result (KeepsLines self.old self.new) }
         ensures new { IfOk result (λ name. IsNew (λ u. u.instance) (flat_map use_of before.now) name) }
         ensures tally { OnOk result (tally.new ≡ with_instance tally.old) }
+        ensures few { OnOk result (tally.old.instances < 64) }
         ensures other { IfErr result (λ e. e.kind ≢ Memory → (name : List ℕ) (rest : List Token) → self.old.words ≡ key_word key.Program ∷ token.Name name ∷ rest → IsNew (λ u. u.instance) (flat_map use_of before.now) name → tally.old.instances < 64 → ⊥) }
         ensures names { (programs : List ProgramTree) → IfErr result (BeginRefused (RefusesFurtherInstance tally.old programs before.now) self.old) }
         ensures stuck { IfErr result (GetsStuck (Key key.Program ∷ AName ∷ []) self.old) }
@@ -538,6 +545,9 @@ impl<'a> Reader<'a> {
     {
         let mut items = Vec::new(alloc);
         'items: while !self.sees_keyword(Keyword::EndResource) {
+            // The getters hand out that the plant has at most 64 instances and 4,096 binds so far.
+            let _instances = tally.instances();
+            let _binds = tally.binds();
             let item = self.item(alloc, types, &items, tally)?;
             items.push(item)?;
         }
@@ -618,6 +628,9 @@ impl<'a> Reader<'a> {
     {
         let mut resources = Vec::new(alloc);
         'resources: while resources.is_empty() || !self.sees_keyword(Keyword::EndConfiguration) {
+            // The getters hand out that the plant has at most 64 instances and 4,096 binds so far.
+            let _instances = tally.instances();
+            let _binds = tally.binds();
             let resource = self.resource(alloc, types, &resources, tally)?;
             resources.push(resource)?;
         }

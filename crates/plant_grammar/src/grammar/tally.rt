@@ -1,4 +1,4 @@
-ghost use Rattle.std.specs.Prelude.{◌≡◌, ◌≤◌, OnOk, IfErr};
+ghost use Rattle.std.specs.Prelude.{◌≡◌, ◌<◌, ◌≤◌, OnOk, IfErr};
 ghost use Rattle.plant_grammar.specs.WordFaults.{IsGrammarFault};
 ghost use Rattle.plant_grammar.specs.declared.grammar_fault.GrammarFaultKind.TheVariants.{TooMany};
 
@@ -61,6 +61,7 @@ impl Tally {
     /// Counts a program instance whose name is on a line, if there may be one more.
     pub fn add_instance(&mut self, line: u64) -> Result<(), GrammarFault>
         ensures ok { OnOk result (self.new ≡ with_instance self.old) }
+        ensures few { OnOk result (self.old.instances < 64) }
         ensures err { IfErr result (λ e. (e.kind ≡ TooMany) × (self.new ≡ self.old) × (self.old.instances ≡ 64)) }
         ensures line { IfErr result (λ e. e.line ≡ line) }
         ensures value { IfErr result IsGrammarFault }
@@ -75,6 +76,7 @@ impl Tally {
     /// Counts a bind whose input is on a line, if there may be one more.
     pub fn add_bind(&mut self, line: u64) -> Result<(), GrammarFault>
         ensures ok { OnOk result (self.new ≡ with_binds self.old 1) }
+        ensures few { OnOk result (self.old.binds < 4096) }
         ensures err { IfErr result (λ e. (e.kind ≡ TooMany) × (self.new ≡ self.old) × (self.old.binds ≡ 4096)) }
         ensures line { IfErr result (λ e. e.line ≡ line) }
         ensures value { IfErr result IsGrammarFault }

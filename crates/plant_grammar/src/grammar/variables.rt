@@ -1,11 +1,9 @@
 ghost use Rattle.std.specs.Prelude.{◌≡◌, ◌≢◌, ◌↔◌, ◌+◌, ◌<◌, ◌≤◌, ◌++◌, [], ◌∷◌, List, IsTrue, OnOk, OnErr, length, IfErr};
 ghost use Rattle.plant_grammar.specs.WordFaults.{IsGrammarFault};
 ghost use Rattle.declared_names.specs.Names.{IsDeclared};
-ghost use Rattle.plant_grammar.specs.Lawful.{declared_as, list_variables};
-ghost use Rattle.plant_grammar.specs.NameFaults.{IsNameTaken};
+ghost use Rattle.plant_grammar.specs.Lawful.{declared_as, list_variables, AreVariables, MayBeDeclared};
+ghost use Rattle.plant_grammar.specs.NameFaults.{IsNameTaken, IsNew};
 ghost use Rattle.plant_grammar.specs.Steps.Declaring.{TellsOfChecked, TellsOfAdded};
-ghost use Rattle.plant_grammar.specs.Steps.ReadParts.{AreVariables, IsNew};
-ghost use Rattle.plant_grammar.specs.Steps.Refusing.{MayBeDeclared};
 ghost use Rattle.plant_grammar.specs.declared.grammar_fault.GrammarFaultKind.TheVariants.{Memory, Syntax};
 
 use crate::grammar::known_names::check_new;
@@ -28,7 +26,7 @@ pub struct Variables {
 impl Model for Variables {
     ghost use Rattle.std.specs.Prelude.{List};
     ghost use Rattle.declared_names.specs.declared.declarations.Declaration.{Declaration};
-    ghost use Rattle.plant_grammar.specs.Steps.ReadParts.{AreVariables};
+    ghost use Rattle.plant_grammar.specs.Lawful.{AreVariables};
 
     ghost Value = { List Declaration };
 

@@ -2,10 +2,10 @@ use Rattle.std.proofs.Common.{◌≡◌, ◌≢◌, ◌<◌, ◌^◌, ◌++◌, 
 use Rattle.std.specs.List.{flat_map}
 use Rattle.lists.proofs.Results.{kept_fault}
 use Rattle.plant_grammar.specs.Grammar.{Tree, TextValue, words_of}
-use Rattle.plant_grammar.specs.Lawful.{uses_of}
+use Rattle.plant_grammar.specs.Lawful.{uses_of, AreResourcesLawful}
 use Rattle.plant_grammar.specs.NameFaults.{RefusesResources}
 use Rattle.plant_grammar.specs.Steps.Declaring.{BeginWith, BeginRefused, IsLineBefore, RefusesFurtherProgram, RefusesPlantWords}
-use Rattle.plant_grammar.specs.Steps.ReadParts.{tally_with, types_alone, AreResourcesLawful}
+use Rattle.plant_grammar.specs.Steps.ReadParts.{tally_with, types_alone}
 use Rattle.plant_grammar.specs.Steps.Reading.{programs_of, all_words, AreAllPrograms, tree_written}
 use Rattle.plant_grammar.proofs.RefusedPlaces.{further_program, in_configuration}
 use Rattle.plant_grammar.proofs.WholeTrees.{tree_is, begun_words, begin_with_texts}

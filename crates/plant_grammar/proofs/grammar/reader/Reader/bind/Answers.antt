@@ -6,9 +6,8 @@ use Rattle.plant_grammar.specs.declared.grammar.tree.Bind.{Bind}
 use Rattle.plant_grammar.specs.Grammar.{bind_words}
 use Rattle.plant_grammar.specs.Kinds.{IsOfInputKind}
 use Rattle.plant_grammar.specs.Lawful.{variables}
-use Rattle.plant_grammar.specs.Steps.ReadParts.{IsNew}
 use Rattle.plant_grammar.proofs.NewNames.{bind_name}
-use Rattle.plant_grammar.specs.NameFaults.{RefusesOneBind}
+use Rattle.plant_grammar.specs.NameFaults.{RefusesOneBind, IsNew}
 use Rattle.plant_grammar.specs.Steps.Declaring.{BeginRefused}
 use Rattle.plant_grammar.proofs.ReadLines.{line_before}
 use Rattle.plant_grammar.proofs.RefusedPlaces.{input_refused, address_refused}
@@ -38,7 +37,7 @@ returns-in_err-source-clause-names c =
     let fault = c.in_err-source.field-0.0 in
     let ds = variables c.args.program.now.program in
     kept_fault fault (BeginRefused (λ k. RefusesOneBind c.args.tally.now.binds ds c.args.before.now k) c.args.self.now) c.from_residual-in_err-source.result c.from_residual-in_err-source.ensures.1
-    (λ all h of. address_refused fault.kind c.args.tally.now.binds ds c.args.before.now c.in_ok-input.input c.in_ok-input.kind c.args.self.now.words c.bound_input.new.self.words c.punctuation.new.self.words (line_before all c.punctuation.new.self fault.line (c.in_ok-punctuation.ensures.left all (c.in_ok-input.ensures.left all h)) (c.in_err-source.ensures.line of)) c.in_ok-input.ensures.ok c.in_ok-punctuation.ensures.ok c.in_ok-input.ensures.kind
+    (λ all h of. address_refused fault.kind c.args.tally.now.binds ds c.args.before.now c.in_ok-input.input c.in_ok-input.kind c.args.self.now.words c.bound_input.new.self.words c.punctuation.new.self.words (line_before all c.punctuation.new.self fault.line (c.in_ok-punctuation.ensures.left all (c.in_ok-input.ensures.left all h)) (c.in_err-source.ensures.line of)) c.in_ok-input.ensures.ok c.in_ok-punctuation.ensures.ok c.in_ok-input.ensures.kind c.in_ok-input.ensures.new c.in_ok-input.ensures.few
     c.in_err-source.ensures.tells of)
 
 pub returns-clause-lined : bind_goals.returns-clause-lined

@@ -1,12 +1,12 @@
 use Rattle.std.proofs.Common.{◌≢◌, ◌+◌, ◌≤◌, List, length, map, refl, sym, ◌∙◌, arith, subst, ap, ◌≡◌, ◌∷◌, []}
 use Rattle.plant_grammar.specs.declared.grammar.tree.Bind.{Bind}
-use Rattle.plant_grammar.specs.Steps.ReadParts.{IsNew, TallyValue, EndWithBinds}
+use Rattle.plant_grammar.specs.Steps.ReadParts.{TallyValue, EndWithBinds}
 use Rattle.plant_grammar.proofs.Apart.{apart_more}
 use Rattle.plant_grammar.specs.Kinds.{IsOfInputKind}
 use Rattle.plant_grammar.specs.Lawful.{variables}
 use Rattle.plant_grammar.proofs.WordLists.{binds_more, grown, all_more}
 use Rattle.plant_grammar.proofs.ResourceLines.{bind_counted}
-use Rattle.plant_grammar.specs.NameFaults.{RefusesOneBind, RefusesBind}
+use Rattle.plant_grammar.specs.NameFaults.{RefusesOneBind, RefusesBind, IsNew}
 use Rattle.plant_grammar.specs.Steps.Declaring.{BeginWith, BeginRefused, IsLineBefore}
 use Rattle.lists.proofs.Results.{kept_fault}
 use Rattle.plant_grammar.proofs.RefusedPlaces.{first_bind, next_bind}
@@ -48,7 +48,7 @@ returns-in_err-bind-clause-names c =
     let fault = c.in_err-bind.field-0.0 in
     let ds = variables c.args.program.now.program in
     kept_fault fault (BeginRefused (λ k. RefusesBind k c.args.tally.now.binds ds) c.args.self.now) c.from_residual.result c.from_residual.ensures.1
-    (λ all h of. first_bind fault.kind c.args.tally.now.binds ds c.args.self.now.words
+    (λ all h of. first_bind fault.kind c.args.tally.now.binds ds c.args.self.now.words c.binds-bound.ensures.few
     (subst (λ (bs : List Bind). BeginWith (IsLineBefore all fault.line) (RefusesOneBind c.args.tally.now.binds ds bs fault.kind) c.args.self.now.words) (c.deref.ensures.value ∙ c.new-binds.ensures.items) (c.in_err-bind.ensures.names all h of)))
 
 pub returns-in_err-bind-2-clause-names : goal.returns-in_err-bind-2-clause-names
@@ -58,6 +58,11 @@ returns-in_err-bind-2-clause-names c =
     kept_fault fault (BeginRefused (λ k. RefusesBind k c.args.tally.now.binds ds) c.args.self.now) c.from_residual-in_err-bind-2.result c.from_residual-in_err-bind-2.ensures.1
     (λ all h of. next_bind fault.kind c.binds.tally.binds c.args.tally.now.binds ds c.binds.binds.items c.args.self.now.words c.binds.self.words c.punctuation.new.self.words c.binds.invariant.some c.binds.invariant.words c.in_ok-punctuation.ensures.ok
     (ap (λ (t : TallyValue). t.binds) c.binds.invariant.tally)
+    (record {
+      apart = c.binds.invariant.apart;
+      kinds = c.binds.invariant.kinds;
+      few = subst (λ (t : TallyValue). t.binds ≤ 4096) c.binds.invariant.tally c.binds-bound-in-binds.ensures.few;
+    })
     (subst (λ (bs : List Bind). BeginWith (IsLineBefore all fault.line) (RefusesOneBind c.binds.tally.binds ds bs fault.kind) c.punctuation.new.self.words) c.deref-in-binds.ensures.value (c.in_err-bind-2.ensures.names all (c.in_ok-punctuation.ensures.left all (c.binds.invariant.left all h)) of)))
 
 pub returns-clause-kinds : goal.returns-clause-kinds

@@ -4,8 +4,7 @@ use Rattle.plant_grammar.specs.declared.grammar_fault.GrammarFaultKind.TheVarian
 use Rattle.plant_grammar.specs.declared.grammar.tree.Section.{Section}
 use Rattle.plant_grammar.specs.declared.grammar.tree.NameList.{NameList}
 use Rattle.plant_grammar.specs.Grammar.{section_words, lists_words}
-use Rattle.plant_grammar.specs.Lawful.{lists_variables, IsListLawful}
-use Rattle.plant_grammar.specs.Steps.ReadParts.{AreVariables}
+use Rattle.plant_grammar.specs.Lawful.{lists_variables, IsListLawful, AreVariables}
 use Rattle.plant_grammar.specs.NameFaults.{RefusesBlock}
 use Rattle.plant_grammar.specs.Steps.Declaring.{BeginRefused}
 use Rattle.lists.proofs.Results.{kept_fault}

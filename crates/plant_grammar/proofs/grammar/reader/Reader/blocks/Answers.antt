@@ -1,5 +1,5 @@
 use Rattle.std.proofs.Common.{◌≡◌, ◌≢◌, ◌++◌, [], ◌∷◌, List, All, refl, ◌∙◌}
-use Rattle.plant_grammar.specs.Lawful.{block_variables, IsBlockLawful}
+use Rattle.plant_grammar.specs.Lawful.{block_variables, IsBlockLawful, AreVariables}
 use Rattle.plant_grammar.specs.Grammar.{block_words}
 use Rattle.plant_grammar.proofs.WordLists.{words_more, declared_more, all_more}
 use Rattle.plant_grammar.specs.NameFaults.{RefusesBlocks}
@@ -11,7 +11,7 @@ use Rattle.plant_grammar.specs.declared.grammar_fault.GrammarFaultKind.TheVarian
 use Rattle.std.specs.List.{flat_map}
 use Rattle.plant_grammar.specs.declared.grammar.tree.VarBlock.{VarBlock}
 use Rattle.plant_grammar.specs.Steps.Lines.{IsNoneNext}
-use Rattle.plant_grammar.specs.Steps.ReadParts.{section_start, AreVariables}
+use Rattle.plant_grammar.specs.Steps.ReadParts.{section_start}
 use Rattle.plant_grammar.proofs.LawfulPrograms.{block_allowed}
 use Rattle.plant_grammar.specs.Steps.Expected.{MoreBlocks, GetsStuck}
 use Rattle.plant_grammar.proofs.WalkedPrograms.{blocks_walked, stuck_in_block, lawful_blocks_formed}
@@ -31,7 +31,7 @@ pub returns-in_err-block-clause-names : goal.returns-in_err-block-clause-names
 returns-in_err-block-clause-names c =
     let fault = c.in_err-block.field-0.0 in
     kept_fault fault (BeginRefused (λ k. RefusesBlocks k c.args.variables.now) c.args.self.now) c.from_residual.result c.from_residual.ensures.1
-    (λ all h of. block_refused fault.kind c.args.variables.now c.sections.variables c.sections.blocks.items c.args.self.now.words c.sections.self.words c.sections.invariant.words c.sections.invariant.declared (c.in_err-block.ensures.names all (c.sections.invariant.left all h) of))
+    (λ all h of. block_refused fault.kind c.args.variables.now c.sections.variables c.sections.blocks.items c.args.self.now.words c.sections.self.words c.sections.invariant.words c.sections.invariant.declared c.sections.invariant.lawful (c.in_err-block.ensures.names all (c.sections.invariant.left all h) of))
 
 pub returns-in_err-block-clause-other : goal.returns-in_err-block-clause-other
 returns-in_err-block-clause-other c =

@@ -3,8 +3,8 @@ use Rattle.std.specs.Prelude.{All}
 use Rattle.plant_grammar.specs.Kinds.{IsOfInputKind}
 use Rattle.plant_grammar.specs.Lawful.{variables, use_of, binds_of, IsUseLawful}
 use Rattle.plant_grammar.proofs.FoundTypes.{found_type}
-use Rattle.plant_grammar.specs.Steps.ReadParts.{TallyValue, bound_in, types_alone, IsNew}
-use Rattle.plant_grammar.specs.NameFaults.{RefusesInstance}
+use Rattle.plant_grammar.specs.Steps.ReadParts.{TallyValue, bound_in, types_alone}
+use Rattle.plant_grammar.specs.NameFaults.{RefusesInstance, IsNew}
 use Rattle.plant_grammar.specs.Steps.Declaring.{BeginRefused}
 use Rattle.lists.proofs.Results.{kept_fault}
 use Rattle.plant_grammar.specs.Steps.Reading.{programs_of}
@@ -38,9 +38,9 @@ returns-in_err-binds-clause-names c =
     let fault = c.in_err-binds.field-0.0 in
     let programs = programs_of c.args.types.now in
     kept_fault fault (BeginRefused (λ k. RefusesInstance k c.args.tally.now.instances c.args.tally.now.binds programs c.args.before.now) c.args.self.now) c.from_residual-in_err-binds.result c.from_residual-in_err-binds.ensures.1
-    (λ all h of. in_instance fault.kind c.args.tally.now.instances c.args.tally.now.binds programs c.args.before.now c.in_ok-instance.instance c.args.self.now.words c.instance_start.new.self.words c.in_ok-instance.ensures.ok
+    (λ all h of. in_instance fault.kind c.args.tally.now.instances c.args.tally.now.binds programs c.args.before.now c.in_ok-instance.instance c.args.self.now.words c.instance_start.new.self.words c.in_ok-instance.ensures.ok (c.in_ok-instance.ensures.new, c.in_ok-instance.ensures.few)
     (binds_of_type fault.kind c.args.tally.now.binds c.instance_start.new.tally.binds programs c.args.before.now c.in_ok-task.task _ _ c.instance_start.new.self.words c.task_of_instance.new.self.words c.type_of_instance.new.self.words
-    c.in_ok-task.ensures.ok c.in_ok-program.ensures.ok
+    c.in_ok-task.ensures.ok c.in_ok-task.ensures.known c.in_ok-program.ensures.ok
     (found_type c.args.types.now _ _ (λ p. p ≡ _) c.in_ok-program.ensures.found refl)
     (ap (λ (t : TallyValue). t.binds) c.in_ok-instance.ensures.tally) (c.in_err-binds.ensures.names all (c.in_ok-program.ensures.left all (c.in_ok-task.ensures.left all (c.in_ok-instance.ensures.left all h))) of)))
 
@@ -56,7 +56,7 @@ returns-in_err-task-clause-names c =
     let fault = c.in_err-task.field-0.0 in
     let programs = programs_of c.args.types.now in
     kept_fault fault (BeginRefused (λ k. RefusesInstance k c.args.tally.now.instances c.args.tally.now.binds programs c.args.before.now) c.args.self.now) c.from_residual-in_err-task.result c.from_residual-in_err-task.ensures.1
-    (λ all h of. in_instance fault.kind c.args.tally.now.instances c.args.tally.now.binds programs c.args.before.now c.in_ok-instance.instance c.args.self.now.words c.instance_start.new.self.words c.in_ok-instance.ensures.ok
+    (λ all h of. in_instance fault.kind c.args.tally.now.instances c.args.tally.now.binds programs c.args.before.now c.in_ok-instance.instance c.args.self.now.words c.instance_start.new.self.words c.in_ok-instance.ensures.ok (c.in_ok-instance.ensures.new, c.in_ok-instance.ensures.few)
     (task_unknown fault.kind c.args.tally.now.binds programs c.args.before.now c.instance_start.new.self.words (c.in_err-task.ensures.names all (c.in_ok-instance.ensures.left all h) of)))
 
 pub returns-in_err-program-clause-names : instance_goals.returns-in_err-program-clause-names
@@ -64,8 +64,8 @@ returns-in_err-program-clause-names c =
     let fault = c.in_err-program.field-0.0 in
     let programs = programs_of c.args.types.now in
     kept_fault fault (BeginRefused (λ k. RefusesInstance k c.args.tally.now.instances c.args.tally.now.binds programs c.args.before.now) c.args.self.now) c.from_residual-in_err-program.result c.from_residual-in_err-program.ensures.1
-    (λ all h of. in_instance fault.kind c.args.tally.now.instances c.args.tally.now.binds programs c.args.before.now c.in_ok-instance.instance c.args.self.now.words c.instance_start.new.self.words c.in_ok-instance.ensures.ok
-    (type_unknown fault.kind c.args.tally.now.binds programs c.args.before.now c.in_ok-task.task c.instance_start.new.self.words c.task_of_instance.new.self.words c.in_ok-task.ensures.ok (c.in_err-program.ensures.names all (c.in_ok-task.ensures.left all (c.in_ok-instance.ensures.left all h)) of)))
+    (λ all h of. in_instance fault.kind c.args.tally.now.instances c.args.tally.now.binds programs c.args.before.now c.in_ok-instance.instance c.args.self.now.words c.instance_start.new.self.words c.in_ok-instance.ensures.ok (c.in_ok-instance.ensures.new, c.in_ok-instance.ensures.few)
+    (type_unknown fault.kind c.args.tally.now.binds programs c.args.before.now c.in_ok-task.task c.instance_start.new.self.words c.task_of_instance.new.self.words c.in_ok-task.ensures.ok c.in_ok-task.ensures.known (c.in_err-program.ensures.names all (c.in_ok-task.ensures.left all (c.in_ok-instance.ensures.left all h)) of)))
 
 pub returns-in_err-program-clause-other : instance_goals.returns-in_err-program-clause-other
 returns-in_err-program-clause-other c =

@@ -1,7 +1,7 @@
 use Rattle.std.proofs.Common.{◌≡◌, ◌≢◌, ◌++◌, List, refl, sym, subst, ◌∷◌, []}
-use Rattle.plant_grammar.specs.Lawful.{use_of}
+use Rattle.plant_grammar.specs.Lawful.{use_of, AreItemsLawful}
 use Rattle.plant_grammar.specs.Grammar.{item_words, items_words}
-use Rattle.plant_grammar.specs.Steps.ReadParts.{types_alone, MayFollow, AreItemsLawful}
+use Rattle.plant_grammar.specs.Steps.ReadParts.{types_alone, MayFollow}
 use Rattle.plant_grammar.proofs.WordLists.{words_more, items_done}
 use Rattle.plant_grammar.proofs.ResourceLines.{items_more, tally_more}
 use Rattle.plant_grammar.specs.declared.grammar.tree.Item.{Item}
@@ -49,6 +49,7 @@ returns-in_err-item-clause-names c =
     let fault = c.in_err-item.field-0.0 in
     kept_fault fault (BeginRefused (λ k. RefusesItems k c.args.tally.now.instances c.args.tally.now.binds (programs_of c.args.types.now)) c.args.self.now) c.from_residual.result c.from_residual.ensures.1
     (λ all h of. item_refused fault.kind c.args.tally.now c.items.tally (programs_of c.args.types.now) c.items.items.items c.args.self.now.words c.items.self.words c.items.invariant.words c.items.invariant.tally
+    c.items.invariant.lawful c.instances-instances.ensures.few c.binds-binds.ensures.few
     (subst (λ (xs : List Item). BeginWith (IsLineBefore all fault.line) (RefusesItem c.items.tally (programs_of c.args.types.now) xs fault.kind) c.items.self.words) c.deref.ensures.value (c.in_err-item.ensures.names all (c.items.invariant.left all h) of)))
 
 pub returns-in_err-item-clause-other : goal.returns-in_err-item-clause-other

@@ -1,8 +1,8 @@
 use Rattle.std.proofs.Common.{◌≡◌, ◌++◌, ℕ, List, length}
 use Rattle.std.specs.List.{flat_map}
-use Rattle.plant_grammar.specs.Lawful.{use_of}
+use Rattle.plant_grammar.specs.Lawful.{use_of, AreItemsLawful}
 use Rattle.plant_grammar.specs.Grammar.{item_words}
-use Rattle.plant_grammar.specs.Steps.ReadParts.{types_alone, tally_with, AreItemsLawful}
+use Rattle.plant_grammar.specs.Steps.ReadParts.{types_alone, tally_with}
 use Rattle.plant_grammar.specs.Steps.Lines.{HasLinesOf, KeepsLines}
 use Rattle.plant_grammar.specs.SourceLines.{IsItemOn, EachBefore}
 use Rattle.plant_grammar.proofs.grammar.reader.Reader.items.Given as goal

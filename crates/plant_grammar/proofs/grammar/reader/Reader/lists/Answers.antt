@@ -1,5 +1,5 @@
 use Rattle.std.proofs.Common.{◌≡◌, ◌≢◌, ◌++◌, [], ◌∷◌, List, All, refl, ◌∙◌}
-use Rattle.plant_grammar.specs.Lawful.{list_variables, lists_variables, IsListLawful}
+use Rattle.plant_grammar.specs.Lawful.{list_variables, lists_variables, IsListLawful, AreVariables}
 use Rattle.plant_grammar.specs.Grammar.{list_words, lists_words}
 use Rattle.plant_grammar.proofs.WordLists.{words_more, declared_more, all_more, lists_done}
 use Rattle.plant_grammar.specs.NameFaults.{RefusesList}
@@ -9,7 +9,6 @@ use Rattle.plant_grammar.proofs.RefusedPlaces.{list_refused}
 use Rattle.plant_text.specs.declared.token.Token.{Token}
 use Rattle.plant_grammar.specs.declared.grammar_fault.GrammarFaultKind.TheVariants.{Memory}
 use Rattle.plant_grammar.specs.declared.grammar.tree.NameList.{NameList}
-use Rattle.plant_grammar.specs.Steps.ReadParts.{AreVariables}
 use Rattle.plant_grammar.proofs.LawfulPrograms.{list_allowed}
 use Rattle.std.specs.List.{flat_map}
 use Rattle.plant_grammar.specs.Steps.Expected.{MoreLists, GetsStuck}
@@ -43,7 +42,7 @@ pub returns-in_err-list-clause-names : goal.returns-in_err-list-clause-names
 returns-in_err-list-clause-names c =
     let fault = c.in_err-list.field-0.0 in
     kept_fault fault (BeginRefused (λ k. RefusesList k c.args.section c.args.variables.now) c.args.self.now) c.from_residual.result c.from_residual.ensures.1
-    (λ all h of. list_refused fault.kind c.args.section c.args.variables.now c.lists.variables c.lists.lists.items c.args.self.now.words c.lists.self.words c.lists.invariant.words c.lists.invariant.declared (c.in_err-list.ensures.names all (c.lists.invariant.left all h) of))
+    (λ all h of. list_refused fault.kind c.args.section c.args.variables.now c.lists.variables c.lists.lists.items c.args.self.now.words c.lists.self.words c.lists.invariant.words c.lists.invariant.declared c.lists.invariant.lawful (c.in_err-list.ensures.names all (c.lists.invariant.left all h) of))
 
 pub returns-in_err-list-clause-other : goal.returns-in_err-list-clause-other
 returns-in_err-list-clause-other c =

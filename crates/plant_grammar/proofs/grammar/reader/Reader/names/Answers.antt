@@ -3,12 +3,11 @@ use Rattle.plant_text.specs.declared.token.Token.{Token}
 use Rattle.plant_text.specs.declared.token.Punctuation.TheVariants.{Colon, Comma}
 use Rattle.plant_grammar.specs.declared.grammar_fault.GrammarFaultKind.TheVariants.{Memory}
 use Rattle.plant_grammar.specs.Grammar.{mark_word, name_words}
-use Rattle.plant_grammar.specs.Steps.Refusing.{MayBeDeclared}
-use Rattle.plant_grammar.specs.Steps.ReadParts.{IsNew}
+use Rattle.plant_grammar.specs.Lawful.{MayBeDeclared}
 use Rattle.plant_grammar.proofs.AddedNames.{one_more_declared, first_declared}
 use Rattle.plant_grammar.proofs.NewNames.{first_refused, next_refused, all_names}
 use Rattle.plant_grammar.proofs.WordLists.{names_more, grown}
-use Rattle.plant_grammar.specs.NameFaults.{RefusesVariable}
+use Rattle.plant_grammar.specs.NameFaults.{RefusesVariable, IsNew}
 use Rattle.plant_grammar.specs.Steps.Declaring.{BeginRefused}
 use Rattle.lists.proofs.Results.{kept_fault}
 use Rattle.plant_grammar.proofs.ReadLines.{line_before}
@@ -46,14 +45,14 @@ pub returns-in_err-variable-clause-names : goal.returns-in_err-variable-clause-n
 returns-in_err-variable-clause-names c =
     let fault = c.in_err-variable.field-0.0 in
     kept_fault fault (BeginRefused (λ k. RefusesVariable k c.args.variables.now) c.args.self.now) c.from_residual.result c.from_residual.ensures.1
-    (λ all h of. first_variable fault.kind c.args.variables.now c.deref.result.now c.args.self.now.words (line_before all c.args.self.now fault.line h (c.in_err-variable.ensures.line of)) (c.deref.ensures.value ∙ c.new-names.ensures.items) c.in_err-variable.ensures.tells of)
+    (λ all h of. first_variable fault.kind c.args.variables.now c.deref.result.now c.args.self.now.words (line_before all c.args.self.now fault.line h (c.in_err-variable.ensures.line of)) (c.in_err-variable.ensures.before of) (c.deref.ensures.value ∙ c.new-names.ensures.items) c.in_err-variable.ensures.tells of)
 
 pub returns-in_err-variable-2-clause-names : goal.returns-in_err-variable-2-clause-names
 returns-in_err-variable-2-clause-names c =
     let fault = c.in_err-variable-2.field-0.0 in
     kept_fault fault (BeginRefused (λ k. RefusesVariable k c.args.variables.now) c.args.self.now) c.from_residual-in_err-variable-2.result c.from_residual-in_err-variable-2.ensures.1
     (λ all h of. next_variable fault.kind c.args.variables.now c.names.names.items c.args.self.now.words c.names.self.words c.punctuation.new.self.words
-    (line_before all c.punctuation.new.self fault.line (c.in_ok-punctuation.ensures.left all (c.names.invariant.left all h)) (c.in_err-variable-2.ensures.line of)) c.names.invariant.some c.names.invariant.words c.in_ok-punctuation.ensures.ok
+    (line_before all c.punctuation.new.self fault.line (c.in_ok-punctuation.ensures.left all (c.names.invariant.left all h)) (c.in_err-variable-2.ensures.line of)) c.names.invariant.some c.names.invariant.may c.names.invariant.words c.in_ok-punctuation.ensures.ok
     (rw c.deref-in-names.ensures.value at c.in_err-variable-2.ensures.tells) of)
 
 pub returns-in_err-variable-clause-other : goal.returns-in_err-variable-clause-other

@@ -1,7 +1,7 @@
 use Rattle.std.proofs.Common.{◌≡◌, ◌++◌, ◌<◌, length}
 use Rattle.plant_grammar.specs.Grammar.{name_words}
 use Rattle.plant_grammar.specs.Steps.Lines.{KeepsLines}
-use Rattle.plant_grammar.specs.Steps.Refusing.{MayBeDeclared}
+use Rattle.plant_grammar.specs.Lawful.{MayBeDeclared}
 use Rattle.plant_grammar.proofs.grammar.reader.Reader.names.Given as goal
 
 abbrev pub invariant-names : goal.invariant-names

@@ -5,11 +5,10 @@ use Rattle.plant_grammar.specs.Lawful.{AreProgramsDeclared}
 use Rattle.plant_grammar.specs.Grammar.{TextValue, key_word, program_words}
 use Rattle.plant_text.specs.declared.token.Token.{Token}
 use Rattle.plant_grammar.specs.declared.grammar.tree.Program.{Program}
-use Rattle.plant_grammar.specs.Steps.ReadParts.{IsNew}
 use Rattle.plant_grammar.specs.Steps.Reading.{programs_of, lines_of, all_words, AreAllPrograms}
 use Rattle.plant_grammar.proofs.FoundTypes.{programs_more, map-grown}
 use Rattle.plant_grammar.proofs.WordLists.{words_more}
-use Rattle.plant_grammar.specs.NameFaults.{RefusesProgram}
+use Rattle.plant_grammar.specs.NameFaults.{RefusesProgram, IsNew}
 use Rattle.plant_grammar.specs.Steps.Declaring.{BeginWith, BeginRefusedBehind, IsLineBefore, RefusesFurtherProgram}
 use Rattle.lists.proofs.Results.{kept_fault}
 use Rattle.plant_grammar.proofs.RefusedPlaces.{program_refused}

@@ -1,4 +1,4 @@
-use Rattle.plant_grammar.specs.NameFaults.{RefusesResource}
+use Rattle.plant_grammar.specs.NameFaults.{RefusesResource, IsNew}
 use Rattle.plant_grammar.specs.Steps.Declaring.{BeginRefused}
 use Rattle.plant_grammar.specs.Steps.Reading.{programs_of}
 use Rattle.lists.proofs.Results.{kept_fault}
@@ -10,7 +10,7 @@ use Rattle.plant_grammar.specs.declared.grammar_fault.GrammarFaultKind.TheVarian
 use Rattle.plant_grammar.specs.declared.grammar.tree.Resource.{Resource}
 use Rattle.plant_grammar.specs.Grammar.{resource_words}
 use Rattle.plant_grammar.specs.Lawful.{uses_of, IsResourceLawful}
-use Rattle.plant_grammar.specs.Steps.ReadParts.{types_alone, IsNew}
+use Rattle.plant_grammar.specs.Steps.ReadParts.{types_alone}
 use Rattle.plant_grammar.specs.Steps.Refusing.{HasRoomFor, AreTypesApart}
 use Rattle.plant_grammar.proofs.LawfulResources.{items_of_resource, resource_started}
 use Rattle.plant_text.specs.declared.token.Keyword.TheVariants as key
@@ -34,7 +34,7 @@ returns-in_err-items-clause-names c =
     kept_fault fault (BeginRefused (λ k. RefusesResource k tally.instances tally.binds (programs_of c.args.types.now) c.args.before.now) c.args.self.now) c.from_residual-in_err-items.result c.from_residual-in_err-items.ensures.1
     (λ all h of. in_resource fault.kind tally.instances tally.binds (programs_of c.args.types.now) c.args.before.now c.in_ok-name.name c.in_ok-node.node
     c.args.self.now.words c.keyword.new.self.words c.resource_name.new.self.words c.keyword-2.new.self.words c.name-2.new.self.words
-    c.in_ok-keyword.ensures.ok c.in_ok-name.ensures.ok c.in_ok-keyword-2.ensures.ok c.in_ok-node.ensures.ok (c.in_err-items.ensures.names all (c.in_ok-node.ensures.left all (c.in_ok-keyword-2.ensures.left all (c.in_ok-name.ensures.left all (c.in_ok-keyword.ensures.left all h)))) of))
+    c.in_ok-keyword.ensures.ok c.in_ok-name.ensures.ok c.in_ok-keyword-2.ensures.ok c.in_ok-node.ensures.ok (c.in_ok-name.ensures.new, c.in_ok-name.ensures.few) (c.in_err-items.ensures.names all (c.in_ok-node.ensures.left all (c.in_ok-keyword-2.ensures.left all (c.in_ok-name.ensures.left all (c.in_ok-keyword.ensures.left all h)))) of))
 
 pub returns-in_err-items-clause-other : goal.returns-in_err-items-clause-other
 returns-in_err-items-clause-other c =

@@ -1,11 +1,11 @@
 use Rattle.std.proofs.Common.{rules, ◌≡◌, ◌≢◌, ◌<◌, ◌++◌, length, refl, sym, subst, List, ◌∷◌, [], arith}
 use Rattle.plant_grammar.specs.declared.grammar.tree.Resource.{Resource}
-use Rattle.plant_grammar.specs.Lawful.{uses_of}
+use Rattle.plant_grammar.specs.Lawful.{uses_of, AreResourcesLawful}
 use Rattle.plant_grammar.specs.Grammar.{resource_words, resources_words}
-use Rattle.plant_grammar.specs.Steps.ReadParts.{types_alone, IsNew, AreResourcesLawful}
+use Rattle.plant_grammar.specs.Steps.ReadParts.{types_alone}
 use Rattle.plant_grammar.proofs.WordLists.{words_more, resources_done}
 use Rattle.plant_grammar.proofs.ResourceLines.{resources_more, tally_more}
-use Rattle.plant_grammar.specs.NameFaults.{RefusesResource, RefusesResources}
+use Rattle.plant_grammar.specs.NameFaults.{RefusesResource, RefusesResources, IsNew}
 use Rattle.plant_grammar.specs.Steps.Declaring.{BeginWith, BeginRefused, IsLineBefore}
 use Rattle.plant_grammar.specs.Steps.Reading.{programs_of}
 use Rattle.lists.proofs.Results.{kept_fault}
@@ -44,6 +44,7 @@ returns-in_err-resource-clause-names c =
     let fault = c.in_err-resource.field-0.0 in
     kept_fault fault (BeginRefused (λ k. RefusesResources k c.args.tally.now.instances c.args.tally.now.binds (programs_of c.args.types.now)) c.args.self.now) c.from_residual.result c.from_residual.ensures.1
     (λ all h of. resource_refused fault.kind c.args.tally.now c.resources.tally (programs_of c.args.types.now) c.resources.resources.items c.args.self.now.words c.resources.self.words c.resources.invariant.words c.resources.invariant.tally
+    c.resources.invariant.lawful c.instances-instances.ensures.few c.binds-binds.ensures.few
     (subst (λ (rs : List Resource). BeginWith (IsLineBefore all fault.line) (RefusesResource fault.kind c.resources.tally.instances c.resources.tally.binds (programs_of c.args.types.now) rs) c.resources.self.words) c.deref.ensures.value (c.in_err-resource.ensures.names all (c.resources.invariant.left all h) of)))
 
 pub returns-in_err-resource-clause-other : goal.returns-in_err-resource-clause-other

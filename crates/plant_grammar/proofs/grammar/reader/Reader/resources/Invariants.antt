@@ -1,8 +1,8 @@
 use Rattle.std.proofs.Common.{◌≡◌, ◌++◌, ℕ, List, length}
 use Rattle.std.specs.List.{flat_map}
-use Rattle.plant_grammar.specs.Lawful.{uses_of}
+use Rattle.plant_grammar.specs.Lawful.{uses_of, AreResourcesLawful}
 use Rattle.plant_grammar.specs.Grammar.{resource_words}
-use Rattle.plant_grammar.specs.Steps.ReadParts.{types_alone, tally_with, AreResourcesLawful}
+use Rattle.plant_grammar.specs.Steps.ReadParts.{types_alone, tally_with}
 use Rattle.plant_grammar.specs.Steps.Lines.{HasLinesOf, KeepsLines}
 use Rattle.plant_grammar.specs.SourceLines.{IsResourceOn, EachBefore}
 use Rattle.plant_grammar.proofs.grammar.reader.Reader.resources.Given as goal

@@ -1,7 +1,6 @@
 use Rattle.std.proofs.Common.{◌≢◌, arith}
-use Rattle.plant_grammar.specs.Lawful.{declared_as}
+use Rattle.plant_grammar.specs.Lawful.{declared_as, MayBeDeclared}
 use Rattle.lists.proofs.Results.{kept_fault}
-use Rattle.plant_grammar.specs.Steps.Refusing.{MayBeDeclared}
 use Rattle.plant_grammar.specs.declared.grammar_fault.GrammarFaultKind.TheVariants.{Memory}
 use Rattle.plant_grammar.proofs.AddedNames.{add_allowed}
 use Rattle.plant_grammar.proofs.grammar.variables.Variables.add_list.Goals as goal
