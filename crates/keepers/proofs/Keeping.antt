@@ -1,5 +1,5 @@
 -- What may be told once values were kept.
-use Rattle.std.proofs.Common.{arith, ◌≡◌, ◌≢◌, ◌⊎◌, ℕ, zero, suc, ◌+◌, ◌/◌, ◌%◌, ◌<◌, ◌≤◌, ◌^◌, ◌++◌, ◌∷◌, [], false, List, length, Result, Ok, Err, OnOk, inl, inr, refl, sym, ap, subst, ◌∙◌}
+use Rattle.std.proofs.Common.{arith, ◌≡◌, ◌≢◌, ◌⊎◌, ℕ, zero, suc, ◌+◌, ◌/◌, ◌%◌, ◌<◌, ◌≤◌, ◌^◌, ◌++◌, ◌∷◌, [], false, List, length, Result, Ok, Err, OnOk, OnErr, inl, inr, refl, sym, ap, subst, ◌∙◌}
 use Rattle.std.specs.Prelude.{codes, ◌==◌, if◌then◌else◌}
 use Rattle.std.specs.Fmt.{digit_glyph, digits, digits_onto, decimal}
 use Rattle.std.proofs.lemmas.Bool.{cases_lt, ne_eqb}
@@ -10,7 +10,7 @@ use Rattle.std_blocks.specs.declared.value.Value.{Value}
 use Rattle.task_codes.specs.CodeValue.{CodeValue}
 use Rattle.keepers.specs.declared.keeper_fault.KeeperFault.{KeeperFault}
 use Rattle.keepers.specs.declared.keeper_fault.KeeperFault.TheVariants as fault
-use Rattle.keepers.specs.Keepers.{KeepsOthers}
+use Rattle.keepers.specs.Keepers.{KeepsEither, KeepsOthers}
 use Rattle.keepers.specs.KeptNumbers.{temporary_file}
 use Rattle.keepers.specs.KnownFiles.{KnownFile, Holds, AreOthersKept, IsKeptOrReplaced, IsStored}
 use Rattle.keepers.specs.KnownFiles.KnownFile.{Unknown, Missing, Holding, Broken}
@@ -30,6 +30,26 @@ pub stored_told : (old new : List ℕ → KnownFile) (resource resource_new : Li
 stored_told old new resource resource_new task code values (Ok done) stored is =
     subst (λ n. IsToldOf (new (retained_file n task)) code (Ok values)) (sym is) (holding_keeps (new (retained_file resource task)) code values stored.held)
 stored_told old new resource resource_new task code values (Err e) stored is = tt
+
+-- after a fault either what was told or these may be told
+left_either : (old new : List ℕ → KnownFile) (resource : List ℕ) (task : ℕ) (code : CodeValue) (values : List Value) → IsKeptOrReplaced old new (retained_file resource task) (temporary_file resource) (retained_text code values)
+    → KeepsEither (tells_of old resource) (tells_of new resource) task code values
+left_either old new resource task code values (inl same) kept told = inl (subst (λ f. IsToldOf f code (Ok kept)) (sym same.same) told)
+left_either old new resource task code values (inr replaced) kept told = inr (holding_keeps (new (retained_file resource task)) code values replaced.held)
+
+pub stored_either : (old new : List ℕ → KnownFile) (resource resource_new : List ℕ) (task : ℕ) (code : CodeValue) (values : List Value) (r : Result (Unit {0}) KeeperFault)
+    → IsStored old new (retained_file resource task) (temporary_file resource) (retained_text code values) r → resource_new ≡ resource
+    → OnErr r (KeepsEither (tells_of old resource) (tells_of new resource_new) task code values)
+stored_either old new resource resource_new task code values (Ok done) stored is = tt
+stored_either old new resource resource_new task code values (Err e) stored is =
+    subst (λ n. KeepsEither (tells_of old resource) (tells_of new n) task code values) (sym is) (by e stored)
+  where
+    by : (e : KeeperFault) → IsStored old new (retained_file resource task) (temporary_file resource) (retained_text code values) (Err e) → KeepsEither (tells_of old resource) (tells_of new resource) task code values
+    by fault.Unreadable stored = absurd stored
+    by fault.Unwritable stored = left_either old new resource task code values stored
+    by fault.Spent stored = absurd stored
+    by fault.Memory (inl same) = λ kept told. inl (subst (λ (f : List ℕ → KnownFile). IsToldOf (f (retained_file resource task)) code (Ok kept)) (sym same) told)
+    by fault.Memory (inr stored) = left_either old new resource task code values stored
 
 power_some : (k : ℕ) → 0 < 10 ^ k
 power_some zero = omega arith
