@@ -114,7 +114,7 @@ pub record IsBodyFaultIn (text : List ℕ) (fault : PlantFault) : Type 0 where
   pub first : IsFirstBodyFault texts fault
 
 -- These words are programs whose words have no fault and whose bodies have ladders, and behind them the words of a plant up
--- to the last, which is refused.
+-- to the last, which is the first refused.
 pub record IsLastRefused (kind : GrammarFaultKind) (words : List Token) : Type 0 where
   pub programs : List Program
   pub behind : List Token
@@ -123,8 +123,8 @@ pub record IsLastRefused (kind : GrammarFaultKind) (words : List Token) : Type 0
   pub drawn : All HasLadder programs
   pub refused : RefusesBehind kind programs behind
 
--- The text begins with these words, each on its line, of which the last is at fault: what stands before it is as the
--- grammar has it, and the kind tells what is wrong with it. The fault is on the line of that word.
+-- The text begins with these words, each on its line, of which the last is at fault: what stands before it has none, and
+-- the kind tells what is wrong with it. The fault is on the line of that word.
 pub record IsWordFaultIn (text : List ℕ) (fault : PlantFault) : Type 0 where
   pub kind : GrammarFaultKind
   pub kind_is : fault.kind ≡ kind_of_word kind
