@@ -1,9 +1,10 @@
 -- What a node is, and how it starts.
-use Rattle.std.specs.Prelude.{◌≡◌, ℕ, ◌+◌, ◌<◌, ◌≤◌, List, length, replicate}
+use Rattle.std.specs.Prelude.{◌≡◌, ℕ, ◌+◌, ◌<◌, ◌≤◌, List, Some, length, replicate}
 use Rattle.std_blocks.specs.declared.value.Value.{Value}
-use Rattle.plant.specs.PlantValue.{PlantValue, codes_at}
+use Rattle.plant.specs.PlantValue.{PlantValue, code_at, codes_at}
+use Rattle.evaluation.specs.Meaning.{Evaluated}
 use Rattle.exchange_core.specs.HeldMessages.{IsShaped}
-use Rattle.exchange_core.specs.MessageCoreValue.{MessageCoreValue, fresh_core, IsRestartOf}
+use Rattle.exchange_core.specs.MessageCoreValue.{MessageCoreValue, fresh_core, own_last, own_task, IsRestartOf}
 
 -- A node: its core, how many lines it has done since it started, and how many evaluations it made of them.
 pub record NodeValue : Type 0 where
@@ -26,6 +27,11 @@ pub record IsStarted (plant : PlantValue) (n : ℕ) (opening : List (List Value)
   pub no_lines : s.lines ≡ 0
   pub none_made : s.made ≡ 0
 
+-- the last evaluation of each of a core's tasks is by the task's code
+abbrev pub AreLastsOwn : MessageCoreValue → Type 0
+AreLastsOwn core =
+    (task : ℕ) (x : Evaluated) → own_last core task ≡ Some x → code_at core.plant (own_task core task) ≡ Some x.code
+
 -- the parts of a node suit each other
 pub record IsNodeOf (plant : PlantValue) (n : ℕ) (s : NodeValue) : Type 0 where
   pub plant_is : s.core.plant ≡ plant
@@ -35,6 +41,7 @@ pub record IsNodeOf (plant : PlantValue) (n : ℕ) (s : NodeValue) : Type 0 wher
   pub heards : length s.core.heard ≡ length plant.resources
   pub shaped : IsShaped plant s.core.table
   pub kept_each : length s.core.kept ≡ length (codes_at plant n)
+  pub lasts : AreLastsOwn s.core
   pub fewer : s.made ≤ s.lines
 
 -- one more line was done, and of it so many evaluations were made

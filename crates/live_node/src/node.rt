@@ -11,7 +11,7 @@ ghost use Rattle.keepers.specs.LeftValues.{TellsLeft};
 ghost use Rattle.keepers.specs.declared.keeper_fault.KeeperFault.TheVariants as keeping;
 ghost use Rattle.live_node.specs.declared.line_refusal.LineRefusal.TheVariants as refusal;
 ghost use Rattle.live_node.specs.Answers.{refused_line};
-ghost use Rattle.live_node.specs.Keeping.{KeepsAllButOne, KeepsCore, OutliveAlike};
+ghost use Rattle.live_node.specs.Keeping.{KeepsAllButOne, KeepsCore, LeavesEither, OutliveAlike};
 ghost use Rattle.live_node.specs.declared.node_line.NodeLine.TheVariants as asked;
 ghost use Rattle.live_node.specs.NodeAnswers.{is_told, keeper_gives, own_hello, IsAnswered, HasBegun};
 ghost use Rattle.live_node.specs.declared.node_stop.NodeStop.TheVariants as ends;
@@ -83,6 +83,7 @@ fn keep_after<K: Keeper>(
 ) -> Result<(), NodeStop>
     ensures last { K.last keeper.new ≡ K.last keeper.old }
     ensures kept { OnOk result (TellsLeft (K.kept_gives keeper.new) evaluation.now) }
+    ensures either { OnErr result (LeavesEither (K.kept_gives keeper.old) (K.kept_gives keeper.new) evaluation.now) }
     ensures others { KeepsOthers (K.kept_gives keeper.old) (K.kept_gives keeper.new) evaluation.now.name.task.task }
     ensures unasked { evaluation.now.code.retained ≡ [] → keeper.new ≡ keeper.old }
     ensures fault { IfErr result (λ stop. (stop ≡ stop_for keeping.Unwritable) ⊎ (stop ≡ stop_for keeping.Memory)) }

@@ -8,7 +8,7 @@ use Rattle.live_node.specs.NodeSteps.{HasMade}
 use Rattle.live_node.specs.NodeValue.{NodeValue}
 use Rattle.live_node.proofs.Telling.{evaluated_answer}
 use Rattle.live_node.proofs.Stopping.{all_sent, none_unevaluated, part_unevaluated, unkept}
-use Rattle.live_node.proofs.Outliving.{all_but_one, unchanged_rest, evaluated_keeps, evaluated_rest}
+use Rattle.live_node.proofs.Outliving.{all_but_one, unchanged_rest, evaluated_keeps, evaluated_rest, made_rest}
 use Rattle.live_node.proofs.node.Node.answer_evaluate.Goals as goal
 
 pub returns-in_err-push_refused-clause-stopped : goal.returns-in_err-push_refused-clause-stopped
@@ -53,17 +53,17 @@ returns-in_default-evaluate-clause-rest g c =
 pub returns-in_err-keep_after-clause-rest : goal.returns-in_err-keep_after-clause-rest
 returns-in_err-keep_after-clause-rest g c =
     on_err _ (evaluated_rest g.K.Keeper.kept_gives c.args.self.now.keeper c.note_line.new.self.keeper c.keep_after.new.keeper c.args.self.now.state c.note_line.new.self.state c.evaluate.new.self.core c.in-Ok.frame c.evaluation.result.now
-    c.in_ok-note_line.ensures.keeper c.in_ok-note_line.ensures.state c.evaluation.ensures c.in-Ok.ensures.left c.in_err-keep_after.ensures.others)
+    c.in_ok-note_line.ensures.keeper c.in_ok-note_line.ensures.state c.evaluation.ensures c.in-Ok.ensures.left c.in_err-keep_after.ensures.others c.in_err-keep_after.ensures.either)
 
 pub returns-in_err-push_message_sends-clause-rest : goal.returns-in_err-push_message_sends-clause-rest
 returns-in_err-push_message_sends-clause-rest g c =
-    on_err _ (evaluated_rest g.K.Keeper.kept_gives c.args.self.now.keeper c.note_line.new.self.keeper c.keep_after.new.keeper c.args.self.now.state c.note_line.new.self.state c.evaluate.new.self.core c.in-Ok.frame c.evaluation.result.now
-    c.in_ok-note_line.ensures.keeper c.in_ok-note_line.ensures.state c.evaluation.ensures c.in-Ok.ensures.left c.in_ok-keep_after.ensures.others)
+    on_err _ (made_rest g.K.Keeper.kept_gives c.args.self.now.keeper c.note_line.new.self.keeper c.keep_after.new.keeper c.args.self.now.state c.note_line.new.self.state c.evaluate.new.self.core c.in-Ok.frame c.evaluation.result.now
+    c.in_ok-note_line.ensures.keeper c.in_ok-note_line.ensures.state c.evaluation.ensures c.in-Ok.ensures.left c.in_ok-keep_after.ensures.others c.in_ok-keep_after.ensures.kept)
 
 pub returns-in_err-push_evaluation-clause-rest : goal.returns-in_err-push_evaluation-clause-rest
 returns-in_err-push_evaluation-clause-rest g c =
-    on_err _ (evaluated_rest g.K.Keeper.kept_gives c.args.self.now.keeper c.note_line.new.self.keeper c.keep_after.new.keeper c.args.self.now.state c.note_line.new.self.state c.evaluate.new.self.core c.in-Ok.frame c.evaluation.result.now
-    c.in_ok-note_line.ensures.keeper c.in_ok-note_line.ensures.state c.evaluation.ensures c.in-Ok.ensures.left c.in_ok-keep_after.ensures.others)
+    on_err _ (made_rest g.K.Keeper.kept_gives c.args.self.now.keeper c.note_line.new.self.keeper c.keep_after.new.keeper c.args.self.now.state c.note_line.new.self.state c.evaluate.new.self.core c.in-Ok.frame c.evaluation.result.now
+    c.in_ok-note_line.ensures.keeper c.in_ok-note_line.ensures.state c.evaluation.ensures c.in-Ok.ensures.left c.in_ok-keep_after.ensures.others c.in_ok-keep_after.ensures.kept)
 
 pub returns-clause-answered : goal.returns-clause-answered
 returns-clause-answered g c =
