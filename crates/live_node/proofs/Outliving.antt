@@ -28,7 +28,8 @@ use Rattle.exchange_core.specs.Openings.{AreOpeningOf}
 use Rattle.exchange_core.specs.MessageCoreValue.{MessageCoreValue, fresh_core, kept_at, own_last, own_task, holding, IsAccepted, IsNext, IsNextOf, IsRestartOf}
 use Rattle.live_node.specs.declared.live_stop.LiveStop.{LiveStop}
 use Rattle.live_node.specs.declared.live_stop.LiveStop.TheVariants.{Node, Read, Write, Memory}
-use Rattle.live_node.specs.Keeping.{HasNotFailed, outliving, IsOutlived, KeepsCore, KeepsAllButOne, LeavesEither, OutliveAlike, OutlivesMade, TellsBefore}
+use Rattle.live_node.specs.Keeping.{HasNotFailed, outliving, IsOutlived, KeepsCore, KeepsAllButOne, OutliveAlike, OutlivesMade, TellsBefore}
+use Rattle.live_node.specs.Steps.Keeping.{LeavesEither}
 use Rattle.keepers.specs.Openings.{TellsOpening}
 use Rattle.live_node.specs.NodeSteps.{HasTaken, HasHeardOf}
 use Rattle.live_node.specs.NodeValue.{NodeValue, core_at_0, AreLastsOwn, IsStarted, IsNodeOf, node_of}

@@ -6,7 +6,7 @@ use Rattle.plant.specs.PlantValue.{code_at}
 use Rattle.evaluation.specs.Last.{left_by}
 use Rattle.evaluation.specs.Meaning.{Evaluated}
 use Rattle.evaluation.specs.Retained.{retained_values, warm_state}
-use Rattle.keepers.specs.Keepers.{Telling, KeepsEither}
+use Rattle.keepers.specs.Keepers.{Telling}
 use Rattle.exchange_core.specs.MessageCoreValue.{MessageCoreValue, kept_at, own_last, own_task}
 use Rattle.live_node.specs.declared.live_stop.LiveStop.{LiveStop}
 use Rattle.live_node.specs.declared.live_stop.LiveStop.TheVariants.{Node, Read, Write, Memory}
@@ -62,10 +62,6 @@ pub record OutlivesMade (old new : MessageCoreValue) (x : Evaluated) : Type 0 wh
   pub began : IsOutlived x.code (kept_at new x.name.task.task) x (outliving old x.name.task.task)
   pub own : outliving new x.name.task.task ≡ retained_values x.code x.after
   pub others : (task : ℕ) → task ≢ x.name.task.task → outliving new task ≡ outliving old task
-
--- of an evaluation's task what could be told still can be, or else what the evaluation left
-abbrev pub LeavesEither : Telling → Telling → Evaluated → Type 0
-LeavesEither before now x = KeepsEither before now x.name.task.task x.code (retained_values x.code x.after)
 
 -- a node didn't fail itself: its lines ended or can't be read, or its answers written
 abbrev pub HasNotFailed : {T : Type 0} → Result T LiveStop → Type 0

@@ -2,3 +2,4 @@
 pub mod Reading
 pub mod Answering
 pub mod LineTaking
+pub mod Keeping
