@@ -14,7 +14,7 @@ ROOMS = f"{ROOT}/.git/plc-rooms"
 
 
 def place_of_rooms():
-    """Where rooms are made: beside the repository's own files, where rt ci doesn't look, or else where files come and go."""
+    """Where rooms are made: beside the repository's own files, where git doesn't look, or else where files come and go."""
     if not os.path.isdir(f"{ROOT}/.git"):
         return tempfile.gettempdir()
     shutil.rmtree(ROOMS, ignore_errors=True)
