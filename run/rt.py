@@ -41,15 +41,22 @@ def each_once(sum_of):
     return sum_once
 
 
+def load_once(path):
+    """rt as a module, with each sum made once."""
+    rt = load(path)
+    crate = rt.rtlib.Crate
+    crate.stamp = each_once(crate.stamp)
+    return rt
+
+
 def main(words):
     path = shutil.which("rt")
     try:
-        rt = load(path)
-        crate = rt.rtlib.Crate
-        crate.stamp = each_once(crate.stamp)
+        rt = load_once(path)
     except (AttributeError, ImportError, SyntaxError, UnicodeDecodeError):
         os.execv(path, [path, *words])
     return rt.main(words)
 
 
-sys.exit(main(sys.argv[1:]))
+if __name__ == "__main__":
+    sys.exit(main(sys.argv[1:]))

@@ -1,10 +1,14 @@
 """Libraries of C that are loaded before those of a program, and change what its calls answer."""
 import os
 import subprocess
+import sys
 
 HERE = os.path.dirname(os.path.realpath(__file__))
 ROOT = os.path.dirname(HERE)
-PROGRAM = os.environ.get("PLC", os.path.join(ROOT, "crates", "plc_main", "out", "plc_main"))
+sys.path.append(os.path.join(ROOT, "run"))
+from shipped import newest_program
+
+PROGRAM = os.environ.get("PLC", newest_program())
 
 
 def built(name, place):

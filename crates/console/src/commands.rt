@@ -6,11 +6,9 @@ use crate::help::{
     AUDIT_HELP, CHECK_HELP, EVAL_HELP, EXPLAIN_HELP, FIRST_STEPS, NODE_HELP, PLAN_HELP, RUN_HELP,
     SIM_HELP, VERIFY_HELP,
 };
+use crate::version::VERSION;
 use clap::{Arg, ArgAction, Command};
 use std::alloc::{AllocError, Global};
-
-/// The version of the program.
-const VERSION: &str = "0.1.0";
 
 /// A word that must be given.
 fn needed_arg<'a>(alloc: Global, id: &'a str, help: &'a str) -> Arg<'a>

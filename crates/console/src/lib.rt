@@ -19,6 +19,7 @@ mod schedules;
 mod shown;
 mod status;
 mod verify_answer;
+mod version;
 
 pub use answered::Answered;
 pub use answers::{answer_kind, answer_kinds, answer_text, obey, wanted_for};
