@@ -1,0 +1,1885 @@
+//! The page around a text, made of crates/page/page by run/page_text.py.
+
+/// What stands before the text: what the page looks like.
+pub const HEAD: &str = r#"<!doctype html>
+<html lang="en">
+<head>
+<meta charset="utf-8">
+<meta http-equiv="Content-Security-Policy" content="default-src 'none'; style-src 'sha256-ZHN9A9/eLcUQ3a8siBK34W2yaQlEOFRI0JxyJ8eLsow='; script-src 'sha256-KUk662Ykz2Sw0i6CZenO6zIfWJxcnQPDG246AnLU4+8=' 'sha256-lPj4cpwjGKs1KNQ3heaVz5dVrnVpTQ9+fBwfhgB7FX0='; base-uri 'none'; form-action 'none'">
+<meta name="viewport" content="width=device-width, initial-scale=1">
+<meta name="color-scheme" content="light dark">
+<title>plc</title>
+<style>/* Colours by the system: each ink on its paper has the contrast of WCAG AA. */
+:root {
+  color-scheme: light dark;
+  --paper: #ffffff; --sheet: #fbfcfd; --edge: #c9d1d9; --ink: #1b1f24; --faint: #56606b; --off: #6a737d;
+  --live: #0a7a33; --live-fill: #bdebc9; --high: #bfe0c9; --band: #dbe7f7; --wave: #2a62a8;
+  --lit: #fff0a8; --lit-edge: #8a6100; --pick: #eef3fa; --cursor: #f6d77a; --focus: #0b57d0;
+  --old: #a14a00; --stray: #7d2aa5; --unused: #56606b; --restart: #0b57b0; --bad: #b3261e; --bad-fill: #fce4e2; --good: #0a6e2e;
+}
+@media (prefers-color-scheme: dark) {
+  :root {
+    --paper: #12161b; --sheet: #171c22; --edge: #3b444e; --ink: #e8eaed; --faint: #a6b0ba; --off: #8d97a1;
+    --live: #4be08a; --live-fill: #14532d; --high: #1d4a30; --band: #22344d; --wave: #8ab8f5;
+    --lit: #574800; --lit-edge: #f2cc4d; --pick: #212a35; --cursor: #7a6212; --focus: #8ab4f8;
+    --old: #ffb35c; --stray: #dba2ff; --unused: #a6b0ba; --restart: #84bdff; --bad: #ff9a92; --bad-fill: #4a1f1d; --good: #6fe39a;
+  }
+}
+* { box-sizing: border-box; }
+html { background: var(--paper); color: var(--ink); font: 15px/1.45 system-ui, "Segoe UI", Roboto, "DejaVu Sans", sans-serif; }
+body { margin: 0; padding: 0 16px 24px; }
+#text, .lines { font: 14px/1.4 "DejaVu Sans Mono", Menlo, Consolas, monospace; white-space: pre; overflow-x: auto; margin: 12px 0; tab-size: 8; }
+.drawn #text { display: none; }
+html:not(.drawn) main { display: none; }
+
+header { display: flex; flex-wrap: wrap; gap: 8px 16px; align-items: center; justify-content: space-between; padding: 12px 0; }
+h1 { font-size: 18px; margin: 0; }
+section { margin: 0 0 20px; }
+button, select { font: inherit; color: var(--ink); background: var(--paper); border: 1px solid var(--off); border-radius: 6px; padding: 4px 10px; min-height: 32px; cursor: pointer; max-width: 100%; }
+button:hover { background: var(--pick); }
+:focus-visible { outline: 3px solid var(--focus); outline-offset: 1px; }
+kbd { font: 13px "DejaVu Sans Mono", monospace; border: 1px solid var(--off); border-radius: 4px; padding: 0 5px; }
+.buttons { display: flex; gap: 8px; }
+.keys { color: var(--ink); background: var(--paper); border: 1px solid var(--off); border-radius: 10px; max-width: 30rem; }
+.keys dl { display: grid; grid-template-columns: auto 1fr; gap: 6px 14px; }
+.keys dd { margin: 0; }
+code { font: 14px "DejaVu Sans Mono", Menlo, Consolas, monospace; overflow-wrap: anywhere; }
+
+/* Ladders: thin and grey without power, thick and green with it. */
+.sheet { overflow-x: auto; border: 1px solid var(--edge); border-radius: 8px; background: var(--sheet); margin-bottom: 10px; }
+.ladder { display: block; max-width: none; }
+.ladder text { font: 16px "DejaVu Sans Mono", Menlo, Consolas, monospace; fill: var(--ink); }
+.ladder path { fill: none; }
+.rail { stroke: var(--ink); stroke-width: 3; }
+.wire, .operand { stroke: var(--off); stroke-width: 1.5; }
+.ladder:not(.shown) .wire { stroke: var(--ink); }
+.operand { stroke-dasharray: 2 4; }
+.wire.live { stroke: var(--live); stroke-width: 5.5; }
+.dot { fill: var(--off); }
+.dot.live { fill: var(--live); }
+.ladder:not(.shown) .dot { fill: var(--ink); }
+.body { stroke: var(--ink); stroke-width: 2; }
+.inside { fill: transparent; }
+.box .inside, .box-part .inside { fill: var(--paper); }
+.contact.live .body, .coil.live .body { stroke: var(--live); stroke-width: 4.5; }
+.contact.live .inside, .coil.live .inside { fill: var(--live-fill); }
+.ladder .letter { text-anchor: middle; font-size: 13px; font-weight: 700; }
+.ladder .block { text-anchor: middle; font-weight: 700; }
+.ladder .pin { fill: var(--faint); }
+.ladder .pin.live { fill: var(--live); font-weight: 700; }
+.ladder .word.on { font-weight: 700; fill: var(--live); }
+.ladder .literal { fill: var(--faint); }
+.reach { fill: transparent; stroke: none; }
+.contact, .coil, .box, .word.name { cursor: pointer; }
+.contact:focus-visible, .coil:focus-visible, .box:focus-visible { outline: none; }
+.contact:focus-visible .reach, .coil:focus-visible .reach, .box:focus-visible .inside { stroke: var(--focus); stroke-width: 2.5; }
+.contact.lit .reach, .coil.lit .reach, .box.lit .inside, .box-part.lit .inside { fill: var(--lit); }
+.ladder .word.lit { fill: var(--lit-edge); text-decoration: underline; }
+
+.player { display: flex; flex-wrap: wrap; gap: 6px; align-items: center; margin: 0 0 10px; }
+.player button { min-width: 40px; }
+.player input { flex: 1 1 160px; min-width: 120px; accent-color: var(--live); }
+.scan-number { font-variant-numeric: tabular-nums; font-weight: 600; }
+
+/* Timing diagrams */
+.timing { display: flex; overflow-x: auto; border: 1px solid var(--edge); border-radius: 8px; background: var(--sheet); position: relative; }
+.names { position: sticky; left: 0; z-index: 2; background: var(--sheet); border-right: 1px solid var(--edge); flex: none; }
+.track { height: 34px; display: flex; gap: 14px; justify-content: space-between; align-items: center; padding: 0 10px; font: 14px "DejaVu Sans Mono", Menlo, Consolas, monospace; white-space: nowrap; cursor: pointer; }
+.track.head { font-family: inherit; color: var(--faint); cursor: default; }
+.track output { font-weight: 700; min-width: 3ch; text-align: right; }
+.track.on .name, .track.on output { font-weight: 700; color: var(--live); }
+.track.lit { background: var(--lit); }
+.field { position: relative; flex: none; }
+.waves { position: absolute; top: 0; display: block; }
+.waves text, .lanes text { font: 12px "DejaVu Sans Mono", Menlo, Consolas, monospace; fill: var(--ink); }
+.waves .scale { fill: var(--faint); }
+.grid { stroke: var(--edge); stroke-width: 1; fill: none; }
+.wave { stroke: var(--wave); stroke-width: 1.8; fill: none; }
+.wave.bit { stroke: var(--live); stroke-width: 2; }
+.high { fill: var(--high); }
+.band { fill: var(--band); }
+.cursor { fill: var(--cursor); opacity: .45; stroke: var(--lit-edge); stroke-width: 1.5; }
+
+/* Events */
+.chips, .tools { display: flex; flex-wrap: wrap; gap: 6px 8px; align-items: center; margin: 0 0 8px; }
+.chip { border: 1px solid var(--edge); border-radius: 999px; padding: 3px 12px; font-size: 14px; min-height: 0; }
+button.chip { border-width: 2px; font-weight: 700; }
+.chip.is-old { color: var(--old); border-color: currentColor; }
+.chip.is-stray { color: var(--stray); border-color: currentColor; }
+.chip.is-restart { color: var(--restart); border-color: currentColor; }
+.chip.is-unused { color: var(--unused); border-color: currentColor; }
+.chip.is-refused, .chip.is-fault, .chip.is-unanswered, .chip.is-unshown, .chip.is-replay, .chip.is-differs { color: var(--bad); border-color: currentColor; }
+.chip.is-equal { color: var(--good); border-color: currentColor; font-weight: 700; }
+.lane-frame { display: flex; gap: 4px; }
+.lane-box { overflow: auto; max-height: min(76vh, 1000px); border: 1px solid var(--edge); border-radius: 8px; background: var(--sheet); flex: 1 1 auto; min-width: 0; }
+.lane-heads { position: sticky; top: 0; z-index: 2; height: 34px; background: var(--sheet); border-bottom: 1px solid var(--edge); }
+.lane-head { position: absolute; top: 0; height: 33px; padding: 5px 8px; font: 15px "DejaVu Sans Mono", Menlo, Consolas, monospace; white-space: nowrap; border-left: 3px solid var(--off); }
+.lanes { position: absolute; left: 0; display: block; }
+.lane-box .field { cursor: default; }
+.overview { width: 12px; flex: none; cursor: pointer; }
+.overview rect, .lanes .band { fill: var(--bad); }
+.overview .is-old { fill: var(--old); }
+.overview .is-stray { fill: var(--stray); }
+.overview .is-unused { fill: var(--unused); }
+.overview .is-restart { fill: var(--restart); }
+.lanes .band { fill: var(--bad-fill); }
+.lanes .band.is-equal { fill: var(--high); }
+.lanes .selected { fill: var(--pick); stroke: var(--edge); }
+.lane { stroke: var(--edge); stroke-width: 2; fill: none; }
+.lanes .number { fill: var(--faint); font-size: 11px; }
+.label { paint-order: stroke; stroke: var(--sheet); stroke-width: 4px; stroke-linejoin: round; }
+.lanes .faint { fill: var(--faint); }
+.lanes .strong { font-weight: 700; }
+.arrival { fill: var(--sheet); stroke: var(--off); stroke-width: 1.5; }
+.delivery-line { stroke: var(--off); stroke-width: 1; fill: none; opacity: .7; }
+.mark-ring { fill: var(--sheet); stroke-width: 2.5; }
+.mark-sign { stroke-width: 2.5; fill: none; }
+.mark-hollow { fill: none; stroke-width: 2; }
+.event.is-old text.strong, .event.is-old .mark-ring { fill: var(--old); }
+.event.is-stray text.strong { fill: var(--stray); }
+.event.is-unused text.strong { fill: var(--unused); }
+.event.is-restart text.strong { fill: var(--restart); }
+.event.is-old .mark-ring, .event.is-stray .mark-ring, .event.is-unused .mark-ring { fill: var(--sheet); }
+.is-old .mark-ring, .is-old .mark-sign, .delivery-line.is-old { stroke: var(--old); }
+.is-stray .mark-ring, .is-stray .mark-sign, .delivery-line.is-stray { stroke: var(--stray); }
+.is-unused .mark-ring, .is-unused .mark-hollow, .delivery-line.is-unused { stroke: var(--unused); }
+.delivery-line.is-old, .delivery-line.is-stray, .delivery-line.is-unused { stroke-width: 2; opacity: 1; }
+.event.refused text.strong, .event.fault text.strong, .event.unanswered text.strong, .event.unshown text.strong { fill: var(--bad); }
+.fault-sign { fill: var(--bad); }
+.break { stroke: var(--restart); stroke-width: 3; fill: none; }
+.heard, .sent { stroke: var(--off); stroke-width: 1.5; fill: none; }
+.shaft { fill: none; stroke: var(--task); stroke-width: 2; }
+.head { fill: var(--task); stroke: none; }
+.arrow.other .shaft { stroke-dasharray: 6 5; }
+.arrow.unseen .shaft { stroke-dasharray: 1 4; }
+.arrow.held .shaft { stroke-width: 4; }
+.point { fill: var(--task); stroke: var(--sheet); stroke-width: 1.5; }
+.lanes .wave { stroke-width: 2; }
+.detail { border: 1px solid var(--edge); border-radius: 8px; padding: 8px 12px; margin-top: 8px; min-height: 7.5em; }
+.detail dl { display: grid; grid-template-columns: auto 1fr; gap: 2px 14px; margin: 6px 0 0; font: 14px "DejaVu Sans Mono", Menlo, Consolas, monospace; }
+.detail dt { color: var(--faint); }
+.detail dd { margin: 0; overflow-wrap: anywhere; }
+.value-button { min-height: 0; padding: 0 8px; font: inherit; }
+
+/* Twelve colours of tasks, each of 3 to 1 on its paper; the shape of a point tells the thirteenth from the first. */
+.task-0 { --task: #1f6fb5; } .task-1 { --task: #b8480c; } .task-2 { --task: #7a3fb0; } .task-3 { --task: #0d7d6c; }
+.task-4 { --task: #b0246b; } .task-5 { --task: #6b6a00; } .task-6 { --task: #3d4fd1; } .task-7 { --task: #8c5a2b; }
+.task-8 { --task: #2e7d1e; } .task-9 { --task: #a31621; } .task-10 { --task: #4a5a68; } .task-11 { --task: #94308f; }
+@media (prefers-color-scheme: dark) {
+  .task-0 { --task: #6db3f2; } .task-1 { --task: #ff9b5e; } .task-2 { --task: #c79bf2; } .task-3 { --task: #4fd1bd; }
+  .task-4 { --task: #ff85be; } .task-5 { --task: #d6d34a; } .task-6 { --task: #a0abff; } .task-7 { --task: #d9aa7c; }
+  .task-8 { --task: #8ddb79; } .task-9 { --task: #ff8d94; } .task-10 { --task: #b3c1ce; } .task-11 { --task: #ee8fe8; }
+}
+
+/* Claims */
+.verdict { border: 2px solid; border-radius: 10px; padding: 14px 20px; background: var(--sheet); }
+.verdict .big { font-size: 40px; font-weight: 800; line-height: 1.1; }
+.verdict .sign { display: inline-block; min-width: 1.3em; }
+.verdict p { color: var(--ink); margin: 6px 0; font-size: 17px; }
+.verdict .command { color: var(--ink); }
+.is-holds { color: var(--good); border-color: currentColor; }
+.is-fails { color: var(--bad); border-color: currentColor; }
+.is-undecided { color: var(--old); border-color: currentColor; }
+
+@media (max-width: 600px) {
+  body { padding: 0 8px 16px; }
+  .verdict .big { font-size: 32px; }
+  .track { padding: 0 6px; gap: 8px; }
+}
+@media print {
+  :root { color-scheme: light; }
+  .buttons, .player, .tools, .overview, .detail { display: none; }
+  .lane-box { max-height: none; overflow: visible; }
+  .sheet, .timing { overflow: visible; }
+  section { break-inside: auto; }
+  * { print-color-adjust: exact; -webkit-print-color-adjust: exact; }
+}
+</style>
+<script>// The text is drawn once it is read; where scripts may not run it stands there as it is.
+document.documentElement.className = "drawn";
+</script>
+</head>
+<body>
+<pre id="text">
+"#;
+
+/// What stands behind the text: what draws it.
+pub const FOOT: &str = r##"</pre>
+<script>// Draws the text of this page: drawings and their scans, rows, events and claims. All else stays text.
+// 1. the text, 2. its lines by their form, 3. ladders, 4. events, 5. elements, 6. views, 7. the page.
+"use strict";
+(() => {
+// ---- 1. The text ----
+
+/** The text of the page. A <wbr> in it stands for a NUL, which HTML can't hold. */
+function textOf(pre) {
+  const parts = [];
+  for (const node of pre.childNodes) parts.push(node.nodeType === Node.TEXT_NODE ? node.data : "\0");
+  return parts.join("");
+}
+
+/** The lines of a text, without the carriage return before a line feed and the colours of a terminal. */
+function linesOf(text) {
+  const lines = text.split("\n");
+  if (lines[lines.length - 1] === "") lines.pop();
+  const isPlain = !text.includes("\r") && !text.includes("\x1b");
+  return isPlain ? lines : lines.map((line) => line.replace(/\r$/, "").replace(/\x1b\[[0-9;]*m/g, ""));
+}
+
+// ---- 2. Lines by their form ----
+
+const VALUE = "(?:-?\\d+|T#\\d+ms)";
+const ROW = new RegExp(`^[A-Za-z_]\\w*=${VALUE}(?: [A-Za-z_]\\w*=${VALUE})*$`);
+const VERDICT = /^(HOLDS|FAILS|UNDECIDED) (\S.*)$/;
+const ANSWERS = "taken|old|stray|unused";
+
+/** By a line's first word its forms, and what the event is that it tells. `present` marks what isn't as one would wish. */
+const EVENT_FORMS = {
+  EVAL: [
+    [/^EVAL (\d+) (\w+)\.(\w+) (\d+)\.(\d+) TAKES (\S.*) GIVES (\S.*)$/, (f) => (
+      { kind: "evaluation", message: f[1], lane: f[2], task: `${f[2]}.${f[3]}`, pair: `${f[4]}.${f[5]}`, takes: f[6], gives: f[7] })],
+    [/^EVAL (\w+)\.(\w+) (\d+)((?: %\S+=-?\d+)*)$/i, (f) => (
+      { kind: "evaluation", lane: f[1], task: `${f[1]}.${f[2]}`, dt: f[3], inputs: f[4].trim() })],
+  ],
+  DELIVER: [[new RegExp(`^DELIVER (\\d+) (\\w+)(?: (${ANSWERS}))?$`, "i"), (f) => (
+    { kind: "delivery", message: f[1], lane: f[2], answer: f[3] ?? "" })]],
+  RESTART: [[/^RESTART (\w+)(?: (\d+))?$/i, (f) => ({ kind: "restart", lane: f[1], incarnation: f[2] })]],
+  START: [[/^START (\w+) (\d+)$/, (f) => ({ kind: "restart", lane: f[1], incarnation: f[2], isStart: true })]],
+  HEAR: [[/^HEAR (\w+) (\w+) (\d+)(?: (new|old))?$/i, (f) => (
+    { kind: "hearing", lane: f[1], other: f[2], incarnation: f[3], answer: f[4] ?? "" })]],
+  HELLO: [[/^HELLO (\w+) (\d+) (new|old)$/, (f) => (
+    { kind: "hearing", isOwn: true, other: f[1], incarnation: f[2], answer: f[3] })]],
+  MESSAGE: [[new RegExp(`^MESSAGE (\\w+)\\.(\\w+) (\\d+\\.\\d+) (${ANSWERS})$`), (f) => (
+    { kind: "delivery", isOwn: true, from: f[1], task: `${f[1]}.${f[2]}`, pair: f[3], answer: f[4] })]],
+  SEND: [[/^SEND (\w+) ((?:HELLO|MESSAGE) .+)$/, (f) => ({ kind: "sending", isOwn: true, to: f[1], sent: f[2] })]],
+  REFUSED: [[/^REFUSED(?: (\d+))? (\w+)$/, (f) => ({ kind: "refused", isOwn: !f[1], event: f[1], cause: f[2] })]],
+  UNANSWERED: [[/^UNANSWERED (\d+)$/, (f) => ({ kind: "unanswered", ticket: f[1] })]],
+  FAULT: [[/^FAULT (\w+) (\d+) (\w+)$/, (f) => ({ kind: "fault", lane: f[1], ticket: f[2], cause: f[3] })]],
+  UNSHOWN: [[/^UNSHOWN (.+:(?:\d+) \w+(?: .*)?)$/, (f) => ({ kind: "unshown", told: f[1] })]],
+  NOJOURNAL: [[/^NOJOURNAL (\w+)$/, (f) => ({ kind: "unshown", lane: f[1], told: "no journal" })]],
+  REPLAY: [[/^REPLAY (equal|differs)$/, (f) => ({ kind: "replay", answer: f[1] })]],
+};
+
+/** The event that a line tells, or undefined. */
+function eventOf(line) {
+  const end = line.indexOf(" ");
+  if (end < 4) return undefined;
+  for (const [form, event] of EVENT_FORMS[line.slice(0, end).toUpperCase()] ?? []) {
+    const found = form.exec(line);
+    if (found) return event(found);
+  }
+  return undefined;
+}
+
+/** Whether a line can be one of a drawing. */
+const isDrawn = (line) => line === "" || line[0] === " " || line[0] === "|" || line[0] === "+";
+
+/** Parts of the text that are drawn alike, in order; each with its first line and the one behind its last. */
+function sectionsOf(lines) {
+  const sections = [];
+  let at = 0;
+  const add = (section) => {
+    sections.push({ ...section, first: at });
+    at = section.end;
+  };
+  while (at < lines.length) {
+    const line = lines[at];
+    if (ROW.test(line)) add(scansFrom(lines, at));
+    else if (VERDICT.test(line)) add(verdictFrom(lines, at));
+    else if (eventOf(line)) add(eventsFrom(lines, at));
+    else add((isDrawn(line) && drawingFrom(lines, at)) || { form: "text", end: at + 1 });
+  }
+  return joinedTexts(sections);
+}
+
+/** Texts that follow each other are one. */
+function joinedTexts(sections) {
+  const joined = [];
+  for (const section of sections) {
+    const last = joined[joined.length - 1];
+    if (section.form === "text" && last?.form === "text") last.end = section.end;
+    else joined.push(section);
+  }
+  return joined;
+}
+
+const namesOf = (row) => row.replace(/=\S*/g, "");
+
+/** Rows of the same variables; behind each one the same number of drawn lines, or none. */
+function scansFrom(lines, first) {
+  const names = namesOf(lines[first]);
+  let height = 0;
+  while (first + 1 + height < lines.length && isDrawn(lines[first + 1 + height])) height += 1;
+  const rows = [];
+  const drawn = [];
+  let at = first;
+  while (at < lines.length && ROW.test(lines[at]) && namesOf(lines[at]) === names) {
+    const next = at + 1 + height;
+    if (next > lines.length || (next < lines.length && isDrawn(lines[next]))) break;
+    const below = lines.slice(at + 1, next);
+    if (!below.every(isDrawn)) break;
+    rows.push(lines[at]);
+    if (height) drawn.push(below);
+    at = next;
+  }
+  const ladder = height ? ladderOf(drawn) : undefined;
+  if (height && !ladder) return { form: "rows", rows: lines.slice(first, first + 1), end: first + 1 };
+  return { form: ladder ? "scans" : "rows", rows, drawn, ladder, end: at };
+}
+
+/** A claim, and the words that make its run. */
+function verdictFrom(lines, first) {
+  const [, verdict, told] = VERDICT.exec(lines[first]);
+  const command = lines[first + 1]?.startsWith("plc eval ") ? lines[first + 1] : undefined;
+  return { form: "verdict", verdict, told, command, end: first + (command ? 2 : 1) };
+}
+
+/** Events, one behind the other; comments and blank lines of a schedule may stand between. */
+function eventsFrom(lines, first) {
+  const events = [];
+  let end = first;
+  for (let at = first; at < lines.length; at += 1) {
+    const event = eventOf(lines[at]);
+    if (event) {
+      events.push({ ...event, line: at });
+      end = at + 1;
+    } else if (!/^[ \t]*(#.*)?$/.test(lines[at])) break;
+  }
+  return { form: "events", run: runOf(events), end };
+}
+
+/** A drawing that begins at this line, or undefined: of all lines that can be drawn, or of those between rails alone. */
+function drawingFrom(lines, first) {
+  let all = first;
+  while (all < lines.length && isDrawn(lines[all])) all += 1;
+  let railed = first;
+  while (railed < all && /^ *[|+]/.test(lines[railed])) railed += 1;
+  for (const end of all === railed ? [all] : [all, railed]) {
+    const drawn = lines.slice(first, end);
+    const ladder = drawn.some((line) => /[-=]/.test(line)) && ladderOf([drawn]);
+    if (ladder) return { form: "drawing", rows: [], drawn: [drawn], ladder, end };
+  }
+  return undefined;
+}
+
+// ---- 3. Ladders ----
+
+const BLANK = 0, RAIL = 1, WIRE = 2, JOIN = 3, UPRIGHT = 4, SYMBOL = 5, BOX = 6, OPERAND = 7, WORD = 8;
+const BLOCKS = new Set(["SR", "RS", "CTU", "CTD", "CTUD", "TP", "TON", "TOF"]);
+const WORDS = /[A-Za-z0-9_.#]+/g;
+const DURATION = /(?<![A-Za-z0-9_.#])(?:T|TIME)#[0-9][A-Za-z0-9_]*/gi;
+
+/** What is drawn, without power: a sign that some scan shows as drawn, else `-` for `=`, and `+` for a `#` that is in no duration. */
+function withoutPower(scans) {
+  const rows = [];
+  for (let row = 0; row < scans[0].length; row += 1) {
+    const shown = [...new Set(scans.map((scan) => scan[row]))];
+    if (shown.some((it) => it.length !== shown[0].length)) return undefined;
+    const signs = [...shown[0]].map((_, column) => {
+      const drawn = shown.map((it) => it[column]).find((sign) => sign !== "=" && sign !== "#");
+      return drawn ?? (shown[0][column] === "=" ? "-" : "#");
+    });
+    rows.push(withoutHashes(signs.join("")));
+  }
+  return rows;
+}
+
+/** A row with `+` for each `#` that is in no duration. */
+function withoutHashes(row) {
+  if (!row.includes("#")) return row;
+  const kept = new Set();
+  for (const found of row.matchAll(DURATION)) kept.add(found.index + found[0].indexOf("#"));
+  return row.replace(/#/g, (sign, at) => (kept.has(at) ? sign : "+"));
+}
+
+/** The ladder that all these scans show, or undefined where they show no whole one, or not the same. */
+function ladderOf(scans) {
+  const rows = withoutPower(scans);
+  if (!rows || !rows.some((row) => row.trim())) return undefined;
+  const ladder = new Ladder(rows);
+  return ladder.isWhole ? ladder : undefined;
+}
+
+/** What stands at each place of a drawing. Rows and columns count from 0. */
+class Ladder {
+  constructor(rows) {
+    this.rows = rows.map((row) => row.trimEnd());
+    this.width = Math.max(...this.rows.map((row) => row.length));
+    this.rail = Math.min(...this.rows.filter(Boolean).map((row) => row.search(/[^ ]/)));
+    this.marks = this.rows.map((row) => new Uint8Array(row.length));
+    this.boxes = [];
+    this.symbols = [];
+    this.isWhole = this.rows.every((row) => " |+".includes(this.sign2(row, this.rail)));
+    this.findBoxes();
+    this.findSymbols(/\|[ \/PNpn]\|/g, false);
+    this.findSymbols(/\([ \/SRPNsrpn]\)/g, true);
+    this.findWords();
+    this.findOperands();
+    this.markRails();
+    this.markRest();
+    this.nameThings();
+    this.byRow = this.thingsByRow();
+  }
+
+  sign2(row, column) {
+    return row[column] ?? " ";
+  }
+
+  sign(row, column) {
+    return this.rows[row]?.[column] ?? " ";
+  }
+
+  mark(row, column) {
+    return this.marks[row]?.[column] ?? BLANK;
+  }
+
+  findBoxes() {
+    const top = /(?=(\+-+\+))/g;
+    this.rows.forEach((line, row) => {
+      for (const found of line.matchAll(top)) {
+        if (found.index <= this.rail) continue;
+        const left = found.index;
+        const right = left + found[1].length - 1;
+        const block = this.inside(row + 1, left, right)?.trim();
+        if (block !== undefined && BLOCKS.has(block.toUpperCase())) this.addBox({ top: row, left, right, block, pins: [] });
+      }
+    });
+  }
+
+  /** What stands between the sides of a box in a row; undefined where these aren't there. */
+  inside(row, left, right) {
+    const hasSides = "|>".includes(this.sign(row, left)) && this.sign(row, right) === "|";
+    return hasSides ? this.rows[row].slice(left + 1, right) : undefined;
+  }
+
+  addBox(box) {
+    let row = box.top + 2;
+    const isBottom = () => /^\+-+\+$/.test((this.rows[row] ?? "").slice(box.left, box.right + 1));
+    while (row < this.rows.length && !isBottom()) {
+      const inner = this.inside(row, box.left, box.right);
+      const pins = inner === undefined ? undefined : pinsOf(inner, row, box);
+      if (!pins) break;
+      box.pins.push(...pins);
+      row += 1;
+    }
+    box.bottom = row;
+    if (row >= this.rows.length || !isBottom()) {
+      this.isWhole = false;
+      return;
+    }
+    for (let at = box.top; at <= row; at += 1) this.marks[at].fill(BOX, box.left, box.right + 1);
+    this.boxes.push(box);
+  }
+
+  findSymbols(form, isCoil) {
+    this.rows.forEach((line, row) => {
+      form.lastIndex = this.rail + 1;
+      for (let found = form.exec(line); found; found = form.exec(line)) {
+        const column = found.index;
+        const isFree = [0, 1, 2].every((k) => this.mark(row, column + k) === BLANK);
+        const isOne = isFree && (isCoil || "-+".includes(this.sign(row, column - 1)));
+        if (isOne) {
+          this.symbols.push({ row, column, isCoil, sign: found[0][1].toUpperCase() });
+          this.marks[row].fill(SYMBOL, column, column + 3);
+        }
+        form.lastIndex = column + (isOne ? 3 : 1);
+      }
+    });
+  }
+
+  findWords() {
+    this.words = [];
+    this.rows.forEach((line, row) => {
+      const free = [...line].map((sign, column) => (this.marks[row][column] === BLANK ? sign : " ")).join("");
+      for (const found of free.matchAll(WORDS)) {
+        this.words.push({ row, column: found.index, text: found[0] });
+        this.marks[row].fill(WORD, found.index, found.index + found[0].length);
+      }
+    });
+  }
+
+  /** The word at the end of a run of dashes outside a pin is its operand, and the dashes are no wire. */
+  findOperands() {
+    for (const box of this.boxes) for (const pin of box.pins) {
+      const step = pin.isLeft ? -1 : 1;
+      let at = pin.column + step;
+      while (this.sign(pin.row, at) === "-") at += step;
+      if (this.mark(pin.row, at) !== WORD) continue;
+      const word = this.words.find((it) => it.row === pin.row && it.column <= at && at < it.column + it.text.length);
+      word.isOperand = true;
+      pin.operand = word;
+      const [from, to] = pin.isLeft ? [at + 1, pin.column] : [pin.column + 1, at];
+      this.marks[pin.row].fill(OPERAND, from, to);
+    }
+  }
+
+  markRails() {
+    const last = this.width - 1;
+    const ends = this.rows.flatMap((line, row) => (line.length === this.width ? [row] : []));
+    this.hasRightRail = last > this.rail && ends.every((row) => "|+".includes(this.sign(row, last)) && this.mark(row, last) === BLANK);
+    this.rows.forEach((line, row) => {
+      if ("|+".includes(this.sign(row, this.rail))) this.marks[row][this.rail] = RAIL;
+    });
+    if (this.hasRightRail) for (const row of ends) this.marks[row][last] = RAIL;
+  }
+
+  markRest() {
+    const marks = { "-": WIRE, "+": JOIN, "|": UPRIGHT };
+    this.rows.forEach((line, row) => {
+      for (let column = 0; column < line.length; column += 1) {
+        if (line[column] === " " || this.marks[row][column] !== BLANK) continue;
+        this.marks[row][column] = marks[line[column]] ?? BLANK;
+        if (!(line[column] in marks)) this.isWhole = false;
+      }
+    });
+  }
+
+  /** Each symbol and box with its name, the word of the row above that overlaps it. */
+  nameThings() {
+    const things = [...this.symbols.map((it) => [it, it.row, it.column, it.column + 2]), ...this.boxes.map((it) => [it, it.top, it.left, it.right])];
+    const byRow = new Map();
+    for (const word of this.words) if (!word.isOperand) byRow.set(word.row, [...(byRow.get(word.row) ?? []), word]);
+    for (const [thing, row, first, last] of things) {
+      const above = (byRow.get(row - 1) ?? []).filter((it) => it.column <= last && first < it.column + it.text.length);
+      if (above.length !== 1) this.isWhole = false;
+      thing.name = above[0]?.text ?? "";
+    }
+  }
+
+  thingsByRow() {
+    const byRow = this.rows.map(() => ({ symbols: [], boxes: [], words: [] }));
+    for (const symbol of this.symbols) byRow[symbol.row].symbols.push(symbol);
+    for (const word of this.words) byRow[word.row].words.push(word);
+    for (const box of this.boxes) for (let row = box.top; row <= box.bottom; row += 1) byRow[row].boxes.push(box);
+    return byRow;
+  }
+
+  pinAt(row, column, isLeft) {
+    return this.byRow[row]?.boxes.some((box) => box.pins.some((pin) => pin.row === row && pin.column === column && pin.isLeft === isLeft)) ?? false;
+  }
+
+  /** Whether state passes from a place to its right, as far as that place tells. */
+  gives(row, column) {
+    const mark = this.mark(row, column);
+    if (mark === BOX) return this.pinAt(row, column, false);
+    return mark === WIRE || mark === JOIN || mark === SYMBOL || (mark === RAIL && column === this.rail);
+  }
+
+  /** Whether state passes to a place from its left, as far as that place tells. */
+  takes(row, column) {
+    const mark = this.mark(row, column);
+    if (mark === BOX) return this.pinAt(row, column, true);
+    return mark === WIRE || mark === JOIN || mark === SYMBOL;
+  }
+
+  isUpright(row, column) {
+    const mark = this.mark(row, column);
+    return mark === JOIN || mark === UPRIGHT;
+  }
+
+  /** Whether one place alone lets state into the upright of this place from the left. */
+  hasOneSource(row, column) {
+    let top = row;
+    while (this.isUpright(top - 1, column)) top -= 1;
+    let sources = 0;
+    for (let at = top; this.isUpright(at, column); at += 1) {
+      if (this.mark(at, column) === JOIN && this.gives(at, column - 1)) sources += 1;
+    }
+    return sources === 1;
+  }
+}
+
+/** The pins in an inner row of a box; undefined where anything else stands there. */
+function pinsOf(inner, row, box) {
+  const found = [...inner.matchAll(/[^ ]+/g)];
+  if (found.length > 2 || !found.every((it) => /^[A-Za-z_]\w*$/.test(it[0]))) return undefined;
+  const isLeft = (k) => (found.length === 2 ? k === 0 : found[0].index <= inner.length - found[0].index - found[0][0].length);
+  return found.map((it, k) => (
+    { row, name: it[0], at: box.left + 1 + it.index, isLeft: isLeft(k), column: isLeft(k) ? box.left : box.right }));
+}
+
+/** What has power in one scan of a ladder, place by place; of what no scan shows nothing is told. */
+class Power {
+  constructor(ladder, shown) {
+    this.ladder = ladder;
+    this.shown = shown;
+  }
+
+  isLive(row, column) {
+    const sign = this.shown[row]?.[column];
+    const mark = this.ladder.mark(row, column);
+    return (mark === WIRE && sign === "=") || ((mark === JOIN || mark === UPRIGHT) && sign === "#");
+  }
+
+  /** Whether state comes out of this place to its right: known where a wire or an upright tells it. */
+  comesOut(row, column) {
+    const { ladder } = this;
+    if (!ladder.gives(row, column) || !ladder.takes(row, column + 1)) return false;
+    const [own, next] = [ladder.mark(row, column), ladder.mark(row, column + 1)];
+    if (own === WIRE || own === JOIN) return this.isLive(row, column);
+    if (next === WIRE) return this.isLive(row, column + 1);
+    return next === JOIN && this.isLive(row, column + 1) && (own === RAIL || ladder.hasOneSource(row, column + 1));
+  }
+}
+
+// ---- 4. Events ----
+
+/** What a run tells beyond its lines: lanes and tasks, by which evaluation each message and take was made, the marks. */
+function runOf(events) {
+  const run = { events, lanes: [], tasks: new Map(), arrows: [], marks: [], variables: new Map() };
+  const lanes = new Map();
+  const messages = new Map();
+  const pairs = new Map();
+  const incarnations = new Map();
+  let own;
+  let made = 0;
+  const lane = (name) => {
+    const key = name.toUpperCase();
+    if (!lanes.has(key)) {
+      lanes.set(key, run.lanes.length);
+      run.lanes.push(name);
+    }
+    return lanes.get(key);
+  };
+  const raise = (name, incarnation) => {
+    const key = name.toUpperCase();
+    incarnations.set(key, Math.max(incarnations.get(key) ?? 1, Number(incarnation)));
+  };
+  const task = (name) => {
+    const key = name.toUpperCase();
+    if (!run.tasks.has(key)) run.tasks.set(key, { name, place: run.tasks.size, inLane: 0, lane: lane(name.split(".")[0]) });
+    return run.tasks.get(key);
+  };
+  nameOwners(events);
+  for (const [at, event] of events.entries()) {
+    event.at = at;
+    if (event.lane) own = event.lane;
+    if (event.isOwn) event.lane ??= own;
+    if (event.lane) event.column = lane(event.lane);
+    if (event.to) event.toColumn = lane(event.to);
+    if (event.other) lane(event.other);
+    if (event.kind === "evaluation") {
+      made += 1;
+      event.message ??= String(made);
+      event.of = task(event.task);
+      event.taken = takesOf(event.takes, run, task, pairs, incarnations, event);
+      if (event.pair) raise(event.lane, event.pair.split(".")[0]);
+      messages.set(event.message, event);
+      if (event.pair) pairs.set(`${event.task.toUpperCase()} ${event.pair}`, event);
+      noteValues(run, event);
+    } else if (event.kind === "delivery") {
+      if (event.task) {
+        event.of = task(event.task);
+        event.source = pairs.get(`${event.task.toUpperCase()} ${event.pair}`);
+        if (!event.source && event.answer === "taken") pairs.set(`${event.task.toUpperCase()} ${event.pair}`, event);
+      } else {
+        event.source = messages.get(String(BigInt(event.message)));
+      }
+    } else if (event.kind === "restart") {
+      if (event.incarnation) raise(event.lane, event.incarnation);
+    }
+    if (isMark(event)) run.marks.push(at);
+  }
+  spreadTasks(run);
+  return run;
+}
+
+/** A node writes what it sends before the line that tells whose it is: these events get their lane from the next one that has one. */
+function nameOwners(events) {
+  let next;
+  for (let at = events.length - 1; at >= 0; at -= 1) {
+    const event = events[at];
+    if (event.kind === "sending") event.lane = next;
+    else if (event.lane) next = event.lane;
+    else if (!event.isOwn) next = undefined;
+  }
+}
+
+/** From which evaluations one takes; each makes an arrow, if it stands here. */
+function takesOf(takes, run, task, pairs, incarnations, event) {
+  if (!takes || takes === "-") return [];
+  return takes.split(" ").map((word) => {
+    const [name, pair] = word.split("=");
+    const producer = task(name);
+    if (!pair || pair === "-") return { producer, pair: undefined };
+    const source = pairs.get(`${name.toUpperCase()} ${pair}`);
+    const present = incarnations.get(name.split(".")[0].toUpperCase()) ?? 1;
+    const isOther = Number(pair.split(".")[0]) !== present;
+    const take = { producer, pair, source, isOther };
+    run.arrows.push({ from: source, to: event, take });
+    if (source) (source.takers ??= []).push(event);
+    return take;
+  });
+}
+
+/** What an evaluation gives, for the lines of the variables; the value stands until the next one is given. */
+function noteValues(run, event) {
+  if (!event.gives || event.gives === "-") return;
+  for (const word of event.gives.split(" ")) {
+    const split = word.indexOf("=");
+    const key = `${event.lane}.${word.slice(0, split)}`;
+    let variable = run.variables.get(key);
+    if (!variable) {
+      variable = { name: key, column: event.column, at: [], values: [] };
+      run.variables.set(key, variable);
+    }
+    const value = word.slice(split + 1);
+    if (variable.values[variable.values.length - 1] === value) continue;
+    variable.at.push(event.at);
+    variable.values.push(value);
+  }
+}
+
+/** Each task's place among those of its lane. */
+function spreadTasks(run) {
+  run.perLane = run.lanes.map(() => 0);
+  const points = new Set(run.events.filter((it) => it.kind === "evaluation").map((it) => it.of));
+  for (const task of points) {
+    task.inLane = run.perLane[task.lane];
+    run.perLane[task.lane] += 1;
+  }
+}
+
+/** Whether an event stands out. */
+function isMark(event) {
+  if (event.kind === "delivery") return event.answer !== "taken" && event.answer !== "";
+  if (event.kind === "restart") return !event.isStart || event.incarnation !== "1";
+  if (event.kind === "replay") return event.answer === "differs";
+  return ["refused", "fault", "unanswered", "unshown"].includes(event.kind);
+}
+
+/** What kind of mark an event is, in a word. */
+const markOf = (event) => (event.kind === "delivery" ? event.answer : event.kind);
+
+// ---- 5. Elements ----
+
+const SVG = "http://www.w3.org/2000/svg";
+
+function filled(node, attributes, children) {
+  for (const [name, value] of Object.entries(attributes)) {
+    if (value === undefined || value === false) continue;
+    if (name.startsWith("on")) node.addEventListener(name.slice(2), value);
+    else node.setAttribute(name, value === true ? "" : value);
+  }
+  node.append(...children.flat().filter((it) => it !== undefined && it !== false));
+  return node;
+}
+
+const html = (name, attributes = {}, ...children) => filled(document.createElement(name), attributes, children);
+const svg = (name, attributes = {}, ...children) => filled(document.createElementNS(SVG, name), attributes, children);
+const path = (d, kind) => svg("path", { d, class: kind });
+const count = (number, one, many = `${one}s`) => `${number.toLocaleString("en")} ${number === 1 ? one : many}`;
+const classes = (...names) => names.filter(Boolean).join(" ");
+const clamp = (value, least, most) => Math.max(least, Math.min(most, value));
+
+/** Calls once in the next frame, however often it is asked. */
+function oncePerFrame(call) {
+  let isAsked = false;
+  return () => {
+    if (isAsked) return;
+    isAsked = true;
+    requestAnimationFrame(() => {
+      isAsked = false;
+      call();
+    });
+  };
+}
+
+// ---- 6. Views ----
+
+const CELL = 9.6;
+const LINE = 26;
+const MARGIN = 12;
+
+/** A ladder, with what has power in one scan. Only the rows in view are drawn. */
+class LadderView {
+  constructor(section, choose) {
+    this.ladder = section.ladder;
+    this.drawn = section.drawn;
+    this.hasPower = section.form === "scans";
+    this.choose = choose;
+    this.rows = new Map();
+    this.lit = undefined;
+    const width = this.ladder.width * CELL + 2 * MARGIN;
+    const height = this.ladder.rows.length * LINE + 2 * MARGIN;
+    this.layer = svg("g", { transform: `translate(${MARGIN} ${MARGIN})` });
+    this.picture = svg("svg", { class: classes("ladder", this.hasPower && "shown"), viewBox: `0 0 ${width} ${height}`, width, height, role: "group", "aria-label": "ladder" }, this.layer);
+    this.node = html("div", { class: "sheet" }, this.picture);
+    this.size = { width, height };
+  }
+
+  show(scan) {
+    const before = this.shown;
+    this.shown = this.drawn[scan];
+    this.power = new Power(this.ladder, this.hasPower ? this.shown : []);
+    for (const [row, group] of this.rows) if (before?.[row] !== this.shown[row]) this.redraw(row, group);
+    this.draw();
+  }
+
+  /** The least size at which names can still be read fits a narrow window; below it the sheet scrolls. */
+  fit() {
+    const scale = clamp((this.node.clientWidth - 2) / this.size.width, 0.72, 1);
+    this.picture.setAttribute("width", this.size.width * scale);
+    this.picture.setAttribute("height", this.size.height * scale);
+    this.scale = scale;
+  }
+
+  draw() {
+    if (!this.shown) return;
+    if (!this.scale) this.fit();
+    const step = LINE * this.scale;
+    const above = this.picture.getBoundingClientRect().top + MARGIN * this.scale;
+    const view = this.drawsAll ? [0, this.ladder.rows.length] : [(-above - 400) / step, (innerHeight - above + 400) / step];
+    const first = clamp(Math.floor(view[0]), 0, this.ladder.rows.length);
+    const end = clamp(Math.ceil(view[1]), 0, this.ladder.rows.length);
+    for (const [row, group] of this.rows) if (row < first || row >= end) {
+      group.remove();
+      this.rows.delete(row);
+    }
+    for (let row = first; row < end; row += 1) if (!this.rows.has(row)) {
+      const group = this.rowGroup(row);
+      this.rows.set(row, group);
+      this.layer.append(group);
+    }
+  }
+
+  redraw(row, group) {
+    const focused = group.contains(document.activeElement) ? document.activeElement.dataset.column : undefined;
+    const fresh = this.rowGroup(row);
+    group.replaceWith(fresh);
+    this.rows.set(row, fresh);
+    if (focused !== undefined) fresh.querySelector(`[data-column="${focused}"]`)?.focus();
+  }
+
+  rowGroup(row) {
+    const { ladder } = this;
+    const things = ladder.byRow[row];
+    return svg("g", { class: "row", "data-row": row, transform: `translate(0 ${row * LINE})` },
+      things.boxes.map((box) => this.boxPart(box, row)),
+      this.lines(row),
+      things.symbols.map((symbol) => this.symbol(symbol)),
+      things.words.map((word) => this.word(word)));
+  }
+
+  /** Rails, wires, joins and uprights of a row. */
+  lines(row) {
+    const { ladder, power } = this;
+    const parts = [];
+    const length = ladder.rows[row].length;
+    for (let column = 0; column < length; column += 1) {
+      const mark = ladder.mark(row, column);
+      if (mark === WIRE || mark === OPERAND) {
+        const isLive = power.isLive(row, column);
+        let end = column + 1;
+        while (ladder.mark(row, end) === mark && power.isLive(row, end) === isLive) end += 1;
+        const kind = mark === OPERAND ? "operand" : classes("wire", isLive && "live");
+        parts.push(svg("path", { d: `M${column * CELL} ${LINE / 2}H${end * CELL}`, class: kind, "data-places": end - column }));
+        column = end - 1;
+      } else if (mark === JOIN || mark === UPRIGHT) {
+        parts.push(this.upright(row, column, mark));
+      } else if (mark === RAIL) {
+        const x = (column + 0.5) * CELL;
+        parts.push(path(`M${x} 0V${LINE}`, "rail"));
+        const isLeft = column === ladder.rail;
+        if (isLeft && ladder.takes(row, column + 1)) parts.push(path(`M${x} ${LINE / 2}H${(column + 1) * CELL}`, classes("wire", power.comesOut(row, column) && "live")));
+        if (!isLeft && ladder.gives(row, column - 1)) parts.push(path(`M${column * CELL} ${LINE / 2}H${x}`, classes("wire", power.isLive(row, column - 1) && "live")));
+      }
+    }
+    return parts;
+  }
+
+  upright(row, column, mark) {
+    const { ladder, power } = this;
+    const isLive = power.isLive(row, column);
+    const [left, middle, right] = [column * CELL, (column + 0.5) * CELL, (column + 1) * CELL];
+    const up = ladder.isUpright(row - 1, column);
+    const down = ladder.isUpright(row + 1, column);
+    const isFed = mark === JOIN && ladder.gives(row, column - 1);
+    const isRead = mark === JOIN && ladder.takes(row, column + 1);
+    let d = isRead ? `M${middle} ${LINE / 2}H${right}` : "";
+    if (up || down) d += `M${middle} ${up ? 0 : LINE / 2}V${down ? LINE : LINE / 2}`;
+    const parts = [path(d, classes("wire", isLive && "live"))];
+    if (isFed) parts.unshift(path(`M${left} ${LINE / 2}H${middle}`, classes("wire", power.comesOut(row, column - 1) && "live")));
+    if (up + down + isFed + isRead > 2) parts.push(svg("circle", { cx: middle, cy: LINE / 2, r: isLive ? 4 : 3, class: classes("dot", isLive && "live") }));
+    return svg("g", { class: classes(mark === JOIN ? "join" : "upright", isLive && "live"), "data-places": 1 }, parts);
+  }
+
+  symbol(symbol) {
+    const { ladder, power } = this;
+    const { row, column } = symbol;
+    const y = LINE / 2;
+    const x = column * CELL;
+    const isIn = power.comesOut(row, column - 1);
+    const isOut = power.comesOut(row, column + 2) || (symbol.isCoil && isIn);
+    const isOn = this.hasPower && isIn && isOut;
+    const [one, two] = symbol.isCoil ? [x + 4, x + 3 * CELL - 4] : [x + 9, x + 3 * CELL - 9];
+    const parts = [path(`M${x} ${y}H${one}`, classes("wire", isIn && "live"))];
+    if (ladder.takes(row, column + 3) || !symbol.isCoil) parts.push(path(`M${two} ${y}H${x + 3 * CELL}`, classes("wire", isOut && "live")));
+    if (symbol.isCoil) {
+      parts.push(svg("circle", { cx: (one + two) / 2, cy: y, r: 9.5, class: "inside" }));
+      parts.push(path(`M${one + 4.5} ${y - 9}A11 11 0 0 0 ${one + 4.5} ${y + 9}M${two - 4.5} ${y - 9}A11 11 0 0 1 ${two - 4.5} ${y + 9}`, "body"));
+    } else {
+      parts.push(svg("rect", { x: one, y: y - 9, width: two - one, height: 18, class: "inside" }));
+      parts.push(path(`M${one} ${y - 9}V${y + 9}M${two} ${y - 9}V${y + 9}`, "body"));
+    }
+    if (symbol.sign === "/") parts.push(path(`M${(one + two) / 2 - 4} ${y + 8}L${(one + two) / 2 + 4} ${y - 8}`, "body"));
+    else if (symbol.sign !== " ") parts.push(svg("text", { x: (one + two) / 2, y: y + 4.5, class: "letter" }, symbol.sign));
+    const what = symbol.isCoil ? COIL_NAMES[symbol.sign] : CONTACT_NAMES[symbol.sign];
+    const state = this.hasPower ? (isOn ? ", has power" : isIn ? ", power reaches it" : ", no power") : "";
+    return svg("g", {
+      class: classes(symbol.isCoil ? "coil" : "contact", isOn && "live", this.isLit(symbol.name) && "lit"),
+      tabindex: 0, role: "button", "data-row": row, "data-column": column, "data-name": symbol.name, "aria-label": `${what} ${symbol.name}${state}`,
+      onclick: () => this.choose(symbol.name), onkeydown: (press) => pressed(press, () => this.choose(symbol.name)),
+    }, svg("title", {}, `${what} ${symbol.name}${state}`), svg("rect", { x, y: 1, width: 3 * CELL, height: LINE - 2, class: "reach" }), parts);
+  }
+
+  boxPart(box, row) {
+    const { power, ladder } = this;
+    const [left, right, y] = [(box.left + 0.5) * CELL, (box.right + 0.5) * CELL, LINE / 2];
+    const [top, bottom] = [row === box.top ? y : 0, row === box.bottom ? y : LINE];
+    const parts = [svg("rect", { x: left, y: top, width: right - left, height: bottom - top, class: "inside" })];
+    let d = `M${left} ${top}V${bottom}M${right} ${top}V${bottom}`;
+    if (row === box.top || row === box.bottom) d += `M${left} ${y}H${right}`;
+    parts.push(path(d, "body"));
+    if (row === box.top + 1) parts.push(svg("text", { x: (left + right) / 2, y: y + 5, class: "block" }, box.block));
+    for (const pin of box.pins) if (pin.row === row) {
+      const [edge, side] = pin.isLeft ? [box.left * CELL, left] : [(box.right + 1) * CELL, right];
+      const other = pin.isLeft ? box.left - 1 : box.right + 1;
+      const isFed = pin.isLeft ? ladder.gives(row, other) : ladder.takes(row, other);
+      const isLive = pin.isLeft ? power.comesOut(row, other) : power.comesOut(row, box.right);
+      if (isFed) parts.push(path(`M${edge} ${y}H${side}`, classes("wire", isLive && "live")));
+      else if (pin.operand) parts.push(path(`M${edge} ${y}H${side}`, "operand"));
+      parts.push(svg("text", { x: pin.at * CELL, y: y + 5, class: classes("pin", isLive && "live"), textLength: pin.name.length * CELL }, pin.name));
+    }
+    const isTop = row === box.top;
+    const choice = isTop ? { tabindex: 0, role: "button", "data-column": box.left, onkeydown: (press) => pressed(press, () => this.choose(box.name)) } : {};
+    return svg("g", {
+      class: classes(isTop ? "box" : "box-part", this.isLit(box.name) && "lit"), "data-row": row, "data-name": box.name,
+      "aria-label": `${box.block} ${box.name}`, onclick: () => this.choose(box.name), ...choice,
+    }, parts);
+  }
+
+  word(word) {
+    const name = baseOf(word.text);
+    const isName = /^[a-z_]/i.test(word.text) && !word.text.includes("#");
+    return svg("text", {
+      x: word.column * CELL, y: LINE / 2 + 5, textLength: word.text.length * CELL,
+      class: classes("word", isName ? "name" : "literal", this.isLit(name) && "lit", this.isOn?.(word.text) && "on"), "data-name": name,
+      onclick: isName ? () => this.choose(word.text) : undefined,
+    }, word.text);
+  }
+
+  isLit(name) {
+    return this.lit !== undefined && baseOf(name) === this.lit;
+  }
+
+  light(name) {
+    this.lit = name;
+    for (const [row, group] of this.rows) this.redraw(row, group);
+  }
+
+  counts() {
+    const contacts = this.ladder.symbols.filter((it) => !it.isCoil).length;
+    return { contacts, coils: this.ladder.symbols.length - contacts, boxes: this.ladder.boxes.length, names: this.ladder.words.length };
+  }
+}
+
+const CONTACT_NAMES = { " ": "contact", "/": "negated contact", P: "rising contact", N: "falling contact" };
+const COIL_NAMES = { " ": "coil", "/": "negated coil", S: "set coil", R: "reset coil", P: "rising coil", N: "falling coil" };
+
+/** A name by which others are compared: what stands before the dot, in capitals. */
+const baseOf = (name) => name.split(".")[0].toUpperCase();
+
+/** Does what a click does where Enter or a blank is pressed. */
+function pressed(press, call) {
+  if (press.key !== "Enter" && press.key !== " ") return;
+  press.preventDefault();
+  press.stopPropagation();
+  call();
+}
+
+const TRACK = 34;
+const LETTER = 6.7;
+
+/** Variables over scans as a timing diagram. Only what is in view is drawn. */
+class TimingView {
+  constructor(rows, select, choose) {
+    this.count = rows.length;
+    this.tracks = tracksOf(rows);
+    this.select = select;
+    this.unit = unitOf(this.tracks);
+    this.scan = 0;
+    this.names = this.tracks.map((track) => html("div", { class: "track", "data-name": baseOf(track.name), onclick: () => choose(track.name) },
+      html("span", { class: "name" }, track.name), html("output", {}, "")));
+    this.layer = svg("svg", { class: "waves", "aria-hidden": "true" });
+    this.field = html("div", { class: "field", onclick: (click) => this.point(click) }, this.layer);
+    this.list = html("div", { class: "names" }, html("div", { class: "track head" }, html("span", {}, "scan"), html("output", {}, "1")), this.names);
+    this.node = html("div", { class: "timing", tabindex: 0, role: "group", "aria-label": `${count(this.tracks.length, "variable")} over ${count(this.count, "scan")}` }, this.list, this.field);
+    this.node.addEventListener("scroll", oncePerFrame(() => this.draw()));
+    this.resize();
+  }
+
+  resize() {
+    this.field.style.width = `${this.count * this.unit + 2}px`;
+    this.field.style.height = `${(this.tracks.length + 1) * TRACK}px`;
+  }
+
+  zoom(by) {
+    this.unit = clamp(Math.round(this.unit * by), 4, 120);
+    this.resize();
+    this.reveal();
+    this.draw();
+  }
+
+  point(click) {
+    const x = click.clientX - this.field.getBoundingClientRect().left;
+    this.select(clamp(Math.floor(x / this.unit), 0, this.count - 1));
+  }
+
+  show(scan) {
+    this.scan = scan;
+    this.list.querySelector("output").textContent = scan + 1;
+    this.names.forEach((row, k) => {
+      row.querySelector("output").textContent = this.tracks[k].told(scan);
+      row.classList.toggle("on", this.tracks[k].kind === "BOOL" && this.tracks[k].values[scan] === 1);
+    });
+    this.reveal();
+    this.draw();
+  }
+
+  /** The scan comes into view. */
+  reveal() {
+    const room = this.node.clientWidth - this.list.offsetWidth;
+    const x = this.scan * this.unit;
+    if (x < this.node.scrollLeft || x + this.unit > this.node.scrollLeft + room) this.node.scrollLeft = Math.max(0, x - room / 3);
+  }
+
+  light(name) {
+    for (const row of this.names) row.classList.toggle("lit", row.dataset.name === name);
+  }
+
+  draw() {
+    const { unit } = this;
+    const bounds = this.node.getBoundingClientRect();
+    const first = this.drawsAll ? 0 : clamp(Math.floor(this.node.scrollLeft / unit) - 2, 0, this.count);
+    const last = this.drawsAll ? this.count : clamp(Math.ceil((this.node.scrollLeft + this.node.clientWidth) / unit) + 2, 0, this.count);
+    const top = this.drawsAll ? 0 : clamp(Math.floor((-bounds.top - 200) / TRACK), 0, this.tracks.length);
+    const end = this.drawsAll ? this.tracks.length : clamp(Math.ceil((innerHeight - bounds.top + 200) / TRACK), 0, this.tracks.length);
+    const width = (last - first) * unit + 2;
+    this.layer.style.left = `${first * unit}px`;
+    this.layer.setAttribute("width", width);
+    this.layer.setAttribute("height", (this.tracks.length + 1) * TRACK);
+    const parts = [this.ruler(first, last), svg("rect", { x: (this.scan - first) * unit, y: 0, width: unit, height: (this.tracks.length + 1) * TRACK, class: "cursor" })];
+    for (let k = top; k < end; k += 1) parts.push(this.track(this.tracks[k], k, first, last));
+    this.layer.replaceChildren(...parts);
+  }
+
+  ruler(first, last) {
+    const every = [1, 2, 5, 10, 20, 50, 100].find((it) => it * this.unit >= 30) ?? 100;
+    const height = (this.tracks.length + 1) * TRACK;
+    const parts = [];
+    for (let scan = first; scan < last; scan += 1) {
+      if ((scan + 1) % every && scan !== 0) continue;
+      const x = (scan - first) * this.unit;
+      parts.push(path(`M${x} ${TRACK - 8}V${height}`, "grid"), svg("text", { x: x + 4, y: TRACK - 12, class: "scale" }, scan + 1));
+    }
+    return svg("g", {}, parts);
+  }
+
+  track(track, place, first, last) {
+    const y = (place + 1) * TRACK;
+    const parts = [];
+    for (const [from, to, value] of track.stretches(first, last)) {
+      const [left, right] = [(from - first) * this.unit, (to - first) * this.unit];
+      const level = y + TRACK - 7 - track.height(value) * (TRACK - 15);
+      if (track.kind === "BOOL" && value) parts.push(svg("rect", { x: left, y: level, width: right - left, height: y + TRACK - 7 - level, class: "high" }));
+      if (track.kind !== "BOOL") parts.push(svg("rect", { x: left, y: level, width: right - left, height: y + TRACK - 7 - level, class: "band" }));
+      const told = track.label(from);
+      if (track.kind !== "BOOL" && told.length * LETTER + 4 <= right - left) {
+        const at = Math.max(left, 0) + 3;
+        parts.push(svg("text", { x: at, y: level > y + 18 ? level - 3 : level + 12, class: "value" }, told));
+      }
+    }
+    parts.push(svg("path", { d: this.outline(track, y, first, last), class: classes("wave", track.kind === "BOOL" && "bit") }));
+    return svg("g", { class: "variable", "data-name": track.name }, parts);
+  }
+
+  outline(track, y, first, last) {
+    let d = "";
+    for (const [from, to, value] of track.stretches(first, last)) {
+      const level = y + TRACK - 7 - track.height(value) * (TRACK - 15);
+      d += `${d ? "V" : `M${(from - first) * this.unit} `}${level}H${(to - first) * this.unit}`;
+    }
+    return d;
+  }
+
+  counts() {
+    return { variables: this.tracks.length, scans: this.count };
+  }
+}
+
+/** Rows as a list of values for each variable. */
+function tracksOf(rows) {
+  const names = rows[0].split(" ").map((word) => word.slice(0, word.indexOf("=")));
+  const tracks = names.map((name) => new Track(name, rows.length));
+  rows.forEach((row, scan) => {
+    row.split(" ").forEach((word, k) => tracks[k].put(scan, word.slice(word.indexOf("=") + 1)));
+  });
+  for (const track of tracks) track.close();
+  return tracks;
+}
+
+/** One variable: a number for each scan. A variable that is 0 or 1 in all of them is drawn as a BOOL. */
+class Track {
+  constructor(name, length) {
+    this.name = name;
+    this.values = new Float64Array(length);
+    this.kind = "BOOL";
+  }
+
+  put(scan, text) {
+    if (text.startsWith("T#")) this.kind = "TIME";
+    else if (text !== "0" && text !== "1" && this.kind === "BOOL") this.kind = "INT";
+    this.values[scan] = this.kind === "TIME" ? parseInt(text.slice(2), 10) : parseInt(text, 10);
+  }
+
+  close() {
+    this.least = this.values.reduce((least, it) => Math.min(least, it), 0);
+    this.most = this.values.reduce((most, it) => Math.max(most, it), this.least + 1);
+  }
+
+  height(value) {
+    return (value - this.least) / (this.most - this.least);
+  }
+
+  label(scan) {
+    return this.kind === "TIME" ? `${this.values[scan]}ms` : String(this.values[scan]);
+  }
+
+  told(scan) {
+    return this.kind === "TIME" ? `T#${this.values[scan]}ms` : String(this.values[scan]);
+  }
+
+  /** The stretches of one value between two scans. */
+  *stretches(first, last) {
+    let from = first;
+    for (let scan = first + 1; scan <= last; scan += 1) {
+      if (scan < last && this.values[scan] === this.values[from]) continue;
+      yield [from, scan, this.values[from]];
+      from = scan;
+    }
+  }
+}
+
+/** How wide a scan is, so that a number that changes in each one can be read. */
+function unitOf(tracks) {
+  const longest = Math.max(0, ...tracks.filter((it) => it.kind !== "BOOL").map((it) => Math.max(it.label(0).length, String(it.most).length + (it.kind === "TIME" ? 2 : 0), String(it.least).length)));
+  return clamp(longest * LETTER + 8, 26, 84);
+}
+
+const EVENT = 30;
+const MOST_EVENTS = 400000;
+const GUTTER = 58;
+const HEAD = 34;
+const TASK_STEP = 16;
+
+/** Events in lanes, one below the other. Only those in view are drawn. */
+class LanesView {
+  constructor(run, lines) {
+    this.run = run;
+    this.lines = lines;
+    this.selected = 0;
+    this.part = 0;
+    this.watched = [];
+    this.layer = svg("svg", { class: "lanes" });
+    this.head = html("div", { class: "lane-heads" });
+    this.field = html("div", { class: "field", onclick: (click) => this.point(click), onpointermove: (move) => this.hover(move) }, this.layer);
+    this.box = html("div", { class: "lane-box", tabindex: 0, role: "group", "aria-label": count(run.events.length, "event") }, this.head, this.field);
+    this.box.addEventListener("scroll", oncePerFrame(() => this.draw()));
+    this.overview = svg("svg", { class: "overview", "aria-hidden": "true", onclick: (click) => this.jumpTo(click) });
+    this.detail = html("div", { class: "detail", role: "status" });
+    this.node = html("div", { class: "events" }, this.summary(), this.tools(), html("div", { class: "lane-frame" }, this.box, this.overview), this.detail);
+  }
+
+  // What stands above.
+
+  summary() {
+    const tally = new Map();
+    for (const event of this.run.events) {
+      const word = event.kind === "delivery" ? `delivery ${event.answer}`.trim() : event.kind === "replay" ? `REPLAY ${event.answer}` : event.kind;
+      const found = tally.get(word) ?? { number: 0, first: event };
+      found.number += 1;
+      tally.set(word, found);
+    }
+    const chips = [...tally].map(([word, { number, first }]) => {
+      const told = first.kind === "replay" ? word : `${number.toLocaleString("en")} ${TALLIES[first.kind]?.(first, number) ?? word}`;
+      const kind = classes("chip", isMark(first) && `is-${markOf(first)}`, first.kind === "replay" && `is-${first.answer}`);
+      return isMark(first)
+        ? html("button", { class: kind, type: "button", title: "go to the next one", onclick: () => this.goToNext((it) => isMark(it) && markOf(it) === markOf(first)) }, told)
+        : html("span", { class: kind }, told);
+    });
+    return html("div", { class: "chips" }, chips);
+  }
+
+  tools() {
+    const tools = html("div", { class: "tools" });
+    const names = [...this.run.variables.keys()];
+    if (names.length) {
+      const list = html("select", { "aria-label": "a variable's line in its lane", onchange: () => this.watch(list.value) },
+        html("option", { value: "" }, "show a variable in its lane"), names.map((name) => html("option", { value: name }, name)));
+      this.watchList = html("span", { class: "watched" });
+      tools.append(list, this.watchList);
+    }
+    if (this.run.events.length > MOST_EVENTS) tools.append(this.partList());
+    return tools;
+  }
+
+  partList() {
+    const parts = Math.ceil(this.run.events.length / MOST_EVENTS);
+    return html("select", { "aria-label": "which events", onchange: (change) => this.choosePart(Number(change.target.value)) },
+      Array.from({ length: parts }, (_, k) => html("option", { value: k }, `events ${(k * MOST_EVENTS + 1).toLocaleString("en")} to ${Math.min(this.run.events.length, (k + 1) * MOST_EVENTS).toLocaleString("en")}`)));
+  }
+
+  choosePart(part) {
+    this.part = part;
+    this.box.scrollTop = 0;
+    this.layOut();
+  }
+
+  watch(name) {
+    if (!name) return;
+    this.watched = this.watched.includes(name) ? this.watched.filter((it) => it !== name) : [...this.watched, name];
+    this.watchList.replaceChildren(...this.watched.map((it) => html("button", { type: "button", class: "chip", title: "take it away", onclick: () => this.watch(it) }, `${it} ✕`)));
+    const list = this.node.querySelector("select");
+    if (list) list.value = "";
+    this.layOut();
+  }
+
+  // Where things are.
+
+  get first() {
+    return this.part * MOST_EVENTS;
+  }
+
+  get shownCount() {
+    return Math.min(MOST_EVENTS, this.run.events.length - this.first);
+  }
+
+  layOut() {
+    const { run } = this;
+    const lanes = Math.max(1, run.lanes.length);
+    const room = this.box.clientWidth - GUTTER - 20;
+    this.tracks = run.lanes.map((_, column) => this.watched.map((name) => run.variables.get(name)).filter((it) => it.column === column));
+    const least = run.lanes.map((name, column) => this.leastWidth(name, column));
+    const wanted = least.reduce((sum, it) => sum + it, 0);
+    const share = clamp((room - wanted) / lanes, 0, 190);
+    let x = GUTTER;
+    this.lefts = least.map((width) => {
+      const left = x;
+      x += width + share;
+      return left;
+    });
+    this.widths = least.map((width) => width + share);
+    this.width = Math.max(x, GUTTER + 200);
+    this.field.style.width = `${this.width}px`;
+    this.field.style.height = `${this.shownCount * EVENT + 8}px`;
+    this.head.style.width = `${this.width}px`;
+    this.head.replaceChildren(...run.lanes.map((name, column) => this.laneHead(name, column)));
+    this.drawOverview();
+    this.draw();
+  }
+
+  /** A lane has room for its name, for its longest label and for the variables that stand in it. */
+  leastWidth(name, column) {
+    const tasks = [...this.run.tasks.values()].filter((it) => it.lane === column);
+    const label = Math.max(9, ...tasks.map((it) => it.name.length - name.length + 6));
+    return Math.max(name.length * 9 + 24, 40 + this.run.perLane[column] * TASK_STEP + label * 7.4) + this.trackWidth(column);
+  }
+
+  trackWidth(column) {
+    return this.tracks[column].reduce((sum, it) => sum + widthOfTrack(it), 0);
+  }
+
+  laneHead(name, column) {
+    const x = this.lefts[column];
+    const node = html("div", { class: "lane-head" }, html("b", {}, name));
+    node.style.left = `${x}px`;
+    node.style.width = `${this.widths[column] - 6}px`;
+    return node;
+  }
+
+  /** Where a lane's line stands, and the points of one of its tasks. */
+  x(column, task) {
+    const steps = Math.max(1, this.run.perLane[column] ?? 1);
+    const place = task ? Math.min(task.inLane, steps - 1) : (steps - 1) / 2;
+    return this.lefts[column] + 22 + place * TASK_STEP;
+  }
+
+  y(at) {
+    return (at - this.first) * EVENT + EVENT / 2 + 4;
+  }
+
+  // What is in view.
+
+  draw() {
+    if (!this.lefts) return;
+    const top = this.drawsAll ? 0 : this.box.scrollTop;
+    const height = this.drawsAll ? this.shownCount * EVENT : this.box.clientHeight;
+    const first = clamp(Math.floor(top / EVENT) - 3, 0, this.shownCount) + this.first;
+    const end = clamp(Math.ceil((top + height) / EVENT) + 3, 0, this.shownCount) + this.first;
+    const above = (first - this.first) * EVENT;
+    const size = (end - first) * EVENT + 8;
+    this.layer.style.top = `${above}px`;
+    this.layer.setAttribute("width", this.width);
+    this.layer.setAttribute("height", size);
+    this.layer.setAttribute("viewBox", `0 ${above} ${this.width} ${size}`);
+    const seen = this.run.events.slice(first, end);
+    this.layer.replaceChildren(
+      svg("g", { class: "bands" }, this.selection(first, end), seen.map((event) => this.band(event))),
+      svg("g", { class: "lines" }, this.run.lanes.map((_, column) => this.laneLine(column, seen, above, above + size))),
+      svg("g", { class: "tracks" }, this.tracks.flatMap((tracks, column) => this.laneTracks(tracks, column, first, end))),
+      svg("g", { class: "deliveries" }, this.deliveries(seen, first, end)),
+      svg("g", { class: "arrows" }, this.arrows(seen, first, end)),
+      svg("g", { class: "points" }, seen.map((event) => this.event(event))));
+  }
+
+  selection(first, end) {
+    if (this.selected < first || this.selected >= end) return undefined;
+    return svg("rect", { x: 0, y: this.y(this.selected) - EVENT / 2, width: this.width, height: EVENT, class: "selected" });
+  }
+
+  /** What has no lane, or says something of all lanes, has a band across. */
+  band(event) {
+    if (event.column !== undefined && !["fault", "unshown"].includes(event.kind)) return undefined;
+    if (event.kind === "hearing" || event.kind === "sending") return undefined;
+    return svg("rect", { x: GUTTER - 6, y: this.y(event.at) - EVENT / 2 + 2, width: this.width - GUTTER, height: EVENT - 4, class: `band is-${event.kind} is-${event.answer ?? ""}` });
+  }
+
+  /** A lane's line, broken where it restarts. */
+  laneLine(column, seen, top, bottom) {
+    const x = this.x(column);
+    let d = `M${x} ${top}`;
+    for (const event of seen) {
+      if (event.kind === "restart" && event.column === column) d += `V${this.y(event.at) - 11}M${x} ${this.y(event.at) + 11}`;
+    }
+    return path(`${d}V${bottom}`, "lane");
+  }
+
+  event(event) {
+    const y = this.y(event.at);
+    const parts = [svg("text", { x: 6, y: y + 4, class: "number" }, event.line + 1)];
+    parts.push(...(this[event.kind]?.(event, y) ?? [this.told(GUTTER, y, LABELS[event.kind](event), "strong")]));
+    return svg("g", { class: classes("event", event.kind, isMark(event) && "mark", isMark(event) && `is-${markOf(event)}`), "data-line": event.line + 1 },
+      svg("title", {}, this.lines[event.line]), parts);
+  }
+
+  told(x, y, text, kind) {
+    return svg("text", { x, y: y + 4.5, class: classes("label", kind) }, text);
+  }
+
+  evaluation(event, y) {
+    const { of } = event;
+    const x = this.x(event.column, of);
+    const behind = this.x(event.column, { inLane: 99 }) + 13;
+    return [pointOf(of, x, y), this.told(behind, y, `${of.name.slice(of.name.indexOf(".") + 1)} ${event.pair ?? event.message}`)];
+  }
+
+  delivery(event, y) {
+    const x = this.x(event.column);
+    const word = event.pair ? `${event.of.name} ${event.pair}` : event.message;
+    const sign = { taken: "", old: "✕", stray: "⤭", unused: "○" }[event.answer] ?? "";
+    const parts = [isMark(event) ? svg("circle", { cx: x, cy: y, r: 9, class: "mark-ring" }) : svg("circle", { cx: x, cy: y, r: 3.5, class: "arrival" })];
+    if (isMark(event)) parts.push(event.answer === "unused" ? svg("circle", { cx: x, cy: y, r: 3.5, class: "mark-hollow" }) : path(event.answer === "old" ? `M${x - 4} ${y - 4}L${x + 4} ${y + 4}M${x - 4} ${y + 4}L${x + 4} ${y - 4}` : `M${x - 5} ${y + 5}L${x + 5} ${y - 5}`, "mark-sign"));
+    parts.push(this.told(x + 15, y, `${word} ${event.answer}`.trim(), isMark(event) ? "strong" : "faint"));
+    return parts;
+  }
+
+  restart(event, y) {
+    const x = this.x(event.column);
+    const word = event.isStart ? "start" : "restart";
+    return [path(`M${x - 8} ${y - 6}L${x + 8} ${y - 10}M${x - 8} ${y + 10}L${x + 8} ${y + 6}`, "break"),
+      this.told(x + 15, y, event.incarnation ? `${word}: ${event.incarnation}` : word, "strong")];
+  }
+
+  hearing(event, y) {
+    if (event.column === undefined) return [this.told(GUTTER, y, this.lines[event.line], "faint")];
+    const x = this.x(event.column);
+    return [path(`M${x - 4} ${y - 4}L${x + 3} ${y}L${x - 4} ${y + 4}`, "heard"), this.told(x + 15, y, `hears ${event.other} ${event.incarnation}${event.answer === "old" ? ", old" : ""}`, "faint")];
+  }
+
+  sending(event, y) {
+    if (event.column === undefined) return [this.told(GUTTER, y, this.lines[event.line], "faint")];
+    const [from, to] = [this.x(event.column), this.x(event.toColumn)];
+    const side = Math.sign(to - from);
+    return [path(`M${from} ${y}H${to - side * 4}`, "sent"), path(`M${to - side * 10} ${y - 4}L${to - side * 3} ${y}L${to - side * 10} ${y + 4}`, "sent"),
+      this.told(Math.min(from, to) + 15, y - 8, event.sent.replace(/^MESSAGE (\S+ \S+) .*/, "$1"), "faint")];
+  }
+
+  fault(event, y) {
+    const x = event.column === undefined ? GUTTER : this.x(event.column);
+    return [path(`M${x} ${y - 9}L${x + 9} ${y + 7}H${x - 9}Z`, "fault-sign"), this.told(x + 15, y, LABELS.fault(event), "strong")];
+  }
+
+  unshown(event, y) {
+    const x = event.column === undefined ? GUTTER : this.x(event.column) + 15;
+    return [this.told(x, y, LABELS.unshown(event), "strong")];
+  }
+
+  // Lines between events.
+
+  deliveries(seen, first, end) {
+    return seen.filter((event) => event.kind === "delivery" && event.source && event.column !== undefined).map((event) => {
+      const { source } = event;
+      const [from, to] = [this.ofSource(source), [this.x(event.column), this.y(event.at)]];
+      const d = curve(from, to, isMark(event) ? 11 : 5);
+      return svg("path", { d, class: classes("delivery-line", isMark(event) && `is-${event.answer}`), "data-from": source.line + 1, "data-to": event.line + 1 });
+    });
+  }
+
+  /** Arrows of which an end is in view. */
+  arrows(seen, first, end) {
+    const parts = [];
+    for (const event of seen) {
+      for (const take of event.taken ?? []) if (take.pair) parts.push(this.arrow(take, event));
+      for (const taker of event.takers ?? []) if (taker.at < first || taker.at >= end) {
+        for (const take of taker.taken) if (take.source === event) parts.push(this.arrow(take, taker));
+      }
+    }
+    return parts;
+  }
+
+  arrow(take, event) {
+    const to = [this.x(event.column, event.of), this.y(event.at)];
+    const from = take.source ? this.ofSource(take.source) : [this.x(take.producer.lane, take.producer), to[1] - EVENT * 0.9];
+    const d = curve(from, to, 9);
+    const isHeld = event.at === this.selected || take.source?.at === this.selected;
+    return svg("g", { class: classes("arrow", `task-${take.producer.place % 12}`, take.isOther && "other", !take.source && "unseen", isHeld && "held"), "data-from": take.source ? take.source.line + 1 : "", "data-to": event.line + 1 },
+      svg("title", {}, `${take.producer.name} ${take.pair}`), path(d, "shaft"), path(headAt(from, to), "head"));
+  }
+
+  ofSource(source) {
+    return [source.kind === "evaluation" ? this.x(source.column, source.of) : this.x(source.column ?? 0), this.y(source.at)];
+  }
+
+  laneTracks(tracks, column, first, end) {
+    let right = this.lefts[column] + this.widths[column] - 10;
+    return tracks.map((variable) => {
+      const width = widthOfTrack(variable);
+      right -= width;
+      return this.laneTrack(variable, right, width, first, end);
+    });
+  }
+
+  /** A variable's line, from above to below: to the right is more. */
+  laneTrack(variable, left, width, first, end) {
+    const isBit = variable.values.every((it) => it === "0" || it === "1");
+    const inner = isBit ? 14 : 6;
+    const parts = [];
+    let d = "";
+    for (let k = Math.max(0, upTo(variable.at, first) - 1); k < variable.at.length && variable.at[k] < end; k += 1) {
+      const top = this.y(Math.max(variable.at[k], first));
+      const bottom = this.y(Math.min(variable.at[k + 1] ?? end, end));
+      const value = variable.values[k];
+      const x = left + 8 + (isBit ? (value === "1" ? inner : 0) : 0);
+      if (isBit && value === "1") parts.push(svg("rect", { x: left + 8, y: top, width: inner, height: bottom - top, class: "high" }));
+      d += `${d ? "H" : "M"}${x}${d ? "" : ` ${top}`}V${bottom}`;
+      parts.push(svg("text", { x: left + 12 + (isBit ? inner : 0), y: top + 11, class: "value" }, value.replace(/^T#/, "")));
+    }
+    return svg("g", { class: "lane-track", "data-name": variable.name }, parts, path(d, classes("wave", isBit && "bit")),
+      svg("title", {}, variable.name));
+  }
+
+  drawOverview() {
+    const height = this.box.clientHeight;
+    this.overview.setAttribute("height", height);
+    const taken = new Set();
+    const parts = [];
+    for (const at of this.run.marks) {
+      if (at < this.first || at >= this.first + this.shownCount) continue;
+      const event = this.run.events[at];
+      const y = Math.round(((at - this.first) / this.shownCount) * (height - 6));
+      const key = `${markOf(event)} ${y}`;
+      if (taken.has(key)) continue;
+      taken.add(key);
+      parts.push(svg("rect", { x: 1, y, width: 10, height: 4, class: `is-${markOf(event)}` }));
+    }
+    this.overview.replaceChildren(...parts);
+  }
+
+  // What one does.
+
+  jumpTo(click) {
+    const part = (click.clientY - this.overview.getBoundingClientRect().top) / this.overview.clientHeight;
+    const near = this.first + part * this.shownCount;
+    const mark = this.run.marks.reduce((best, it) => (Math.abs(it - near) < Math.abs(best - near) ? it : best), Infinity);
+    this.selectEvent(Number.isFinite(mark) && Math.abs(mark - near) < this.shownCount / 40 ? mark : Math.floor(near));
+  }
+
+  eventAt(pointer) {
+    const y = pointer.clientY - this.field.getBoundingClientRect().top - 4;
+    return clamp(Math.floor(y / EVENT), 0, this.shownCount - 1) + this.first;
+  }
+
+  point(click) {
+    this.selectEvent(this.eventAt(click));
+  }
+
+  hover(move) {
+    if (move.pointerType === "mouse") this.tell(this.eventAt(move));
+  }
+
+  goToNext(isWanted, step = 1) {
+    const { events } = this.run;
+    for (let k = 1; k <= events.length; k += 1) {
+      const at = (this.selected + step * k + events.length * (k > 0 ? 1 : 0)) % events.length;
+      const place = (at + events.length) % events.length;
+      if (isWanted(events[place])) return this.selectEvent(place);
+    }
+    return undefined;
+  }
+
+  selectEvent(at) {
+    this.selected = clamp(at, 0, this.run.events.length - 1);
+    const part = Math.floor(this.selected / MOST_EVENTS);
+    if (part !== this.part) this.choosePart(part);
+    const y = this.y(this.selected);
+    if (y - EVENT < this.box.scrollTop || y + EVENT + HEAD > this.box.scrollTop + this.box.clientHeight) {
+      this.box.scrollTop = Math.max(0, y - this.box.clientHeight / 2);
+    }
+    this.draw();
+    this.tell(this.selected);
+  }
+
+  /** All that is told of one event. */
+  tell(at) {
+    const event = this.run.events[at];
+    const parts = [html("code", { class: "whole" }, this.lines[event.line])];
+    const list = html("dl");
+    const add = (term, ...told) => list.append(html("dt", {}, term), html("dd", {}, ...told));
+    add("line", `${event.line + 1}`);
+    if (event.kind === "evaluation") {
+      if (event.inputs) add("inputs", event.inputs);
+      for (const take of event.taken) add("takes", `${take.producer.name} ${take.pair ?? "nothing yet: initial values"}${take.isOther ? ", of another incarnation" : ""}${take.pair && !take.source ? ", which isn't in this text" : ""}`);
+      for (const word of (event.gives ?? "-").split(" ")) if (word !== "-") add("gives", this.valueButton(event, word));
+    }
+    if (event.kind === "delivery") {
+      add("message", event.source ? `made in line ${event.source.line + 1}: ${this.lines[event.source.line]}` : "not made in this text");
+      if (event.answer) add(event.answer, ANSWER_MEANINGS[event.answer]);
+    }
+    this.detail.replaceChildren(...parts, list);
+  }
+
+  valueButton(event, word) {
+    const name = `${event.lane}.${word.slice(0, word.indexOf("="))}`;
+    return html("button", { type: "button", class: "value-button", title: "its line in the lane", onclick: () => this.watch(name) }, word);
+  }
+
+  press(key) {
+    const page = Math.max(1, Math.floor(this.box.clientHeight / EVENT) - 2);
+    const steps = { ArrowDown: 1, ArrowUp: -1, j: 1, k: -1, PageDown: page, PageUp: -page };
+    if (key in steps) this.selectEvent(this.selected + steps[key]);
+    else if (key === "Home") this.selectEvent(0);
+    else if (key === "End") this.selectEvent(this.run.events.length - 1);
+    else if (key === "n") this.goToNext(isMark);
+    else if (key === "p") this.goToNext(isMark, -1);
+    else return false;
+    return true;
+  }
+
+  counts() {
+    const { events, arrows, marks } = this.run;
+    return {
+      events: events.length, points: events.filter((it) => it.kind === "evaluation").length, arrows: arrows.length,
+      marks: marks.length, lanes: this.run.lanes.length,
+    };
+  }
+}
+
+const TALLIES = {
+  evaluation: (_, number) => (number === 1 ? "evaluation" : "evaluations"),
+  delivery: (event, number) => `${number === 1 ? "delivery" : "deliveries"} ${event.answer}`.trim(),
+  restart: (event, number) => `${event.isStart ? "start" : "restart"}${number === 1 ? "" : "s"}`,
+  hearing: (_, number) => (number === 1 ? "hearing" : "hearings"),
+  sending: (_, number) => (number === 1 ? "line sent" : "lines sent"),
+  refused: () => "REFUSED",
+  fault: () => "FAULT",
+  unanswered: () => "UNANSWERED",
+  unshown: () => "UNSHOWN",
+};
+
+const LABELS = {
+  refused: (event) => `REFUSED ${event.event ?? ""} ${event.cause}`.replace(/ +/g, " "),
+  unanswered: (event) => `UNANSWERED ${event.ticket}`,
+  fault: (event) => `FAULT ${event.ticket} ${event.cause}`,
+  unshown: (event) => (event.lane ? `NOJOURNAL ${event.lane}` : `UNSHOWN ${event.told}`),
+  replay: (event) => `REPLAY ${event.answer}`,
+};
+
+const ANSWER_MEANINGS = {
+  taken: "it is now the latest of its task there",
+  old: "it, or a later one of its task, was there before",
+  unused: "it was made there, or nobody there takes from its task",
+  stray: "it is addressed to another incarnation",
+};
+
+/** How many of the rising numbers are at most this one. */
+function upTo(numbers, most) {
+  let [low, high] = [0, numbers.length];
+  while (low < high) {
+    const middle = (low + high) >> 1;
+    if (numbers[middle] <= most) low = middle + 1;
+    else high = middle;
+  }
+  return low;
+}
+
+const widthOfTrack = (variable) => (variable.values.every((it) => it === "0" || it === "1") ? 46 : 26 + 7 * Math.max(...variable.values.slice(0, 1000).map((it) => it.length)));
+
+/** A point of a task: its colour and its shape are its own. */
+function pointOf(task, x, y) {
+  const shape = Math.floor(task.place / 12) % 4;
+  const shapes = [`M${x - 7} ${y}A7 7 0 1 0 ${x + 7} ${y}A7 7 0 1 0 ${x - 7} ${y}Z`, `M${x - 6} ${y - 6}H${x + 6}V${y + 6}H${x - 6}Z`, `M${x} ${y - 8}L${x + 8} ${y}L${x} ${y + 8}L${x - 8} ${y}Z`, `M${x} ${y - 8}L${x + 8} ${y + 6}H${x - 8}Z`];
+  return svg("path", { d: shapes[shape], class: `point task-${task.place % 12}`, "data-task": task.name });
+}
+
+/** A curve between two points that ends a bit before the second one. */
+function curve([x1, y1], [x2, y2], gap) {
+  if (x1 === x2) return `M${x1} ${y1}C${x1 - 26} ${y1 + 8} ${x2 - 26} ${y2 - 8} ${x2 - gap} ${y2 - 2}`;
+  const side = Math.sign(x2 - x1);
+  const reach = Math.min(80, Math.abs(x2 - x1) / 2);
+  return `M${x1 + side * 8} ${y1}C${x1 + side * reach} ${y1} ${x2 - side * reach} ${y2} ${x2 - side * gap} ${y2}`;
+}
+
+/** The head of an arrow, at the side from which it comes. */
+function headAt([x1], [x2, y2]) {
+  const side = x1 === x2 ? 1 : Math.sign(x2 - x1);
+  const tip = x2 - side * 7;
+  return `M${tip - side * 9} ${y2 - 5}L${tip} ${y2}L${tip - side * 9} ${y2 + 5}Z`;
+}
+
+/** Scans: the ladder, if it is shown, the timing diagram, and what steps through them. */
+class ScansView {
+  constructor(section) {
+    this.count = section.rows.length;
+    this.scan = 0;
+    const choose = (name) => this.light(baseOf(name));
+    this.ladder = section.ladder && new LadderView(section, choose);
+    this.timing = this.count ? new TimingView(section.rows, (scan) => this.show(scan), choose) : undefined;
+    if (this.ladder && this.timing) this.ladder.isOn = (name) => this.timing.tracks.some((it) => it.kind === "BOOL" && it.name.toUpperCase() === name.toUpperCase() && it.values[this.scan] === 1);
+    this.node = html("div", { class: "scans" }, this.ladder?.node, this.count > 1 && this.tools(), this.timing?.node);
+  }
+
+  tools() {
+    this.slider = html("input", { type: "range", min: 1, max: this.count, value: 1, "aria-label": "scan", oninput: () => this.show(Number(this.slider.value) - 1) });
+    this.told = html("output", { class: "scan-number" });
+    this.player = html("button", { type: "button", "aria-label": "play", title: "play (blank)", onclick: () => this.play() }, "▶");
+    const button = (sign, label, call) => html("button", { type: "button", "aria-label": label, title: label, onclick: call }, sign);
+    return html("div", { class: "player" }, button("⏮", "first scan (Home)", () => this.show(0)), button("◀", "scan before (←)", () => this.step(-1)), this.player,
+      button("▷", "next scan (→)", () => this.step(1)), button("⏭", "last scan (End)", () => this.show(this.count - 1)), this.slider, this.told);
+  }
+
+  layOut() {
+    this.ladder?.fit();
+    this.show(this.scan);
+  }
+
+  show(scan) {
+    this.scan = clamp(scan, 0, Math.max(0, this.count - 1));
+    if (this.slider) {
+      this.slider.value = this.scan + 1;
+      this.told.textContent = `scan ${(this.scan + 1).toLocaleString("en")} of ${this.count.toLocaleString("en")}${this.dt ? ` · dt ${this.dt} ms` : ""}`;
+    }
+    this.ladder?.show(this.scan);
+    this.timing?.show(this.scan);
+  }
+
+  step(by) {
+    this.show(this.scan + by);
+  }
+
+  play() {
+    if (this.timer) this.stop();
+    else {
+      if (this.scan === this.count - 1) this.show(0);
+      this.player.textContent = "❚❚";
+      this.timer = setInterval(() => (this.scan < this.count - 1 ? this.step(1) : this.stop()), 500);
+    }
+  }
+
+  stop() {
+    clearInterval(this.timer);
+    this.timer = undefined;
+    this.player.textContent = "▶";
+  }
+
+  light(name) {
+    this.lit = this.lit === name ? undefined : name;
+    this.ladder?.light(this.lit);
+    this.timing?.light(this.lit);
+  }
+
+  draw() {
+    this.ladder?.draw();
+    this.timing?.draw();
+  }
+
+  press(key) {
+    const steps = { ArrowLeft: -1, ArrowRight: 1, PageUp: -10, PageDown: 10 };
+    if (this.count < 2 && key !== "Escape") return false;
+    if (key in steps) this.step(steps[key]);
+    else if (key === "Home") this.show(0);
+    else if (key === "End") this.show(this.count - 1);
+    else if (key === " ") this.play();
+    else if (key === "+") this.timing.zoom(1.25);
+    else if (key === "-") this.timing.zoom(0.8);
+    else if (key === "Escape" && this.lit) this.light(this.lit);
+    else return false;
+    return true;
+  }
+
+  counts() {
+    return { ...this.ladder?.counts(), ...this.timing?.counts(), lit: this.lit };
+  }
+}
+
+/** A claim: the verdict, large. */
+class VerdictView {
+  constructor(section) {
+    const sign = { HOLDS: "✓", FAILS: "✕", UNDECIDED: "?" }[section.verdict];
+    this.node = html("div", { class: `verdict is-${section.verdict.toLowerCase()}` },
+      html("div", { class: "big" }, html("span", { class: "sign", "aria-hidden": "true" }, sign), section.verdict),
+      html("p", { class: "told" }, section.told), section.command && html("code", { class: "command" }, section.command));
+  }
+
+  counts() {
+    return { verdicts: 1 };
+  }
+}
+
+/** Lines that aren't drawn. */
+class TextView {
+  constructor(lines) {
+    this.node = html("pre", { class: "lines" }, lines.join("\n"));
+  }
+
+  counts() {
+    return {};
+  }
+}
+
+// ---- 7. The page ----
+
+const KEYS = [
+  ["t", "as text, as drawn"], ["← →", "scan before, next scan"], ["blank", "play, stop"], ["Home End", "first, last"], ["+ −", "wider, narrower scans"],
+  ["↑ ↓", "event before, next event"], ["n p", "next mark, mark before"], ["Tab Enter", "choose a contact: where its name stands lights up"], ["Esc", "nothing is lit"], ["?", "these keys"],
+];
+
+class Page {
+  constructor(pre) {
+    this.pre = pre;
+    this.text = textOf(pre);
+    this.lines = linesOf(this.text);
+    this.sections = sectionsOf(this.lines);
+    this.isDrawn = this.sections.some((it) => it.form !== "text");
+    this.views = [];
+    if (this.isDrawn) this.build();
+    else document.documentElement.classList.remove("drawn");
+    this.head();
+  }
+
+  build() {
+    this.main = html("main");
+    for (const section of this.sections) {
+      const view = this.viewOf(section);
+      this.views.push(view);
+      const node = html("section", { class: section.form, "data-lines": `${section.first + 1}-${section.end}` }, view.node);
+      node.addEventListener("focusin", () => (this.active = view));
+      node.addEventListener("pointerdown", () => (this.active = view));
+      this.main.append(node);
+    }
+    this.tellTimes();
+    this.active = this.views.find((it) => it.press);
+    this.pre.after(this.main);
+    const layOut = oncePerFrame(() => this.layOut());
+    addEventListener("resize", layOut);
+    addEventListener("scroll", oncePerFrame(() => this.views.forEach((it) => it.draw?.())), { passive: true });
+    addEventListener("beforeprint", () => this.drawAll(true));
+    addEventListener("afterprint", () => this.drawAll(false));
+  }
+
+  viewOf(section) {
+    if (section.form === "events") return new LanesView(section.run, this.lines);
+    if (section.form === "verdict") return new VerdictView(section);
+    if (section.form === "text") return new TextView(this.lines.slice(section.first, section.end));
+    return new ScansView(section);
+  }
+
+  /** The words that made a run tell its time from scan to scan. */
+  tellTimes() {
+    this.sections.forEach((section, k) => {
+      const found = /--dt (\d+)/.exec(section.command ?? "");
+      if (found && this.views[k + 1] instanceof ScansView) this.views[k + 1].dt = found[1];
+    });
+  }
+
+  layOut() {
+    for (const view of this.views) view.layOut?.();
+  }
+
+  drawAll(isAll) {
+    for (const view of this.views.flatMap((it) => [it, it.ladder, it.timing])) if (view) view.drawsAll = isAll;
+    this.layOut();
+  }
+
+  head() {
+    const told = this.isDrawn ? titleOf(this.sections, this.views) : count(this.lines.length, "line");
+    document.title = `plc: ${told}`;
+    this.switch = html("button", { type: "button", "aria-pressed": "false", onclick: () => this.turn() }, html("kbd", {}, "t"), " as text");
+    this.help = html("dialog", { class: "keys" }, html("h2", {}, "Keys"), html("dl", {}, KEYS.map(([key, what]) => [html("dt", {}, html("kbd", {}, key)), html("dd", {}, what)])), html("button", { type: "button", onclick: () => this.help.close() }, "close"));
+    const buttons = this.isDrawn ? [this.switch, html("button", { type: "button", onclick: () => this.help.showModal() }, html("kbd", {}, "?"), " keys")] : [];
+    document.body.prepend(html("header", {}, html("h1", {}, told), html("div", { class: "buttons" }, buttons)));
+    document.body.append(this.help);
+    addEventListener("keydown", (press) => this.press(press));
+  }
+
+  turn() {
+    const isText = document.documentElement.classList.toggle("drawn") === false;
+    this.switch.setAttribute("aria-pressed", String(isText));
+    if (!isText) this.layOut();
+  }
+
+  press(press) {
+    const isField = press.target.matches?.("select, textarea, input:not([type=range])");
+    if (press.ctrlKey || press.metaKey || press.altKey || isField || this.help.open) return;
+    const isButton = press.target.matches?.("button, [role=button]") && (press.key === " " || press.key === "Enter");
+    if (isButton) return;
+    const isText = !document.documentElement.classList.contains("drawn");
+    if (press.key === "t" && this.isDrawn) this.turn();
+    else if (press.key === "?" && this.isDrawn) this.help.showModal();
+    else if (isText || !this.active?.press(press.key)) return;
+    press.preventDefault();
+  }
+}
+
+/** What is drawn, in a few words. */
+function titleOf(sections, views) {
+  const told = sections.map((section, k) => {
+    const counts = views[k].counts();
+    if (section.form === "events") return `${count(counts.events, "event")} of ${count(counts.lanes, "resource")}`;
+    if (section.form === "scans") return `${count(counts.scans, "scan")} of a ladder`;
+    if (section.form === "rows") return count(counts.scans, "scan");
+    if (section.form === "verdict") return section.verdict;
+    return section.form === "drawing" ? "a ladder" : undefined;
+  }).filter(Boolean);
+  return told.length > 4 ? `${told.slice(0, 4).join(", ")}, and ${told.length - 4} more` : told.join(", ");
+}
+
+const page = new Page(document.getElementById("text"));
+page.layOut();
+/** What is drawn, for tests. */
+window.plcPage = page;
+})();
+</script>
+</body>
+</html>
+"##;
