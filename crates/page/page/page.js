@@ -604,6 +604,10 @@ function oncePerFrame(call) {
 const CELL = 10;
 const LINE = 26;
 const MARGIN = 12;
+// By so much pieces of one line overlap, so that no seam is seen.
+const SEAM = 0.8;
+// Columns on the right of a ladder for the values of its last names.
+const ROOM = 9;
 
 /** A ladder, with what has power in one scan. Only the rows in view are drawn. */
 class LadderView {
@@ -612,9 +616,11 @@ class LadderView {
     this.drawn = section.drawn;
     this.hasPower = section.form === "scans";
     this.choose = choose;
+    this.valueOf = () => undefined;
+    this.isBit = () => false;
     this.rows = new Map();
     this.lit = undefined;
-    const width = this.ladder.width * CELL + 2 * MARGIN;
+    const width = (this.ladder.width + (this.hasPower ? ROOM : 0)) * CELL + 2 * MARGIN;
     const height = this.ladder.rows.length * LINE + 2 * MARGIN;
     this.layer = svg("g", { transform: `translate(${MARGIN} ${MARGIN})` });
     this.picture = svg("svg", { class: classes("ladder", this.hasPower && "shown"), viewBox: `0 0 ${width} ${height}`, width, height, role: "group", "aria-label": "ladder" }, this.layer);
@@ -627,19 +633,19 @@ class LadderView {
     this.shown = this.drawn[scan];
     this.power = new Power(this.ladder, this.hasPower ? this.shown : []);
     for (const [row, group] of this.rows) {
-      if (before?.[row] !== this.shown[row] || group.dataset.on !== this.wordsOn(row)) this.redraw(row, group);
+      if (before?.[row] !== this.shown[row] || group.dataset.worth !== this.wordsWorth(row)) this.redraw(row, group);
     }
     this.draw();
   }
 
-  /** Which words of a row are names of variables that are on. */
-  wordsOn(row) {
-    return this.ladder.byRow[row].words.map((it) => (this.isOn?.(it.text) ? "1" : "0")).join("");
+  /** What the words of a row are worth in this scan. */
+  wordsWorth(row) {
+    return this.ladder.byRow[row].words.map((it) => this.valueOf(it.text) ?? "").join(" ");
   }
 
   /** As large as the window has room for, and never so small that names can't be read: then the sheet scrolls. */
   fit() {
-    const most = clamp((innerHeight * 0.55) / this.size.height, 1, 1.7);
+    const most = clamp((innerHeight * 0.5) / this.size.height, 1, 1.4);
     const scale = clamp((this.node.clientWidth - 2) / this.size.width, 0.72, most);
     this.picture.setAttribute("width", this.size.width * scale);
     this.picture.setAttribute("height", this.size.height * scale);
@@ -676,11 +682,11 @@ class LadderView {
   rowGroup(row) {
     const { ladder } = this;
     const things = ladder.byRow[row];
-    return svg("g", { class: "row", "data-row": row, "data-on": this.wordsOn(row), transform: `translate(0 ${row * LINE})` },
+    return svg("g", { class: "row", "data-row": row, "data-worth": this.wordsWorth(row), transform: `translate(0 ${row * LINE})` },
       things.boxes.map((box) => this.boxPart(box, row)),
       this.lines(row),
       things.symbols.map((symbol) => this.symbol(symbol)),
-      things.words.map((word) => this.word(word)));
+      things.words.flatMap((word) => this.word(word)));
   }
 
   /** Rails, wires, joins and uprights of a row. */
@@ -695,15 +701,15 @@ class LadderView {
         let end = column + 1;
         while (ladder.mark(row, end) === mark && power.isLive(row, end) === isLive) end += 1;
         const kind = mark === OPERAND ? "operand" : classes("wire", isLive && "live");
-        parts.push(svg("path", { d: `M${column * CELL - 0.3} ${LINE / 2}H${end * CELL + 0.3}`, class: kind, "data-column": column, "data-places": end - column }));
+        parts.push(svg("path", { d: `M${column * CELL - SEAM} ${LINE / 2}H${end * CELL + SEAM}`, class: kind, "data-column": column, "data-places": end - column }));
         column = end - 1;
       } else if (mark === JOIN || mark === UPRIGHT) {
         parts.push(this.upright(row, column, mark));
       } else if (mark === RAIL) {
         const x = (column + 0.5) * CELL;
-        parts.push(path(`M${x} -0.3V${LINE + 0.3}`, "rail"));
+        parts.push(path(`M${x} ${-SEAM}V${LINE + SEAM}`, "rail"));
         const isLeft = column === ladder.rail;
-        if (isLeft && ladder.takes(row, column + 1)) parts.push(path(`M${x} ${LINE / 2}H${(column + 1) * CELL + 0.3}`, classes("wire", power.comesOut(row, column) && "live")));
+        if (isLeft && ladder.takes(row, column + 1)) parts.push(path(`M${x} ${LINE / 2}H${(column + 1) * CELL + SEAM}`, classes("wire", power.comesOut(row, column) && "live")));
         if (!isLeft && ladder.gives(row, column - 1)) parts.push(path(`M${column * CELL} ${LINE / 2}H${x}`, classes("wire", power.isLive(row, column - 1) && "live")));
       }
     }
@@ -718,8 +724,8 @@ class LadderView {
     const down = ladder.isUpright(row + 1, column);
     const isFed = mark === JOIN && ladder.gives(row, column - 1);
     const isRead = mark === JOIN && ladder.takes(row, column + 1);
-    let d = isRead ? `M${middle} ${LINE / 2}H${right + 0.3}` : "";
-    if (up || down) d += `M${middle} ${up ? -0.3 : LINE / 2}V${down ? LINE + 0.3 : LINE / 2}`;
+    let d = isRead ? `M${middle} ${LINE / 2}H${right + SEAM}` : "";
+    if (up || down) d += `M${middle} ${up ? -SEAM : LINE / 2}V${down ? LINE + SEAM : LINE / 2}`;
     const parts = [path(d, classes("wire", isLive && "live"))];
     if (isFed) parts.unshift(path(`M${left} ${LINE / 2}H${middle}`, classes("wire", power.comesOut(row, column - 1) && "live")));
     if (up + down + isFed + isRead > 2) parts.push(svg("circle", { cx: middle, cy: LINE / 2, r: isLive ? 4 : 3, class: classes("dot", isLive && "live") }));
@@ -758,7 +764,7 @@ class LadderView {
   boxPart(box, row) {
     const { power, ladder } = this;
     const [left, right, y] = [(box.left + 0.5) * CELL, (box.right + 0.5) * CELL, LINE / 2];
-    const [top, bottom] = [row === box.top ? y : 0, row === box.bottom ? y : LINE];
+    const [top, bottom] = [row === box.top ? y : -SEAM, row === box.bottom ? y : LINE + SEAM];
     const parts = [svg("rect", { x: left, y: top, width: right - left, height: bottom - top, class: "inside" })];
     let d = `M${left} ${top}V${bottom}M${right} ${top}V${bottom}`;
     if (row === box.top || row === box.bottom) d += `M${left} ${y}H${right}`;
@@ -784,11 +790,24 @@ class LadderView {
   word(word) {
     const name = baseOf(word.text);
     const isName = /^[a-z_]/i.test(word.text) && !word.text.includes("#");
-    return svg("text", {
+    const worth = this.valueOf(word.text);
+    const drawn = svg("text", {
       x: word.column * CELL, y: LINE / 2 + 5, textLength: word.text.length * CELL,
-      class: classes("word", isName ? "name" : "literal", this.isLit(name) && "lit", this.isOn?.(word.text) && "on"), "data-name": name,
+      class: classes("word", isName ? "name" : "literal", this.isLit(name) && "lit", worth === "1" && this.isBit(word.text) && "on"), "data-name": name,
       onclick: isName ? () => this.choose(word.text) : undefined,
     }, word.text);
+    return [drawn, worth !== undefined && !this.isBit(word.text) && this.worth(word, worth)];
+  }
+
+  /** The value of a number or time beside its name, where there is room. */
+  worth(word, worth) {
+    const text = this.ladder.rows[word.row];
+    const end = word.column + word.text.length;
+    const isRoom = (from, to) => text.slice(Math.max(0, from), to).trim() === "" && from > this.ladder.rail;
+    const length = worth.length + 1;
+    if (isRoom(end, end + length) && end + length <= this.ladder.width + ROOM) return svg("text", { x: (end + 0.8) * CELL, y: LINE / 2 + 5, class: "worth" }, worth);
+    if (isRoom(word.column - length, word.column)) return svg("text", { x: (word.column - 0.8) * CELL, y: LINE / 2 + 5, class: "worth before" }, worth);
+    return undefined;
   }
 
   isLit(name) {
@@ -1016,7 +1035,6 @@ function unitOf(tracks) {
 const EVENT = 30;
 const MOST_EVENTS = 400000;
 const GUTTER = 58;
-const HEAD = 34;
 const TASK_STEP = 16;
 const LETTER_IN_LANE = 7.3;
 
@@ -1126,16 +1144,17 @@ class LanesView {
     const wanted = least.reduce((sum, it) => sum + it, 0);
     const share = clamp((room - wanted) / lanes, 0, 190);
     let x = GUTTER;
-    this.lefts = least.map((width) => {
-      const left = x;
-      x += width + share;
-      return left;
-    });
+    this.lefts = [];
+    for (const column of laneOrder(run.lanes)) {
+      this.lefts[column] = x;
+      x += least[column] + share;
+    }
     this.widths = least.map((width) => width + share);
     this.width = Math.max(x, GUTTER + 200);
     this.field.style.width = `${this.width}px`;
     this.field.style.height = `${this.shownCount * EVENT + 8}px`;
     this.head.style.width = `${this.width}px`;
+    this.head.classList.toggle("tall", this.watched.length > 0);
     this.head.replaceChildren(...run.lanes.map((name, column) => this.laneHead(name, column)));
     this.drawOverview();
     this.draw();
@@ -1157,7 +1176,22 @@ class LanesView {
     const node = html("div", { class: "lane-head" }, html("b", {}, name));
     node.style.left = `${x}px`;
     node.style.width = `${this.widths[column] - 6}px`;
+    for (const { variable, left } of this.placedTracks(column)) {
+      const label = html("span", { class: "track-name" }, variable.name.slice(name.length + 1));
+      label.style.left = `${left - x + 4}px`;
+      node.append(label);
+    }
     return node;
+  }
+
+  /** The variables that stand in a lane, each with where it does: on the right of all else. */
+  placedTracks(column) {
+    let left = this.lefts[column] + this.widths[column] - 6 - this.trackWidth(column);
+    return this.tracks[column].map((variable) => {
+      const placed = { variable, left };
+      left += widthOfTrack(variable);
+      return placed;
+    });
   }
 
   /** Where a lane's line stands, and the points of one of its tasks. */
@@ -1189,7 +1223,7 @@ class LanesView {
     this.layer.replaceChildren(
       svg("g", { class: "bands" }, this.selection(first, end), seen.map((event) => this.band(event))),
       svg("g", { class: "lines" }, this.run.lanes.map((_, column) => this.laneLine(column, seen, above, above + size))),
-      svg("g", { class: "tracks" }, this.tracks.flatMap((tracks, column) => this.laneTracks(tracks, column, first, end))),
+      svg("g", { class: "tracks" }, this.tracks.flatMap((_, column) => this.placedTracks(column).map((it) => this.laneTrack(it, first, end)))),
       svg("g", { class: "deliveries" }, this.deliveries(seen)),
       svg("g", { class: "arrows" }, this.arrows(seen, first, end)),
       svg("g", { class: "points" }, seen.map((event) => this.event(event))));
@@ -1245,7 +1279,7 @@ class LanesView {
   /** Where lines meet an event from the left and from the right: behind its label. */
   sides(event) {
     const x = event.kind === "evaluation" ? this.x(event.column, event.of) : this.x(event.column ?? 0);
-    return { left: x - (isMark(event) ? 10 : event.kind === "evaluation" ? 8 : 5), middle: x, right: this.labelAt(event) + this.labelOf(event).length * LETTER_IN_LANE + 5, y: this.y(event.at) };
+    return { lane: event.column, left: x - (isMark(event) ? 10 : event.kind === "evaluation" ? 8 : 5), middle: x, right: this.labelAt(event) + this.labelOf(event).length * LETTER_IN_LANE + 5, y: this.y(event.at) };
   }
 
   delivery(event, y) {
@@ -1319,32 +1353,22 @@ class LanesView {
   /** Where an arrow comes from whose evaluation isn't in this text. */
   outside(producer, y) {
     const x = this.x(producer.lane, producer);
-    return { left: x, middle: x, right: x, y: y - EVENT * 0.9 };
-  }
-
-  laneTracks(tracks, column, first, end) {
-    let right = this.lefts[column] + this.widths[column] - 10;
-    return tracks.map((variable) => {
-      const width = widthOfTrack(variable);
-      right -= width;
-      return this.laneTrack(variable, right, width, first, end);
-    });
+    return { lane: producer.lane, left: x, middle: x, right: x, y: y - EVENT * 0.9 };
   }
 
   /** A variable's line, from above to below: to the right is more. */
-  laneTrack(variable, left, width, first, end) {
-    const isBit = variable.values.every((it) => it === "0" || it === "1");
-    const inner = isBit ? 14 : 6;
+  laneTrack({ variable, left }, first, end) {
+    const { isBit, least, most } = shapeOf(variable);
     const parts = [];
     let d = "";
     for (let k = Math.max(0, upTo(variable.at, first) - 1); k < variable.at.length && variable.at[k] < end; k += 1) {
       const top = this.y(Math.max(variable.at[k], first));
       const bottom = this.y(Math.min(variable.at[k + 1] ?? end, end));
       const value = variable.values[k];
-      const x = left + 8 + (isBit ? (value === "1" ? inner : 0) : 0);
-      if (isBit && value === "1") parts.push(svg("rect", { x: left + 8, y: top, width: inner, height: bottom - top, class: "high" }));
+      const x = left + 8 + ((numberOf(value) - least) / (most - least)) * SWING;
+      parts.push(svg("rect", { x: left + 8, y: top, width: Math.max(0, x - left - 8), height: bottom - top, class: isBit ? "high" : "band-track" }));
       d += `${d ? "H" : "M"}${x}${d ? "" : ` ${top}`}V${bottom}`;
-      parts.push(svg("text", { x: left + 12 + (isBit ? inner : 0), y: top + 11, class: "value" }, value.replace(/^T#/, "")));
+      parts.push(svg("text", { x: left + 13 + SWING, y: top + 11, class: "value" }, value));
     }
     return svg("g", { class: "lane-track", "data-name": variable.name }, parts, path(d, classes("wave", isBit && "bit")),
       svg("title", {}, variable.name));
@@ -1404,7 +1428,7 @@ class LanesView {
     const part = Math.floor(this.selected / MOST_EVENTS);
     if (part !== this.part) this.choosePart(part);
     const y = this.y(this.selected);
-    if (y - EVENT < this.box.scrollTop || y + EVENT + HEAD > this.box.scrollTop + this.box.clientHeight) {
+    if (y - EVENT < this.box.scrollTop || y + EVENT + this.head.offsetHeight > this.box.scrollTop + this.box.clientHeight) {
       this.box.scrollTop = Math.max(0, y - this.box.clientHeight / 2);
     }
     this.draw();
@@ -1420,8 +1444,11 @@ class LanesView {
     add("line", `${event.line + 1}`);
     if (event.kind === "evaluation") {
       if (event.inputs) add("inputs", event.inputs);
-      for (const take of event.taken) add("takes", `${take.producer.name} ${take.pair ?? "nothing yet: initial values"}${take.isOther ? ", of another incarnation" : ""}${take.pair && !take.source ? ", which isn't in this text" : ""}`);
-      for (const word of (event.gives ?? "-").split(" ")) if (word !== "-") add("gives", this.valueButton(event, word));
+      for (const take of event.taken) if (take.pair) add("takes", `${take.producer.name} ${take.pair}${take.isOther ? ", of another incarnation" : ""}${take.source ? "" : ", which isn't in this text"}`);
+      const empty = event.taken.filter((it) => !it.pair).map((it) => it.producer.name);
+      if (empty.length) add("takes", `initial values of ${empty.join(", ")}`);
+      const gives = (event.gives ?? "-").split(" ").filter((it) => it !== "-");
+      if (gives.length) add("gives", ...gives.map((word) => this.valueButton(event, word)));
     }
     if (event.kind === "delivery") {
       add("message", event.source ? `made in line ${event.source.line + 1}: ${this.lines[event.source.line]}` : "not made in this text");
@@ -1483,6 +1510,14 @@ const ANSWER_MEANINGS = {
   stray: "it is addressed to another incarnation",
 };
 
+/** Lanes in their order: by number where they are numbered, as R1 and R2, else as they come. */
+function laneOrder(names) {
+  const columns = names.map((_, k) => k);
+  const numbered = names.map((name) => /^(.*?)(\d+)$/.exec(name));
+  if (!numbered.every((it) => it && it[1] === numbered[0][1])) return columns;
+  return columns.sort((one, two) => numbered[one][2] - numbered[two][2]);
+}
+
 /** How many of the rising numbers are at most this one. */
 function upTo(numbers, most) {
   let [low, high] = [0, numbers.length];
@@ -1494,7 +1529,23 @@ function upTo(numbers, most) {
   return low;
 }
 
-const widthOfTrack = (variable) => (variable.values.every((it) => it === "0" || it === "1") ? 46 : 26 + 7 * Math.max(...variable.values.slice(0, 1000).map((it) => it.length)));
+const SWING = 16;
+const numberOf = (value) => parseInt(value.replace("T#", ""), 10);
+
+/** What is needed of a variable to draw its line, found once. */
+function shapeOf(variable) {
+  if (!variable.shape) {
+    const numbers = variable.values.map(numberOf);
+    const least = numbers.reduce((one, two) => Math.min(one, two), 0);
+    variable.shape = {
+      isBit: variable.values.every((it) => it === "0" || it === "1"), least, most: numbers.reduce((one, two) => Math.max(one, two), least + 1),
+      longest: variable.values.reduce((most, it) => Math.max(most, it.length), 1),
+    };
+  }
+  return variable.shape;
+}
+
+const widthOfTrack = (variable) => Math.max(30 + SWING + shapeOf(variable).longest * LETTER_IN_LANE, (variable.name.length - variable.name.indexOf(".")) * LETTER_IN_LANE + 6);
 
 /** The mark of a delivery that wasn't taken: a cross for an old one, a stroke for a stray one, a ring for an unused one. */
 function markSigns(answer, x, y, r) {
@@ -1516,10 +1567,10 @@ function pointOf(task, x, y) {
 
 /** A curve from one event to another, and the head of its arrow, which is so long. */
 function between(from, to, length) {
-  if (from.middle === to.middle) {
+  if (from.lane === to.lane) {
     const [x, tip] = [from.left, to.left];
-    const reach = 18 + Math.min(22, Math.abs(to.y - from.y) / 12);
-    return { d: `M${x} ${from.y}C${x - reach} ${from.y} ${tip - reach} ${to.y} ${tip - length} ${to.y}`, head: headAt(tip, to.y, 1, length) };
+    const left = Math.min(x, tip) - 14 - Math.min(22, Math.abs(to.y - from.y) / 12);
+    return { d: `M${x} ${from.y}C${left} ${from.y} ${left} ${to.y} ${tip - length} ${to.y}`, head: headAt(tip, to.y, 1, length) };
   }
   const side = Math.sign(to.middle - from.middle);
   const [x, tip] = side > 0 ? [from.right, to.left] : [from.left, to.right];
@@ -1539,8 +1590,9 @@ class ScansView {
     this.ladder = section.ladder && new LadderView(section, choose);
     this.timing = this.count ? new TimingView(section.rows, (scan) => this.show(scan), choose) : undefined;
     if (this.ladder && this.timing) {
-      const bits = new Map(this.timing.tracks.filter((it) => it.kind === "BOOL").map((it) => [it.name.toUpperCase(), it]));
-      this.ladder.isOn = (name) => bits.get(name.toUpperCase())?.values[this.scan] === 1;
+      const tracks = new Map(this.timing.tracks.map((it) => [it.name.toUpperCase(), it]));
+      this.ladder.valueOf = (name) => tracks.get(name.toUpperCase())?.told(this.scan);
+      this.ladder.isBit = (name) => tracks.get(name.toUpperCase())?.kind === "BOOL";
     }
     this.node = html("div", { class: "scans" }, this.ladder?.node, this.count > 1 && this.tools(), this.ladder && this.count > 0 && this.legend(), this.timing?.node);
   }
@@ -1782,8 +1834,20 @@ function titleOf(sections, views) {
   return told.length > 4 ? `${told.slice(0, 4).join(", ")}, and ${told.length - 4} more` : told.join(", ");
 }
 
-const page = new Page(document.getElementById("text"));
-page.layOut();
+/** Draws the page; where that fails the text stands there as it is. */
+function begin() {
+  const pre = document.getElementById("text");
+  try {
+    const page = new Page(pre);
+    page.layOut();
+    return page;
+  } catch (fault) {
+    document.documentElement.className = "";
+    document.body.replaceChildren(pre);
+    throw fault;
+  }
+}
+
 /** What is drawn, for tests. */
-window.plcPage = page;
+window.plcPage = begin();
 })();

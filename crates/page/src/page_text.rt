@@ -5,7 +5,7 @@ pub const HEAD: &str = r#"<!doctype html>
 <html lang="en">
 <head>
 <meta charset="utf-8">
-<meta http-equiv="Content-Security-Policy" content="default-src 'none'; style-src 'sha256-ZHN9A9/eLcUQ3a8siBK34W2yaQlEOFRI0JxyJ8eLsow='; script-src 'sha256-KUk662Ykz2Sw0i6CZenO6zIfWJxcnQPDG246AnLU4+8=' 'sha256-lPj4cpwjGKs1KNQ3heaVz5dVrnVpTQ9+fBwfhgB7FX0='; base-uri 'none'; form-action 'none'">
+<meta http-equiv="Content-Security-Policy" content="default-src 'none'; style-src 'sha256-D8xtA8VBgEU41Lwo8r77iUfnL+oEWirZ6Mol/H1exvY='; script-src 'sha256-KUk662Ykz2Sw0i6CZenO6zIfWJxcnQPDG246AnLU4+8=' 'sha256-KhYQDkZqIMLoQKE6UQwAAD6pl5hkEYpKUpCjHQLPdAM='; base-uri 'none'; form-action 'none'">
 <meta name="viewport" content="width=device-width, initial-scale=1">
 <meta name="color-scheme" content="light dark">
 <title>plc</title>
@@ -29,8 +29,8 @@ pub const HEAD: &str = r#"<!doctype html>
 html { background: var(--paper); color: var(--ink); font: 15px/1.45 system-ui, "Segoe UI", Roboto, "DejaVu Sans", sans-serif; }
 body { margin: 0; padding: 0 16px 24px; }
 #text, .lines { font: 14px/1.4 "DejaVu Sans Mono", Menlo, Consolas, monospace; white-space: pre; overflow-x: auto; margin: 12px 0; tab-size: 8; }
-.drawn #text { display: none; }
-html:not(.drawn) main { display: none; }
+.drawn #text, main[hidden] { display: none; }
+.lines > div { content-visibility: auto; }
 
 header { display: flex; flex-wrap: wrap; gap: 8px 16px; align-items: center; justify-content: space-between; padding: 12px 0; }
 h1 { font-size: 18px; margin: 0; }
@@ -78,6 +78,8 @@ code { font: 14px "DejaVu Sans Mono", Menlo, Consolas, monospace; overflow-wrap:
 
 .player { display: flex; flex-wrap: wrap; gap: 6px; align-items: center; margin: 0 0 10px; }
 .player button { min-width: 40px; }
+.icon path { fill: var(--ink); stroke: var(--ink); stroke-width: 2; }
+.player button { display: inline-flex; align-items: center; justify-content: center; }
 .player input { flex: 1 1 160px; min-width: 120px; accent-color: var(--live); }
 .scan-number { font-variant-numeric: tabular-nums; font-weight: 600; }
 
@@ -110,8 +112,12 @@ button.chip { border-width: 2px; font-weight: 700; }
 .chip.is-unused { color: var(--unused); border-color: currentColor; }
 .chip.is-refused, .chip.is-fault, .chip.is-unanswered, .chip.is-unshown, .chip.is-replay, .chip.is-differs { color: var(--bad); border-color: currentColor; }
 .chip.is-equal { color: var(--good); border-color: currentColor; font-weight: 700; }
+.legend { display: flex; flex-wrap: wrap; gap: 2px 18px; margin: 0 0 8px; font-size: 13px; color: var(--faint); }
+.legend > span { display: inline-flex; align-items: center; gap: 6px; }
+.legend svg { position: static; flex: none; }
+.legend .on { color: var(--live); font-family: "DejaVu Sans Mono", Menlo, Consolas, monospace; }
 .lane-frame { display: flex; gap: 4px; }
-.lane-box { overflow: auto; max-height: min(76vh, 1000px); border: 1px solid var(--edge); border-radius: 8px; background: var(--sheet); flex: 1 1 auto; min-width: 0; }
+.lane-box { overflow: auto; max-height: max(330px, calc(100vh - 360px)); border: 1px solid var(--edge); border-radius: 8px; background: var(--sheet); flex: 1 1 auto; min-width: 0; }
 .lane-heads { position: sticky; top: 0; z-index: 2; height: 34px; background: var(--sheet); border-bottom: 1px solid var(--edge); }
 .lane-head { position: absolute; top: 0; height: 33px; padding: 5px 8px; font: 15px "DejaVu Sans Mono", Menlo, Consolas, monospace; white-space: nowrap; border-left: 3px solid var(--off); }
 .lanes { position: absolute; left: 0; display: block; }
@@ -345,7 +351,7 @@ function eventsFrom(lines, first) {
       end = at + 1;
     } else if (!/^[ \t]*(#.*)?$/.test(lines[at])) break;
   }
-  return { form: "events", run: runOf(events), end };
+  return { form: "events", run: new Run(events), end };
 }
 
 /** A drawing that begins at this line, or undefined: of all lines that can be drawn, or of those between rails alone. */
@@ -625,63 +631,129 @@ class Power {
 // ---- 4. Events ----
 
 /** What a run tells beyond its lines: lanes and tasks, by which evaluation each message and take was made, the marks. */
-function runOf(events) {
-  const run = { events, lanes: [], tasks: new Map(), arrows: [], marks: [], variables: new Map() };
-  const lanes = new Map();
-  const messages = new Map();
-  const pairs = new Map();
-  const incarnations = new Map();
-  let own;
-  let made = 0;
-  const lane = (name) => {
-    const key = name.toUpperCase();
-    if (!lanes.has(key)) {
-      lanes.set(key, run.lanes.length);
-      run.lanes.push(name);
-    }
-    return lanes.get(key);
-  };
-  const raise = (name, incarnation) => {
-    const key = name.toUpperCase();
-    incarnations.set(key, Math.max(incarnations.get(key) ?? 1, Number(incarnation)));
-  };
-  const task = (name) => {
-    const key = name.toUpperCase();
-    if (!run.tasks.has(key)) run.tasks.set(key, { name, place: run.tasks.size, inLane: 0, lane: lane(name.split(".")[0]) });
-    return run.tasks.get(key);
-  };
-  nameOwners(events);
-  for (const [at, event] of events.entries()) {
-    event.at = at;
-    if (event.lane) own = event.lane;
-    if (event.isOwn) event.lane ??= own;
-    if (event.lane) event.column = lane(event.lane);
-    if (event.to) event.toColumn = lane(event.to);
-    if (event.other) lane(event.other);
-    if (event.kind === "evaluation") {
-      made += 1;
-      event.message ??= String(made);
-      event.of = task(event.task);
-      event.taken = takesOf(event.takes, run, task, pairs, incarnations, event);
-      if (event.pair) raise(event.lane, event.pair.split(".")[0]);
-      messages.set(event.message, event);
-      if (event.pair) pairs.set(`${event.task.toUpperCase()} ${event.pair}`, event);
-      noteValues(run, event);
-    } else if (event.kind === "delivery") {
-      if (event.task) {
-        event.of = task(event.task);
-        event.source = pairs.get(`${event.task.toUpperCase()} ${event.pair}`);
-        if (!event.source && event.answer === "taken") pairs.set(`${event.task.toUpperCase()} ${event.pair}`, event);
-      } else {
-        event.source = messages.get(String(BigInt(event.message)));
-      }
-    } else if (event.kind === "restart") {
-      if (event.incarnation) raise(event.lane, event.incarnation);
-    }
-    if (isMark(event)) run.marks.push(at);
+class Run {
+  constructor(events) {
+    this.events = events;
+    this.lanes = [];
+    this.tasks = new Map();
+    this.arrows = [];
+    this.marks = [];
+    this.variables = new Map();
+    this.incarnations = [];
+    this.messages = new Map();
+    this.made = 0;
+    this.laneSpellings = new Map();
+    this.taskSpellings = new Map();
+    nameOwners(events);
+    events.forEach((event, at) => this.add(event, at));
+    this.spreadTasks();
   }
-  spreadTasks(run);
-  return run;
+
+  /** The lane of a resource; names are compared without regard to case. */
+  laneOf(name) {
+    return known(this.laneSpellings, name, () => {
+      this.incarnations.push(1);
+      return this.lanes.push(name) - 1;
+    });
+  }
+
+  taskOf(name) {
+    return known(this.taskSpellings, name, () => {
+      const task = { name, place: this.tasks.size, inLane: 0, lane: this.laneOf(name.split(".")[0]), pairs: new Map(), given: [] };
+      this.tasks.set(name, task);
+      return task;
+    });
+  }
+
+  add(event, at) {
+    event.at = at;
+    if (event.lane) this.own = event.lane;
+    if (event.isOwn) event.lane ??= this.own;
+    if (event.lane) event.column = this.laneOf(event.lane);
+    if (event.to) event.toColumn = this.laneOf(event.to);
+    if (event.other) this.laneOf(event.other);
+    if (event.kind === "evaluation") this.addEvaluation(event);
+    else if (event.kind === "delivery") this.addDelivery(event);
+    else if (event.kind === "restart" && event.incarnation) this.raise(event.column, event.incarnation);
+    if (isMark(event)) this.marks.push(at);
+  }
+
+  raise(lane, incarnation) {
+    this.incarnations[lane] = Math.max(this.incarnations[lane], Number(incarnation));
+  }
+
+  addEvaluation(event) {
+    this.made += 1;
+    event.message ??= String(this.made);
+    event.of = this.taskOf(event.task);
+    event.taken = !event.takes || event.takes === "-" ? [] : event.takes.split(" ").map((word) => this.take(word, event));
+    this.messages.set(event.message, event);
+    if (!event.pair) return;
+    this.raise(event.column, incarnationOf(event.pair));
+    event.of.pairs.set(event.pair, event);
+    if (event.gives !== "-") event.gives.split(" ").forEach((word, k) => this.give(word, k, event));
+  }
+
+  /** A take; it makes an arrow. Of another incarnation it is if its producer's resource went on to a later one before. */
+  take(word, event) {
+    const split = word.indexOf("=");
+    const producer = this.taskOf(word.slice(0, split));
+    const pair = word.slice(split + 1);
+    if (pair === "-" || pair === "") return { producer };
+    const source = producer.pairs.get(pair);
+    const take = { producer, pair, source, isOther: Number(incarnationOf(pair)) !== this.incarnations[producer.lane] };
+    this.arrows.push({ from: source, to: event, take });
+    if (source) (source.takers ??= []).push(event);
+    return take;
+  }
+
+  /** A value that is given; it stands until another one is. */
+  give(word, k, event) {
+    const { given } = event.of;
+    if (!given[k] || !word.startsWith(given[k].prefix)) {
+      const prefix = word.slice(0, word.indexOf("=") + 1);
+      const name = `${event.lane}.${prefix.slice(0, -1)}`;
+      if (!this.variables.has(name)) this.variables.set(name, { name, prefix, column: event.column, at: [], values: [] });
+      given[k] = this.variables.get(name);
+    }
+    const { prefix, at, values } = given[k];
+    const value = word.slice(prefix.length);
+    if (values[values.length - 1] === value) return;
+    at.push(event.at);
+    values.push(value);
+  }
+
+  /** Where a message was made: by its number, or by the name of an evaluation that a node was sent. */
+  addDelivery(event) {
+    if (!event.task) {
+      event.source = this.messages.get(event.message.replace(/^0+(?=\d)/, ""));
+      return;
+    }
+    event.of = this.taskOf(event.task);
+    event.source = event.of.pairs.get(event.pair);
+    if (!event.source && event.answer === "taken") event.of.pairs.set(event.pair, event);
+  }
+
+  /** Each task's place among those of its lane that evaluate here. */
+  spreadTasks() {
+    this.perLane = this.lanes.map(() => 0);
+    for (const task of new Set(this.events.filter((it) => it.kind === "evaluation").map((it) => it.of))) {
+      task.inLane = this.perLane[task.lane];
+      this.perLane[task.lane] += 1;
+    }
+  }
+}
+
+const incarnationOf = (pair) => pair.slice(0, pair.indexOf("."));
+
+/** What is kept of a name in any spelling; of a new one it is made. */
+function known(spellings, name, make) {
+  if (!spellings.has(name)) {
+    const key = name.toUpperCase();
+    if (!spellings.has(key)) spellings.set(key, make());
+    spellings.set(name, spellings.get(key));
+  }
+  return spellings.get(name);
 }
 
 /** A node writes what it sends before the line that tells whose it is: these events get their lane from the next one that has one. */
@@ -692,51 +764,6 @@ function nameOwners(events) {
     if (event.kind === "sending") event.lane = next;
     else if (event.lane) next = event.lane;
     else if (!event.isOwn) next = undefined;
-  }
-}
-
-/** From which evaluations one takes; each makes an arrow, if it stands here. */
-function takesOf(takes, run, task, pairs, incarnations, event) {
-  if (!takes || takes === "-") return [];
-  return takes.split(" ").map((word) => {
-    const [name, pair] = word.split("=");
-    const producer = task(name);
-    if (!pair || pair === "-") return { producer, pair: undefined };
-    const source = pairs.get(`${name.toUpperCase()} ${pair}`);
-    const present = incarnations.get(name.split(".")[0].toUpperCase()) ?? 1;
-    const isOther = Number(pair.split(".")[0]) !== present;
-    const take = { producer, pair, source, isOther };
-    run.arrows.push({ from: source, to: event, take });
-    if (source) (source.takers ??= []).push(event);
-    return take;
-  });
-}
-
-/** What an evaluation gives, for the lines of the variables; the value stands until the next one is given. */
-function noteValues(run, event) {
-  if (!event.gives || event.gives === "-") return;
-  for (const word of event.gives.split(" ")) {
-    const split = word.indexOf("=");
-    const key = `${event.lane}.${word.slice(0, split)}`;
-    let variable = run.variables.get(key);
-    if (!variable) {
-      variable = { name: key, column: event.column, at: [], values: [] };
-      run.variables.set(key, variable);
-    }
-    const value = word.slice(split + 1);
-    if (variable.values[variable.values.length - 1] === value) continue;
-    variable.at.push(event.at);
-    variable.values.push(value);
-  }
-}
-
-/** Each task's place among those of its lane. */
-function spreadTasks(run) {
-  run.perLane = run.lanes.map(() => 0);
-  const points = new Set(run.events.filter((it) => it.kind === "evaluation").map((it) => it.of));
-  for (const task of points) {
-    task.inLane = run.perLane[task.lane];
-    run.perLane[task.lane] += 1;
   }
 }
 
@@ -787,7 +814,7 @@ function oncePerFrame(call) {
 
 // ---- 6. Views ----
 
-const CELL = 9.6;
+const CELL = 10;
 const LINE = 26;
 const MARGIN = 12;
 
@@ -812,13 +839,21 @@ class LadderView {
     const before = this.shown;
     this.shown = this.drawn[scan];
     this.power = new Power(this.ladder, this.hasPower ? this.shown : []);
-    for (const [row, group] of this.rows) if (before?.[row] !== this.shown[row]) this.redraw(row, group);
+    for (const [row, group] of this.rows) {
+      if (before?.[row] !== this.shown[row] || group.dataset.on !== this.wordsOn(row)) this.redraw(row, group);
+    }
     this.draw();
   }
 
-  /** The least size at which names can still be read fits a narrow window; below it the sheet scrolls. */
+  /** Which words of a row are names of variables that are on. */
+  wordsOn(row) {
+    return this.ladder.byRow[row].words.map((it) => (this.isOn?.(it.text) ? "1" : "0")).join("");
+  }
+
+  /** As large as the window has room for, and never so small that names can't be read: then the sheet scrolls. */
   fit() {
-    const scale = clamp((this.node.clientWidth - 2) / this.size.width, 0.72, 1);
+    const most = clamp((innerHeight * 0.55) / this.size.height, 1, 1.7);
+    const scale = clamp((this.node.clientWidth - 2) / this.size.width, 0.72, most);
     this.picture.setAttribute("width", this.size.width * scale);
     this.picture.setAttribute("height", this.size.height * scale);
     this.scale = scale;
@@ -854,7 +889,7 @@ class LadderView {
   rowGroup(row) {
     const { ladder } = this;
     const things = ladder.byRow[row];
-    return svg("g", { class: "row", "data-row": row, transform: `translate(0 ${row * LINE})` },
+    return svg("g", { class: "row", "data-row": row, "data-on": this.wordsOn(row), transform: `translate(0 ${row * LINE})` },
       things.boxes.map((box) => this.boxPart(box, row)),
       this.lines(row),
       things.symbols.map((symbol) => this.symbol(symbol)),
@@ -873,15 +908,15 @@ class LadderView {
         let end = column + 1;
         while (ladder.mark(row, end) === mark && power.isLive(row, end) === isLive) end += 1;
         const kind = mark === OPERAND ? "operand" : classes("wire", isLive && "live");
-        parts.push(svg("path", { d: `M${column * CELL} ${LINE / 2}H${end * CELL}`, class: kind, "data-places": end - column }));
+        parts.push(svg("path", { d: `M${column * CELL - 0.3} ${LINE / 2}H${end * CELL + 0.3}`, class: kind, "data-column": column, "data-places": end - column }));
         column = end - 1;
       } else if (mark === JOIN || mark === UPRIGHT) {
         parts.push(this.upright(row, column, mark));
       } else if (mark === RAIL) {
         const x = (column + 0.5) * CELL;
-        parts.push(path(`M${x} 0V${LINE}`, "rail"));
+        parts.push(path(`M${x} -0.3V${LINE + 0.3}`, "rail"));
         const isLeft = column === ladder.rail;
-        if (isLeft && ladder.takes(row, column + 1)) parts.push(path(`M${x} ${LINE / 2}H${(column + 1) * CELL}`, classes("wire", power.comesOut(row, column) && "live")));
+        if (isLeft && ladder.takes(row, column + 1)) parts.push(path(`M${x} ${LINE / 2}H${(column + 1) * CELL + 0.3}`, classes("wire", power.comesOut(row, column) && "live")));
         if (!isLeft && ladder.gives(row, column - 1)) parts.push(path(`M${column * CELL} ${LINE / 2}H${x}`, classes("wire", power.isLive(row, column - 1) && "live")));
       }
     }
@@ -896,12 +931,12 @@ class LadderView {
     const down = ladder.isUpright(row + 1, column);
     const isFed = mark === JOIN && ladder.gives(row, column - 1);
     const isRead = mark === JOIN && ladder.takes(row, column + 1);
-    let d = isRead ? `M${middle} ${LINE / 2}H${right}` : "";
-    if (up || down) d += `M${middle} ${up ? 0 : LINE / 2}V${down ? LINE : LINE / 2}`;
+    let d = isRead ? `M${middle} ${LINE / 2}H${right + 0.3}` : "";
+    if (up || down) d += `M${middle} ${up ? -0.3 : LINE / 2}V${down ? LINE + 0.3 : LINE / 2}`;
     const parts = [path(d, classes("wire", isLive && "live"))];
     if (isFed) parts.unshift(path(`M${left} ${LINE / 2}H${middle}`, classes("wire", power.comesOut(row, column - 1) && "live")));
     if (up + down + isFed + isRead > 2) parts.push(svg("circle", { cx: middle, cy: LINE / 2, r: isLive ? 4 : 3, class: classes("dot", isLive && "live") }));
-    return svg("g", { class: classes(mark === JOIN ? "join" : "upright", isLive && "live"), "data-places": 1 }, parts);
+    return svg("g", { class: classes(mark === JOIN ? "join" : "upright", isLive && "live"), "data-column": column, "data-places": 1 }, parts);
   }
 
   symbol(symbol) {
@@ -984,6 +1019,11 @@ class LadderView {
   }
 }
 
+const ICONS = {
+  first: "M3 3V13M14 3V13L6 8Z", before: "M11 3V13L4 8Z", play: "M4 2V14L14 8Z", stop: "M4 3V13M12 3V13", next: "M5 3V13L12 8Z", last: "M2 3V13L10 8ZM13 3V13",
+};
+const icon = (name) => svg("svg", { class: "icon", viewBox: "0 0 16 16", width: 16, height: 16, "aria-hidden": "true" }, svg("path", { d: ICONS[name] }));
+
 const CONTACT_NAMES = { " ": "contact", "/": "negated contact", P: "rising contact", N: "falling contact" };
 const COIL_NAMES = { " ": "coil", "/": "negated coil", S: "set coil", R: "reset coil", P: "rising coil", N: "falling coil" };
 
@@ -1024,7 +1064,16 @@ class TimingView {
     this.field.style.height = `${(this.tracks.length + 1) * TRACK}px`;
   }
 
+  /** Few scans take what room there is. */
+  fit() {
+    if (this.isZoomed) return;
+    const room = this.node.clientWidth - this.list.offsetWidth - 4;
+    this.unit = Math.floor(clamp(room / this.count, unitOf(this.tracks), 60));
+    this.resize();
+  }
+
   zoom(by) {
+    this.isZoomed = true;
     this.unit = clamp(Math.round(this.unit * by), 4, 120);
     this.resize();
     this.reveal();
@@ -1069,7 +1118,7 @@ class TimingView {
     this.layer.style.left = `${first * unit}px`;
     this.layer.setAttribute("width", width);
     this.layer.setAttribute("height", (this.tracks.length + 1) * TRACK);
-    const parts = [this.ruler(first, last), svg("rect", { x: (this.scan - first) * unit, y: 0, width: unit, height: (this.tracks.length + 1) * TRACK, class: "cursor" })];
+    const parts = [svg("rect", { x: (this.scan - first) * unit, y: 0, width: unit, height: (this.tracks.length + 1) * TRACK, class: "cursor" }), this.ruler(first, last)];
     for (let k = top; k < end; k += 1) parts.push(this.track(this.tracks[k], k, first, last));
     this.layer.replaceChildren(...parts);
   }
@@ -1182,13 +1231,14 @@ const MOST_EVENTS = 400000;
 const GUTTER = 58;
 const HEAD = 34;
 const TASK_STEP = 16;
+const LETTER_IN_LANE = 7.3;
 
 /** Events in lanes, one below the other. Only those in view are drawn. */
 class LanesView {
   constructor(run, lines) {
     this.run = run;
     this.lines = lines;
-    this.selected = 0;
+    this.selected = -1;
     this.part = 0;
     this.watched = [];
     this.layer = svg("svg", { class: "lanes" });
@@ -1197,8 +1247,8 @@ class LanesView {
     this.box = html("div", { class: "lane-box", tabindex: 0, role: "group", "aria-label": count(run.events.length, "event") }, this.head, this.field);
     this.box.addEventListener("scroll", oncePerFrame(() => this.draw()));
     this.overview = svg("svg", { class: "overview", "aria-hidden": "true", onclick: (click) => this.jumpTo(click) });
-    this.detail = html("div", { class: "detail", role: "status" });
-    this.node = html("div", { class: "events" }, this.summary(), this.tools(), html("div", { class: "lane-frame" }, this.box, this.overview), this.detail);
+    this.detail = html("div", { class: "detail", role: "status" }, html("p", {}, "Point at an event, or press ↓: what it takes and gives stands here. n goes to the next mark."));
+    this.node = html("div", { class: "events" }, this.summary(), this.tools(), this.legend(), html("div", { class: "lane-frame" }, this.box, this.overview), this.detail);
   }
 
   // What stands above.
@@ -1232,6 +1282,20 @@ class LanesView {
     }
     if (this.run.events.length > MOST_EVENTS) tools.append(this.partList());
     return tools;
+  }
+
+  /** What the signs mean that stand here. */
+  legend() {
+    const { run } = this;
+    const has = (kind, answer) => run.events.some((it) => it.kind === kind && (!answer || it.answer === answer));
+    const sample = (...parts) => svg("svg", { class: "lanes sample", width: 34, height: 16, "aria-hidden": "true" }, parts);
+    const entry = (told, ...parts) => html("span", {}, sample(...parts), told);
+    return html("div", { class: "legend" },
+      has("evaluation") && entry("evaluation, in its task's colour", path("M17 1A7 7 0 1 0 17 15A7 7 0 1 0 17 1Z", "point task-0")),
+      run.arrows.length > 0 && entry("taken by", svg("g", { class: "arrow task-0" }, path("M1 8H25", "shaft"), path(headAt(33, 8, 1, 8), "head"))),
+      run.arrows.some((it) => it.take.isOther) && entry("taken from an incarnation that is over", svg("g", { class: "arrow other task-0" }, path("M1 8H25", "shaft"), path(headAt(33, 8, 1, 8), "head"))),
+      has("delivery") && entry("delivery", path("M1 8H24", "delivery-line"), svg("circle", { cx: 28, cy: 8, r: 3.5, class: "arrival" })),
+      ["old", "stray", "unused"].filter((it) => has("delivery", it)).map((it) => entry(`${it}: ${ANSWER_MEANINGS[it]}`, svg("g", { class: `is-${it}` }, markSigns(it, 17, 8, 7)))));
   }
 
   partList() {
@@ -1269,6 +1333,7 @@ class LanesView {
     const { run } = this;
     const lanes = Math.max(1, run.lanes.length);
     const room = this.box.clientWidth - GUTTER - 20;
+    this.restarts ??= new Set(run.events.filter((it) => it.kind === "restart").map((it) => it.column));
     this.tracks = run.lanes.map((_, column) => this.watched.map((name) => run.variables.get(name)).filter((it) => it.column === column));
     const least = run.lanes.map((name, column) => this.leastWidth(name, column));
     const wanted = least.reduce((sum, it) => sum + it, 0);
@@ -1292,8 +1357,8 @@ class LanesView {
   /** A lane has room for its name, for its longest label and for the variables that stand in it. */
   leastWidth(name, column) {
     const tasks = [...this.run.tasks.values()].filter((it) => it.lane === column);
-    const label = Math.max(9, ...tasks.map((it) => it.name.length - name.length + 6));
-    return Math.max(name.length * 9 + 24, 40 + this.run.perLane[column] * TASK_STEP + label * 7.4) + this.trackWidth(column);
+    const label = Math.max(9, this.restarts.has(column) ? 11 + 3 : 0, ...tasks.map((it) => it.name.length - name.length + 6));
+    return Math.max(name.length * 9 + 24, 40 + this.run.perLane[column] * TASK_STEP + label * LETTER_IN_LANE) + this.trackWidth(column);
   }
 
   trackWidth(column) {
@@ -1338,7 +1403,7 @@ class LanesView {
       svg("g", { class: "bands" }, this.selection(first, end), seen.map((event) => this.band(event))),
       svg("g", { class: "lines" }, this.run.lanes.map((_, column) => this.laneLine(column, seen, above, above + size))),
       svg("g", { class: "tracks" }, this.tracks.flatMap((tracks, column) => this.laneTracks(tracks, column, first, end))),
-      svg("g", { class: "deliveries" }, this.deliveries(seen, first, end)),
+      svg("g", { class: "deliveries" }, this.deliveries(seen)),
       svg("g", { class: "arrows" }, this.arrows(seen, first, end)),
       svg("g", { class: "points" }, seen.map((event) => this.event(event))));
   }
@@ -1378,19 +1443,28 @@ class LanesView {
   }
 
   evaluation(event, y) {
-    const { of } = event;
-    const x = this.x(event.column, of);
-    const behind = this.x(event.column, { inLane: 99 }) + 13;
-    return [pointOf(of, x, y), this.told(behind, y, `${of.name.slice(of.name.indexOf(".") + 1)} ${event.pair ?? event.message}`)];
+    return [pointOf(event.of, this.x(event.column, event.of), y), this.told(this.labelAt(event), y, this.labelOf(event))];
+  }
+
+  labelOf(event) {
+    if (event.kind === "evaluation") return `${event.of.name.slice(event.of.name.indexOf(".") + 1)} ${event.pair ?? event.message}`;
+    return `${event.pair ? `${event.of.name} ${event.pair}` : event.message} ${event.answer}`.trim();
+  }
+
+  labelAt(event) {
+    return event.kind === "evaluation" ? this.x(event.column, { inLane: 99 }) + 13 : this.x(event.column) + 15;
+  }
+
+  /** Where lines meet an event from the left and from the right: behind its label. */
+  sides(event) {
+    const x = event.kind === "evaluation" ? this.x(event.column, event.of) : this.x(event.column ?? 0);
+    return { left: x - (isMark(event) ? 10 : event.kind === "evaluation" ? 8 : 5), middle: x, right: this.labelAt(event) + this.labelOf(event).length * LETTER_IN_LANE + 5, y: this.y(event.at) };
   }
 
   delivery(event, y) {
     const x = this.x(event.column);
-    const word = event.pair ? `${event.of.name} ${event.pair}` : event.message;
-    const sign = { taken: "", old: "✕", stray: "⤭", unused: "○" }[event.answer] ?? "";
-    const parts = [isMark(event) ? svg("circle", { cx: x, cy: y, r: 9, class: "mark-ring" }) : svg("circle", { cx: x, cy: y, r: 3.5, class: "arrival" })];
-    if (isMark(event)) parts.push(event.answer === "unused" ? svg("circle", { cx: x, cy: y, r: 3.5, class: "mark-hollow" }) : path(event.answer === "old" ? `M${x - 4} ${y - 4}L${x + 4} ${y + 4}M${x - 4} ${y + 4}L${x + 4} ${y - 4}` : `M${x - 5} ${y + 5}L${x + 5} ${y - 5}`, "mark-sign"));
-    parts.push(this.told(x + 15, y, `${word} ${event.answer}`.trim(), isMark(event) ? "strong" : "faint"));
+    const parts = isMark(event) ? markSigns(event.answer, x, y, 9) : [svg("circle", { cx: x, cy: y, r: 3.5, class: "arrival" })];
+    parts.push(this.told(this.labelAt(event), y, this.labelOf(event), isMark(event) ? "strong" : "faint"));
     return parts;
   }
 
@@ -1398,7 +1472,7 @@ class LanesView {
     const x = this.x(event.column);
     const word = event.isStart ? "start" : "restart";
     return [path(`M${x - 8} ${y - 6}L${x + 8} ${y - 10}M${x - 8} ${y + 10}L${x + 8} ${y + 6}`, "break"),
-      this.told(x + 15, y, event.incarnation ? `${word}: ${event.incarnation}` : word, "strong")];
+      this.told(x + 15, y, this.widths[event.column] < 215 ? `${word}: ${event.incarnation ?? ""}` : `${word}: incarnation ${event.incarnation ?? "one more"}`, "strong")];
   }
 
   hearing(event, y) {
@@ -1427,12 +1501,10 @@ class LanesView {
 
   // Lines between events.
 
-  deliveries(seen, first, end) {
+  deliveries(seen) {
     return seen.filter((event) => event.kind === "delivery" && event.source && event.column !== undefined).map((event) => {
-      const { source } = event;
-      const [from, to] = [this.ofSource(source), [this.x(event.column), this.y(event.at)]];
-      const d = curve(from, to, isMark(event) ? 11 : 5);
-      return svg("path", { d, class: classes("delivery-line", isMark(event) && `is-${event.answer}`), "data-from": source.line + 1, "data-to": event.line + 1 });
+      const { d } = between(this.sides(event.source), this.sides(event), 0);
+      return svg("path", { d, class: classes("delivery-line", isMark(event) && `is-${event.answer}`), "data-from": event.source.line + 1, "data-to": event.line + 1 });
     });
   }
 
@@ -1449,16 +1521,18 @@ class LanesView {
   }
 
   arrow(take, event) {
-    const to = [this.x(event.column, event.of), this.y(event.at)];
-    const from = take.source ? this.ofSource(take.source) : [this.x(take.producer.lane, take.producer), to[1] - EVENT * 0.9];
-    const d = curve(from, to, 9);
+    const to = this.sides(event);
+    const from = take.source ? this.sides(take.source) : this.outside(take.producer, to.y);
+    const { d, head } = between(from, to, 8);
     const isHeld = event.at === this.selected || take.source?.at === this.selected;
     return svg("g", { class: classes("arrow", `task-${take.producer.place % 12}`, take.isOther && "other", !take.source && "unseen", isHeld && "held"), "data-from": take.source ? take.source.line + 1 : "", "data-to": event.line + 1 },
-      svg("title", {}, `${take.producer.name} ${take.pair}`), path(d, "shaft"), path(headAt(from, to), "head"));
+      svg("title", {}, `${take.producer.name} ${take.pair}`), path(d, "shaft"), path(head, "head"));
   }
 
-  ofSource(source) {
-    return [source.kind === "evaluation" ? this.x(source.column, source.of) : this.x(source.column ?? 0), this.y(source.at)];
+  /** Where an arrow comes from whose evaluation isn't in this text. */
+  outside(producer, y) {
+    const x = this.x(producer.lane, producer);
+    return { left: x, middle: x, right: x, y: y - EVENT * 0.9 };
   }
 
   laneTracks(tracks, column, first, end) {
@@ -1635,6 +1709,17 @@ function upTo(numbers, most) {
 
 const widthOfTrack = (variable) => (variable.values.every((it) => it === "0" || it === "1") ? 46 : 26 + 7 * Math.max(...variable.values.slice(0, 1000).map((it) => it.length)));
 
+/** The mark of a delivery that wasn't taken: a cross for an old one, a stroke for a stray one, a ring for an unused one. */
+function markSigns(answer, x, y, r) {
+  const [a, b] = [r * 0.45, r * 0.55];
+  const sign = {
+    old: () => path(`M${x - a} ${y - a}L${x + a} ${y + a}M${x - a} ${y + a}L${x + a} ${y - a}`, "mark-sign"),
+    stray: () => path(`M${x - b} ${y + b}L${x + b} ${y - b}`, "mark-sign"),
+    unused: () => svg("circle", { cx: x, cy: y, r: r * 0.4, class: "mark-hollow" }),
+  }[answer]();
+  return [svg("circle", { cx: x, cy: y, r, class: "mark-ring" }), sign];
+}
+
 /** A point of a task: its colour and its shape are its own. */
 function pointOf(task, x, y) {
   const shape = Math.floor(task.place / 12) % 4;
@@ -1642,20 +1727,21 @@ function pointOf(task, x, y) {
   return svg("path", { d: shapes[shape], class: `point task-${task.place % 12}`, "data-task": task.name });
 }
 
-/** A curve between two points that ends a bit before the second one. */
-function curve([x1, y1], [x2, y2], gap) {
-  if (x1 === x2) return `M${x1} ${y1}C${x1 - 26} ${y1 + 8} ${x2 - 26} ${y2 - 8} ${x2 - gap} ${y2 - 2}`;
-  const side = Math.sign(x2 - x1);
-  const reach = Math.min(80, Math.abs(x2 - x1) / 2);
-  return `M${x1 + side * 8} ${y1}C${x1 + side * reach} ${y1} ${x2 - side * reach} ${y2} ${x2 - side * gap} ${y2}`;
+/** A curve from one event to another, and the head of its arrow, which is so long. */
+function between(from, to, length) {
+  if (from.middle === to.middle) {
+    const [x, tip] = [from.left, to.left];
+    const reach = 18 + Math.min(22, Math.abs(to.y - from.y) / 12);
+    return { d: `M${x} ${from.y}C${x - reach} ${from.y} ${tip - reach} ${to.y} ${tip - length} ${to.y}`, head: headAt(tip, to.y, 1, length) };
+  }
+  const side = Math.sign(to.middle - from.middle);
+  const [x, tip] = side > 0 ? [from.right, to.left] : [from.left, to.right];
+  const end = tip - side * length;
+  const reach = side * clamp(Math.abs(end - x) / 2, 20, 90);
+  return { d: `M${x} ${from.y}C${x + reach} ${from.y} ${end - reach} ${to.y} ${end} ${to.y}`, head: headAt(tip, to.y, side, length) };
 }
 
-/** The head of an arrow, at the side from which it comes. */
-function headAt([x1], [x2, y2]) {
-  const side = x1 === x2 ? 1 : Math.sign(x2 - x1);
-  const tip = x2 - side * 7;
-  return `M${tip - side * 9} ${y2 - 5}L${tip} ${y2}L${tip - side * 9} ${y2 + 5}Z`;
-}
+const headAt = (tip, y, side, length) => `M${tip - side * length} ${y - 5}L${tip} ${y}L${tip - side * length} ${y + 5}Z`;
 
 /** Scans: the ladder, if it is shown, the timing diagram, and what steps through them. */
 class ScansView {
@@ -1665,21 +1751,30 @@ class ScansView {
     const choose = (name) => this.light(baseOf(name));
     this.ladder = section.ladder && new LadderView(section, choose);
     this.timing = this.count ? new TimingView(section.rows, (scan) => this.show(scan), choose) : undefined;
-    if (this.ladder && this.timing) this.ladder.isOn = (name) => this.timing.tracks.some((it) => it.kind === "BOOL" && it.name.toUpperCase() === name.toUpperCase() && it.values[this.scan] === 1);
-    this.node = html("div", { class: "scans" }, this.ladder?.node, this.count > 1 && this.tools(), this.timing?.node);
+    if (this.ladder && this.timing) {
+      const bits = new Map(this.timing.tracks.filter((it) => it.kind === "BOOL").map((it) => [it.name.toUpperCase(), it]));
+      this.ladder.isOn = (name) => bits.get(name.toUpperCase())?.values[this.scan] === 1;
+    }
+    this.node = html("div", { class: "scans" }, this.ladder?.node, this.count > 1 && this.tools(), this.ladder && this.count > 0 && this.legend(), this.timing?.node);
+  }
+
+  legend() {
+    const sample = (kind) => svg("svg", { class: "ladder shown sample", width: 34, height: 16, "aria-hidden": "true" }, path("M0 8H34", kind));
+    return html("div", { class: "legend" }, html("span", {}, sample("wire live"), "has power in this scan"), html("span", {}, sample("wire"), "has none"), html("span", {}, html("b", { class: "on" }, "NAME"), "is 1 after it"));
   }
 
   tools() {
     this.slider = html("input", { type: "range", min: 1, max: this.count, value: 1, "aria-label": "scan", oninput: () => this.show(Number(this.slider.value) - 1) });
     this.told = html("output", { class: "scan-number" });
-    this.player = html("button", { type: "button", "aria-label": "play", title: "play (blank)", onclick: () => this.play() }, "▶");
-    const button = (sign, label, call) => html("button", { type: "button", "aria-label": label, title: label, onclick: call }, sign);
-    return html("div", { class: "player" }, button("⏮", "first scan (Home)", () => this.show(0)), button("◀", "scan before (←)", () => this.step(-1)), this.player,
-      button("▷", "next scan (→)", () => this.step(1)), button("⏭", "last scan (End)", () => this.show(this.count - 1)), this.slider, this.told);
+    this.player = html("button", { type: "button", "aria-label": "play", title: "play (blank)", onclick: () => this.play() }, icon("play"));
+    const button = (sign, label, call) => html("button", { type: "button", "aria-label": label, title: label, onclick: call }, icon(sign));
+    return html("div", { class: "player" }, button("first", "first scan (Home)", () => this.show(0)), button("before", "scan before (←)", () => this.step(-1)), this.player,
+      button("next", "next scan (→)", () => this.step(1)), button("last", "last scan (End)", () => this.show(this.count - 1)), this.slider, this.told);
   }
 
   layOut() {
     this.ladder?.fit();
+    this.timing?.fit();
     this.show(this.scan);
   }
 
@@ -1701,7 +1796,7 @@ class ScansView {
     if (this.timer) this.stop();
     else {
       if (this.scan === this.count - 1) this.show(0);
-      this.player.textContent = "❚❚";
+      this.player.replaceChildren(icon("stop"));
       this.timer = setInterval(() => (this.scan < this.count - 1 ? this.step(1) : this.stop()), 500);
     }
   }
@@ -1709,7 +1804,13 @@ class ScansView {
   stop() {
     clearInterval(this.timer);
     this.timer = undefined;
-    this.player.textContent = "▶";
+    this.player.replaceChildren(icon("play"));
+  }
+
+  /** A run that breaks a claim shows its last scan, and what the claim names. */
+  breaks(name) {
+    this.scan = this.count - 1;
+    if (name) this.light(baseOf(name));
   }
 
   light(name) {
@@ -1756,10 +1857,18 @@ class VerdictView {
   }
 }
 
-/** Lines that aren't drawn. */
+const CHUNK = 400;
+
+/** A text as it is, in parts of some lines, so that the browser lays out only those in view. */
 class TextView {
   constructor(lines) {
-    this.node = html("pre", { class: "lines" }, lines.join("\n"));
+    this.node = html("div", { class: "lines", tabindex: 0 });
+    for (let at = 0; at < lines.length; at += CHUNK) {
+      const part = lines.slice(at, at + CHUNK);
+      const node = html("div", {}, part.join("\n") + (at + CHUNK < lines.length ? "\n" : ""));
+      node.style.containIntrinsicHeight = `auto ${part.length * 1.4}em`;
+      this.node.append(node);
+    }
   }
 
   counts() {
@@ -1783,8 +1892,8 @@ class Page {
     this.isDrawn = this.sections.some((it) => it.form !== "text");
     this.views = [];
     if (this.isDrawn) this.build();
-    else document.documentElement.classList.remove("drawn");
     this.head();
+    if (!this.isDrawn) this.showText();
   }
 
   build() {
@@ -1792,12 +1901,12 @@ class Page {
     for (const section of this.sections) {
       const view = this.viewOf(section);
       this.views.push(view);
-      const node = html("section", { class: section.form, "data-lines": `${section.first + 1}-${section.end}` }, view.node);
+      const node = html("section", { "data-form": section.form, "data-lines": `${section.first + 1}-${section.end}` }, view.node);
       node.addEventListener("focusin", () => (this.active = view));
       node.addEventListener("pointerdown", () => (this.active = view));
       this.main.append(node);
     }
-    this.tellTimes();
+    this.tellRuns();
     this.active = this.views.find((it) => it.press);
     this.pre.after(this.main);
     const layOut = oncePerFrame(() => this.layOut());
@@ -1814,11 +1923,14 @@ class Page {
     return new ScansView(section);
   }
 
-  /** The words that made a run tell its time from scan to scan. */
-  tellTimes() {
+  /** A claim tells the run below it where it breaks, and the words that made it the time from scan to scan. */
+  tellRuns() {
     this.sections.forEach((section, k) => {
       const found = /--dt (\d+)/.exec(section.command ?? "");
-      if (found && this.views[k + 1] instanceof ScansView) this.views[k + 1].dt = found[1];
+      const run = this.views[k + 1];
+      if (!(run instanceof ScansView)) return;
+      if (found) run.dt = found[1];
+      if (section.verdict === "FAILS") run.breaks(/^\w+/.exec(section.told)?.[0]);
     });
   }
 
@@ -1842,10 +1954,20 @@ class Page {
     addEventListener("keydown", (press) => this.press(press));
   }
 
+  showText() {
+    this.whole ??= new TextView(this.text.split("\n"));
+    this.whole.node.id = "whole";
+    this.pre.after(this.whole.node);
+  }
+
+  /** From what is drawn to the text, and back. */
   turn() {
-    const isText = document.documentElement.classList.toggle("drawn") === false;
-    this.switch.setAttribute("aria-pressed", String(isText));
-    if (!isText) this.layOut();
+    this.isText = !this.isText;
+    this.main.hidden = this.isText;
+    this.switch.setAttribute("aria-pressed", String(this.isText));
+    if (this.isText) return this.showText();
+    this.whole.node.remove();
+    return this.layOut();
   }
 
   press(press) {
@@ -1853,10 +1975,9 @@ class Page {
     if (press.ctrlKey || press.metaKey || press.altKey || isField || this.help.open) return;
     const isButton = press.target.matches?.("button, [role=button]") && (press.key === " " || press.key === "Enter");
     if (isButton) return;
-    const isText = !document.documentElement.classList.contains("drawn");
     if (press.key === "t" && this.isDrawn) this.turn();
     else if (press.key === "?" && this.isDrawn) this.help.showModal();
-    else if (isText || !this.active?.press(press.key)) return;
+    else if (this.isText || !this.active?.press(press.key)) return;
     press.preventDefault();
   }
 }
