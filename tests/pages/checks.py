@@ -153,13 +153,33 @@ def watch_keys(folder):
     yield from wants(browser, "its values", told, "".join(changes))
 
 
+# How many events stand on paper, or scans of the first variable.
+PRINTED = """(() => {
+  const strips = [...document.querySelectorAll('.strip')].map((it) => it.querySelector('.variable .wave').getAttribute('d'));
+  const widths = strips.map((d) => Number(d.match(/H([0-9.]+)/g).pop().slice(1)) / plcPage.views[0].timing.unit);
+  return document.querySelectorAll('.event').length + Math.round(widths.reduce((sum, it) => sum + it, 0));
+})()"""
+
+
 def print_faults(folder):
+    """On paper stands each scan and each event, of many the first 3,000; the page is afterwards as it was."""
     browser = folder.browser
-    for text in (answer("eval", "on_delay.ladder", "--dt", "10", "GO=" + "01" * 60, "--show"), answer("sim", "packing.plant", "packing_day.schedule")):
+    for told, text, wanted in (
+        ("scans", answer("eval", "on_delay.ladder", "--dt", "10", "GO=" + "01" * 60, "--show"), 120),
+        ("events", answer("sim", "packing.plant", "packing_day.schedule"), 15),
+        ("many events", "".join(f"{line}\n" for line in many_events(random.Random(3), 5000)), 3000),
+        ("many scans", "".join(f"A={k % 2}\n" for k in range(5000)), 3000),
+    ):
         folder.open(text)
-        size = len(browser.printed())
-        if size < 8000:
-            yield f"a printed page has {size} bytes"
+        before = browser.value("document.querySelectorAll('main *').length")
+        browser.value("plcPage.views.forEach((it) => it.print())")
+        found = browser.value(PRINTED)
+        if not wanted <= found < wanted + 40:
+            yield f"{told}: {found} stand on paper, {wanted} were wanted"
+        browser.value("plcPage.views.forEach((it) => it.printed())")
+        yield from wants(browser, f"{told} afterwards", "document.querySelectorAll('main *').length", before)
+        if len(browser.printed()) < 8000:
+            yield f"{told}: there is nothing on paper"
         yield from browser.faults()
 
 

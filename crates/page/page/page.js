@@ -916,10 +916,10 @@ class TimingView {
   draw() {
     const { unit } = this;
     const bounds = this.node.getBoundingClientRect();
-    const first = this.drawsAll ? 0 : clamp(Math.floor(this.node.scrollLeft / unit) - 2, 0, this.count);
-    const last = this.drawsAll ? this.count : clamp(Math.ceil((this.node.scrollLeft + this.node.clientWidth) / unit) + 2, 0, this.count);
-    const top = this.drawsAll ? 0 : clamp(Math.floor((-bounds.top - 200) / TRACK), 0, this.tracks.length);
-    const end = this.drawsAll ? this.tracks.length : clamp(Math.ceil((innerHeight - bounds.top + 200) / TRACK), 0, this.tracks.length);
+    const first = clamp(Math.floor(this.node.scrollLeft / unit) - 2, 0, this.count);
+    const last = clamp(Math.ceil((this.node.scrollLeft + this.node.clientWidth) / unit) + 2, 0, this.count);
+    const top = clamp(Math.floor((-bounds.top - 200) / TRACK), 0, this.tracks.length);
+    const end = clamp(Math.ceil((innerHeight - bounds.top + 200) / TRACK), 0, this.tracks.length);
     const width = (last - first) * unit + 2;
     this.layer.style.left = `${first * unit}px`;
     this.layer.setAttribute("width", width);
@@ -966,6 +966,23 @@ class TimingView {
       d += `${d ? "V" : `M${(from - first) * this.unit} `}${level}H${(to - first) * this.unit}`;
     }
     return d;
+  }
+
+  /** For paper: the scans in strips of its width, from the first one on. */
+  print() {
+    const each = Math.max(1, Math.floor((PAPER - this.list.offsetWidth) / this.unit));
+    this.strips = html("div", { class: "strips" });
+    for (let from = 0; from < Math.min(this.count, MOST_PRINTED); from += each) {
+      const to = Math.min(this.count, from + each);
+      const picture = svg("svg", { class: "waves", width: each * this.unit + 2, height: (this.tracks.length + 1) * TRACK }, this.ruler(from, to), this.tracks.map((track, k) => this.track(track, k, from, to)));
+      this.strips.append(html("div", { class: "strip" }, this.list.cloneNode(true), picture));
+    }
+    if (this.count > MOST_PRINTED) this.strips.append(html("p", {}, `the first ${MOST_PRINTED.toLocaleString("en")} of ${count(this.count, "scan")}`));
+    this.node.after(this.strips);
+  }
+
+  printed() {
+    this.strips?.remove();
   }
 
   counts() {
@@ -1031,6 +1048,10 @@ function unitOf(tracks) {
   const longest = Math.max(0, ...tracks.filter((it) => it.kind !== "BOOL").map((it) => Math.max(it.label(0).length, String(it.most).length + (it.kind === "TIME" ? 2 : 0), String(it.least).length)));
   return clamp(longest * LETTER + 8, 26, 84);
 }
+
+// What fits on paper: its width, and so many scans or events at most.
+const PAPER = 680;
+const MOST_PRINTED = 3000;
 
 const EVENT = 30;
 const MOST_EVENTS = 400000;
@@ -1127,11 +1148,33 @@ class LanesView {
   // Where things are.
 
   get first() {
-    return this.part * MOST_EVENTS;
+    return this.printing ? this.printing.first : this.part * MOST_EVENTS;
   }
 
   get shownCount() {
-    return Math.min(MOST_EVENTS, this.run.events.length - this.first);
+    return Math.min(this.printing ? MOST_PRINTED : MOST_EVENTS, this.run.events.length - this.first);
+  }
+
+  /** For paper: all events, or of many those from the first one in view. */
+  print() {
+    const isMany = this.run.events.length > MOST_PRINTED;
+    const first = isMany ? this.first + Math.floor(this.box.scrollTop / EVENT) : 0;
+    this.printing = { first };
+    if (isMany) {
+      this.printing.note = html("p", {}, `events ${(first + 1).toLocaleString("en")} to ${(first + this.shownCount).toLocaleString("en")} of ${this.run.events.length.toLocaleString("en")}`);
+      this.node.prepend(this.printing.note);
+    }
+    this.drawsAll = true;
+    this.layOut();
+    this.box.style.zoom = Math.min(1, PAPER / this.width);
+  }
+
+  printed() {
+    this.printing?.note?.remove();
+    this.printing = undefined;
+    this.drawsAll = false;
+    this.box.style.zoom = "";
+    this.layOut();
   }
 
   layOut() {
@@ -1663,6 +1706,18 @@ class ScansView {
     this.timing?.draw();
   }
 
+  print() {
+    if (this.ladder) this.ladder.drawsAll = true;
+    this.ladder?.draw();
+    this.timing?.print();
+  }
+
+  printed() {
+    if (this.ladder) this.ladder.drawsAll = false;
+    this.timing?.printed();
+    this.draw();
+  }
+
   press(key) {
     const steps = { ArrowLeft: -1, ArrowRight: 1, PageUp: -10, PageDown: 10 };
     if (this.count < 2 && key !== "Escape") return false;
@@ -1751,8 +1806,8 @@ class Page {
     const layOut = oncePerFrame(() => this.layOut());
     addEventListener("resize", layOut);
     addEventListener("scroll", oncePerFrame(() => this.views.forEach((it) => it.draw?.())), { passive: true });
-    addEventListener("beforeprint", () => this.drawAll(true));
-    addEventListener("afterprint", () => this.drawAll(false));
+    addEventListener("beforeprint", () => this.views.forEach((it) => it.print?.()));
+    addEventListener("afterprint", () => this.views.forEach((it) => it.printed?.()));
   }
 
   viewOf(section) {
@@ -1775,11 +1830,6 @@ class Page {
 
   layOut() {
     for (const view of this.views) view.layOut?.();
-  }
-
-  drawAll(isAll) {
-    for (const view of this.views.flatMap((it) => [it, it.ladder, it.timing])) if (view) view.drawsAll = isAll;
-    this.layOut();
   }
 
   head() {

@@ -5,7 +5,7 @@ pub const HEAD: &str = r#"<!doctype html>
 <html lang="en">
 <head>
 <meta charset="utf-8">
-<meta http-equiv="Content-Security-Policy" content="default-src 'none'; style-src 'sha256-D8xtA8VBgEU41Lwo8r77iUfnL+oEWirZ6Mol/H1exvY='; script-src 'sha256-KUk662Ykz2Sw0i6CZenO6zIfWJxcnQPDG246AnLU4+8=' 'sha256-KhYQDkZqIMLoQKE6UQwAAD6pl5hkEYpKUpCjHQLPdAM='; base-uri 'none'; form-action 'none'">
+<meta http-equiv="Content-Security-Policy" content="default-src 'none'; style-src 'sha256-EMYrEAxs0YHeEAwqD1jGJMWE/9ON/CqB0/LGTmXpC5g='; script-src 'sha256-KUk662Ykz2Sw0i6CZenO6zIfWJxcnQPDG246AnLU4+8=' 'sha256-fk+j+TXut9y92+xqGngGBeqvXaiCVs4gWlA04bRGbqg='; base-uri 'none'; form-action 'none'">
 <meta name="viewport" content="width=device-width, initial-scale=1">
 <meta name="color-scheme" content="light dark">
 <title>plc</title>
@@ -50,6 +50,7 @@ code { font: 14px "DejaVu Sans Mono", Menlo, Consolas, monospace; overflow-wrap:
 .ladder { display: block; max-width: none; }
 .ladder text { font: 16px "DejaVu Sans Mono", Menlo, Consolas, monospace; fill: var(--ink); }
 .ladder path { fill: none; }
+.rail, .wire, .operand, .box .body, .box-part .body { shape-rendering: crispEdges; }
 .rail { stroke: var(--ink); stroke-width: 3; }
 .wire, .operand { stroke: var(--off); stroke-width: 1.5; }
 .ladder:not(.shown) .wire { stroke: var(--ink); }
@@ -69,6 +70,8 @@ code { font: 14px "DejaVu Sans Mono", Menlo, Consolas, monospace; overflow-wrap:
 .ladder .pin.live { fill: var(--live); font-weight: 700; }
 .ladder .word.on { font-weight: 700; fill: var(--live); }
 .ladder .literal { fill: var(--faint); }
+.ladder .worth { font-size: 14px; font-weight: 700; fill: var(--wave); }
+.ladder .before { text-anchor: end; }
 .reach { fill: transparent; stroke: none; }
 .contact, .coil, .box, .word.name { cursor: pointer; }
 .contact:focus-visible, .coil:focus-visible, .box:focus-visible { outline: none; }
@@ -76,7 +79,7 @@ code { font: 14px "DejaVu Sans Mono", Menlo, Consolas, monospace; overflow-wrap:
 .contact.lit .reach, .coil.lit .reach, .box.lit .inside, .box-part.lit .inside { fill: var(--lit); }
 .ladder .word.lit { fill: var(--lit-edge); text-decoration: underline; }
 
-.player { display: flex; flex-wrap: wrap; gap: 6px; align-items: center; margin: 0 0 10px; }
+.player { display: flex; flex-wrap: wrap; gap: 6px; align-items: center; padding: 6px 0; margin: 0 0 4px; position: sticky; bottom: 0; z-index: 3; background: var(--paper); }
 .player button { min-width: 40px; }
 .icon path { fill: var(--ink); stroke: var(--ink); stroke-width: 2; }
 .player button { display: inline-flex; align-items: center; justify-content: center; }
@@ -120,6 +123,11 @@ button.chip { border-width: 2px; font-weight: 700; }
 .lane-box { overflow: auto; max-height: max(330px, calc(100vh - 360px)); border: 1px solid var(--edge); border-radius: 8px; background: var(--sheet); flex: 1 1 auto; min-width: 0; }
 .lane-heads { position: sticky; top: 0; z-index: 2; height: 34px; background: var(--sheet); border-bottom: 1px solid var(--edge); }
 .lane-head { position: absolute; top: 0; height: 33px; padding: 5px 8px; font: 15px "DejaVu Sans Mono", Menlo, Consolas, monospace; white-space: nowrap; border-left: 3px solid var(--off); }
+.lane-heads.tall { height: 56px; }
+.tall .lane-head { height: 55px; }
+.track-name { position: absolute; top: 33px; font-size: 12px; color: var(--faint); }
+.band-track { fill: var(--band); }
+.watched { display: inline-flex; flex-wrap: wrap; gap: 6px; }
 .lanes { position: absolute; left: 0; display: block; }
 .lane-box .field { cursor: default; }
 .overview { width: 12px; flex: none; cursor: pointer; }
@@ -165,7 +173,8 @@ button.chip { border-width: 2px; font-weight: 700; }
 .detail dl { display: grid; grid-template-columns: auto 1fr; gap: 2px 14px; margin: 6px 0 0; font: 14px "DejaVu Sans Mono", Menlo, Consolas, monospace; }
 .detail dt { color: var(--faint); }
 .detail dd { margin: 0; overflow-wrap: anywhere; }
-.value-button { min-height: 0; padding: 0 8px; font: inherit; }
+.detail p { margin: 4px 0; }
+.value-button { margin-right: 6px; min-height: 0; padding: 0 8px; font: inherit; }
 
 /* Twelve colours of tasks, each of 3 to 1 on its paper; the shape of a point tells the thirteenth from the first. */
 .task-0 { --task: #1f6fb5; } .task-1 { --task: #b8480c; } .task-2 { --task: #7a3fb0; } .task-3 { --task: #0d7d6c; }
@@ -192,12 +201,23 @@ button.chip { border-width: 2px; font-weight: 700; }
   .verdict .big { font-size: 32px; }
   .track { padding: 0 6px; gap: 8px; }
 }
+.strips { display: none; }
 @media print {
-  :root { color-scheme: light; }
-  .buttons, .player, .tools, .overview, .detail { display: none; }
+  :root {
+    color-scheme: light;
+    --paper: #ffffff; --sheet: #ffffff; --edge: #c9d1d9; --ink: #1b1f24; --faint: #56606b; --off: #6a737d;
+    --live: #0a7a33; --live-fill: #bdebc9; --high: #bfe0c9; --band: #dbe7f7; --wave: #2a62a8; --pick: #ffffff;
+    --old: #a14a00; --stray: #7d2aa5; --unused: #56606b; --restart: #0b57b0; --bad: #b3261e; --bad-fill: #fce4e2; --good: #0a6e2e;
+  }
+  body { padding: 0; }
+  .buttons, .player, .tools, .overview, .detail, .timing { display: none; }
+  .strips { display: block; }
+  .strip { display: flex; break-inside: avoid; margin-bottom: 10px; }
+  .strip output { display: none; }
+  .strip .waves { position: static; }
+  .ladder { max-width: 100%; height: auto; }
   .lane-box { max-height: none; overflow: visible; }
-  .sheet, .timing { overflow: visible; }
-  section { break-inside: auto; }
+  .sheet { overflow: visible; }
   * { print-color-adjust: exact; -webkit-print-color-adjust: exact; }
 }
 </style>
@@ -817,6 +837,10 @@ function oncePerFrame(call) {
 const CELL = 10;
 const LINE = 26;
 const MARGIN = 12;
+// By so much pieces of one line overlap, so that no seam is seen.
+const SEAM = 0.8;
+// Columns on the right of a ladder for the values of its last names.
+const ROOM = 9;
 
 /** A ladder, with what has power in one scan. Only the rows in view are drawn. */
 class LadderView {
@@ -825,9 +849,11 @@ class LadderView {
     this.drawn = section.drawn;
     this.hasPower = section.form === "scans";
     this.choose = choose;
+    this.valueOf = () => undefined;
+    this.isBit = () => false;
     this.rows = new Map();
     this.lit = undefined;
-    const width = this.ladder.width * CELL + 2 * MARGIN;
+    const width = (this.ladder.width + (this.hasPower ? ROOM : 0)) * CELL + 2 * MARGIN;
     const height = this.ladder.rows.length * LINE + 2 * MARGIN;
     this.layer = svg("g", { transform: `translate(${MARGIN} ${MARGIN})` });
     this.picture = svg("svg", { class: classes("ladder", this.hasPower && "shown"), viewBox: `0 0 ${width} ${height}`, width, height, role: "group", "aria-label": "ladder" }, this.layer);
@@ -840,19 +866,19 @@ class LadderView {
     this.shown = this.drawn[scan];
     this.power = new Power(this.ladder, this.hasPower ? this.shown : []);
     for (const [row, group] of this.rows) {
-      if (before?.[row] !== this.shown[row] || group.dataset.on !== this.wordsOn(row)) this.redraw(row, group);
+      if (before?.[row] !== this.shown[row] || group.dataset.worth !== this.wordsWorth(row)) this.redraw(row, group);
     }
     this.draw();
   }
 
-  /** Which words of a row are names of variables that are on. */
-  wordsOn(row) {
-    return this.ladder.byRow[row].words.map((it) => (this.isOn?.(it.text) ? "1" : "0")).join("");
+  /** What the words of a row are worth in this scan. */
+  wordsWorth(row) {
+    return this.ladder.byRow[row].words.map((it) => this.valueOf(it.text) ?? "").join(" ");
   }
 
   /** As large as the window has room for, and never so small that names can't be read: then the sheet scrolls. */
   fit() {
-    const most = clamp((innerHeight * 0.55) / this.size.height, 1, 1.7);
+    const most = clamp((innerHeight * 0.5) / this.size.height, 1, 1.4);
     const scale = clamp((this.node.clientWidth - 2) / this.size.width, 0.72, most);
     this.picture.setAttribute("width", this.size.width * scale);
     this.picture.setAttribute("height", this.size.height * scale);
@@ -889,11 +915,11 @@ class LadderView {
   rowGroup(row) {
     const { ladder } = this;
     const things = ladder.byRow[row];
-    return svg("g", { class: "row", "data-row": row, "data-on": this.wordsOn(row), transform: `translate(0 ${row * LINE})` },
+    return svg("g", { class: "row", "data-row": row, "data-worth": this.wordsWorth(row), transform: `translate(0 ${row * LINE})` },
       things.boxes.map((box) => this.boxPart(box, row)),
       this.lines(row),
       things.symbols.map((symbol) => this.symbol(symbol)),
-      things.words.map((word) => this.word(word)));
+      things.words.flatMap((word) => this.word(word)));
   }
 
   /** Rails, wires, joins and uprights of a row. */
@@ -908,15 +934,15 @@ class LadderView {
         let end = column + 1;
         while (ladder.mark(row, end) === mark && power.isLive(row, end) === isLive) end += 1;
         const kind = mark === OPERAND ? "operand" : classes("wire", isLive && "live");
-        parts.push(svg("path", { d: `M${column * CELL - 0.3} ${LINE / 2}H${end * CELL + 0.3}`, class: kind, "data-column": column, "data-places": end - column }));
+        parts.push(svg("path", { d: `M${column * CELL - SEAM} ${LINE / 2}H${end * CELL + SEAM}`, class: kind, "data-column": column, "data-places": end - column }));
         column = end - 1;
       } else if (mark === JOIN || mark === UPRIGHT) {
         parts.push(this.upright(row, column, mark));
       } else if (mark === RAIL) {
         const x = (column + 0.5) * CELL;
-        parts.push(path(`M${x} -0.3V${LINE + 0.3}`, "rail"));
+        parts.push(path(`M${x} ${-SEAM}V${LINE + SEAM}`, "rail"));
         const isLeft = column === ladder.rail;
-        if (isLeft && ladder.takes(row, column + 1)) parts.push(path(`M${x} ${LINE / 2}H${(column + 1) * CELL + 0.3}`, classes("wire", power.comesOut(row, column) && "live")));
+        if (isLeft && ladder.takes(row, column + 1)) parts.push(path(`M${x} ${LINE / 2}H${(column + 1) * CELL + SEAM}`, classes("wire", power.comesOut(row, column) && "live")));
         if (!isLeft && ladder.gives(row, column - 1)) parts.push(path(`M${column * CELL} ${LINE / 2}H${x}`, classes("wire", power.isLive(row, column - 1) && "live")));
       }
     }
@@ -931,8 +957,8 @@ class LadderView {
     const down = ladder.isUpright(row + 1, column);
     const isFed = mark === JOIN && ladder.gives(row, column - 1);
     const isRead = mark === JOIN && ladder.takes(row, column + 1);
-    let d = isRead ? `M${middle} ${LINE / 2}H${right + 0.3}` : "";
-    if (up || down) d += `M${middle} ${up ? -0.3 : LINE / 2}V${down ? LINE + 0.3 : LINE / 2}`;
+    let d = isRead ? `M${middle} ${LINE / 2}H${right + SEAM}` : "";
+    if (up || down) d += `M${middle} ${up ? -SEAM : LINE / 2}V${down ? LINE + SEAM : LINE / 2}`;
     const parts = [path(d, classes("wire", isLive && "live"))];
     if (isFed) parts.unshift(path(`M${left} ${LINE / 2}H${middle}`, classes("wire", power.comesOut(row, column - 1) && "live")));
     if (up + down + isFed + isRead > 2) parts.push(svg("circle", { cx: middle, cy: LINE / 2, r: isLive ? 4 : 3, class: classes("dot", isLive && "live") }));
@@ -971,7 +997,7 @@ class LadderView {
   boxPart(box, row) {
     const { power, ladder } = this;
     const [left, right, y] = [(box.left + 0.5) * CELL, (box.right + 0.5) * CELL, LINE / 2];
-    const [top, bottom] = [row === box.top ? y : 0, row === box.bottom ? y : LINE];
+    const [top, bottom] = [row === box.top ? y : -SEAM, row === box.bottom ? y : LINE + SEAM];
     const parts = [svg("rect", { x: left, y: top, width: right - left, height: bottom - top, class: "inside" })];
     let d = `M${left} ${top}V${bottom}M${right} ${top}V${bottom}`;
     if (row === box.top || row === box.bottom) d += `M${left} ${y}H${right}`;
@@ -997,11 +1023,24 @@ class LadderView {
   word(word) {
     const name = baseOf(word.text);
     const isName = /^[a-z_]/i.test(word.text) && !word.text.includes("#");
-    return svg("text", {
+    const worth = this.valueOf(word.text);
+    const drawn = svg("text", {
       x: word.column * CELL, y: LINE / 2 + 5, textLength: word.text.length * CELL,
-      class: classes("word", isName ? "name" : "literal", this.isLit(name) && "lit", this.isOn?.(word.text) && "on"), "data-name": name,
+      class: classes("word", isName ? "name" : "literal", this.isLit(name) && "lit", worth === "1" && this.isBit(word.text) && "on"), "data-name": name,
       onclick: isName ? () => this.choose(word.text) : undefined,
     }, word.text);
+    return [drawn, worth !== undefined && !this.isBit(word.text) && this.worth(word, worth)];
+  }
+
+  /** The value of a number or time beside its name, where there is room. */
+  worth(word, worth) {
+    const text = this.ladder.rows[word.row];
+    const end = word.column + word.text.length;
+    const isRoom = (from, to) => text.slice(Math.max(0, from), to).trim() === "" && from > this.ladder.rail;
+    const length = worth.length + 1;
+    if (isRoom(end, end + length) && end + length <= this.ladder.width + ROOM) return svg("text", { x: (end + 0.8) * CELL, y: LINE / 2 + 5, class: "worth" }, worth);
+    if (isRoom(word.column - length, word.column)) return svg("text", { x: (word.column - 0.8) * CELL, y: LINE / 2 + 5, class: "worth before" }, worth);
+    return undefined;
   }
 
   isLit(name) {
@@ -1110,10 +1149,10 @@ class TimingView {
   draw() {
     const { unit } = this;
     const bounds = this.node.getBoundingClientRect();
-    const first = this.drawsAll ? 0 : clamp(Math.floor(this.node.scrollLeft / unit) - 2, 0, this.count);
-    const last = this.drawsAll ? this.count : clamp(Math.ceil((this.node.scrollLeft + this.node.clientWidth) / unit) + 2, 0, this.count);
-    const top = this.drawsAll ? 0 : clamp(Math.floor((-bounds.top - 200) / TRACK), 0, this.tracks.length);
-    const end = this.drawsAll ? this.tracks.length : clamp(Math.ceil((innerHeight - bounds.top + 200) / TRACK), 0, this.tracks.length);
+    const first = clamp(Math.floor(this.node.scrollLeft / unit) - 2, 0, this.count);
+    const last = clamp(Math.ceil((this.node.scrollLeft + this.node.clientWidth) / unit) + 2, 0, this.count);
+    const top = clamp(Math.floor((-bounds.top - 200) / TRACK), 0, this.tracks.length);
+    const end = clamp(Math.ceil((innerHeight - bounds.top + 200) / TRACK), 0, this.tracks.length);
     const width = (last - first) * unit + 2;
     this.layer.style.left = `${first * unit}px`;
     this.layer.setAttribute("width", width);
@@ -1160,6 +1199,23 @@ class TimingView {
       d += `${d ? "V" : `M${(from - first) * this.unit} `}${level}H${(to - first) * this.unit}`;
     }
     return d;
+  }
+
+  /** For paper: the scans in strips of its width, from the first one on. */
+  print() {
+    const each = Math.max(1, Math.floor((PAPER - this.list.offsetWidth) / this.unit));
+    this.strips = html("div", { class: "strips" });
+    for (let from = 0; from < Math.min(this.count, MOST_PRINTED); from += each) {
+      const to = Math.min(this.count, from + each);
+      const picture = svg("svg", { class: "waves", width: each * this.unit + 2, height: (this.tracks.length + 1) * TRACK }, this.ruler(from, to), this.tracks.map((track, k) => this.track(track, k, from, to)));
+      this.strips.append(html("div", { class: "strip" }, this.list.cloneNode(true), picture));
+    }
+    if (this.count > MOST_PRINTED) this.strips.append(html("p", {}, `the first ${MOST_PRINTED.toLocaleString("en")} of ${count(this.count, "scan")}`));
+    this.node.after(this.strips);
+  }
+
+  printed() {
+    this.strips?.remove();
   }
 
   counts() {
@@ -1226,10 +1282,13 @@ function unitOf(tracks) {
   return clamp(longest * LETTER + 8, 26, 84);
 }
 
+// What fits on paper: its width, and so many scans or events at most.
+const PAPER = 680;
+const MOST_PRINTED = 3000;
+
 const EVENT = 30;
 const MOST_EVENTS = 400000;
 const GUTTER = 58;
-const HEAD = 34;
 const TASK_STEP = 16;
 const LETTER_IN_LANE = 7.3;
 
@@ -1322,11 +1381,33 @@ class LanesView {
   // Where things are.
 
   get first() {
-    return this.part * MOST_EVENTS;
+    return this.printing ? this.printing.first : this.part * MOST_EVENTS;
   }
 
   get shownCount() {
-    return Math.min(MOST_EVENTS, this.run.events.length - this.first);
+    return Math.min(this.printing ? MOST_PRINTED : MOST_EVENTS, this.run.events.length - this.first);
+  }
+
+  /** For paper: all events, or of many those from the first one in view. */
+  print() {
+    const isMany = this.run.events.length > MOST_PRINTED;
+    const first = isMany ? this.first + Math.floor(this.box.scrollTop / EVENT) : 0;
+    this.printing = { first };
+    if (isMany) {
+      this.printing.note = html("p", {}, `events ${(first + 1).toLocaleString("en")} to ${(first + this.shownCount).toLocaleString("en")} of ${this.run.events.length.toLocaleString("en")}`);
+      this.node.prepend(this.printing.note);
+    }
+    this.drawsAll = true;
+    this.layOut();
+    this.box.style.zoom = Math.min(1, PAPER / this.width);
+  }
+
+  printed() {
+    this.printing?.note?.remove();
+    this.printing = undefined;
+    this.drawsAll = false;
+    this.box.style.zoom = "";
+    this.layOut();
   }
 
   layOut() {
@@ -1339,16 +1420,17 @@ class LanesView {
     const wanted = least.reduce((sum, it) => sum + it, 0);
     const share = clamp((room - wanted) / lanes, 0, 190);
     let x = GUTTER;
-    this.lefts = least.map((width) => {
-      const left = x;
-      x += width + share;
-      return left;
-    });
+    this.lefts = [];
+    for (const column of laneOrder(run.lanes)) {
+      this.lefts[column] = x;
+      x += least[column] + share;
+    }
     this.widths = least.map((width) => width + share);
     this.width = Math.max(x, GUTTER + 200);
     this.field.style.width = `${this.width}px`;
     this.field.style.height = `${this.shownCount * EVENT + 8}px`;
     this.head.style.width = `${this.width}px`;
+    this.head.classList.toggle("tall", this.watched.length > 0);
     this.head.replaceChildren(...run.lanes.map((name, column) => this.laneHead(name, column)));
     this.drawOverview();
     this.draw();
@@ -1370,7 +1452,22 @@ class LanesView {
     const node = html("div", { class: "lane-head" }, html("b", {}, name));
     node.style.left = `${x}px`;
     node.style.width = `${this.widths[column] - 6}px`;
+    for (const { variable, left } of this.placedTracks(column)) {
+      const label = html("span", { class: "track-name" }, variable.name.slice(name.length + 1));
+      label.style.left = `${left - x + 4}px`;
+      node.append(label);
+    }
     return node;
+  }
+
+  /** The variables that stand in a lane, each with where it does: on the right of all else. */
+  placedTracks(column) {
+    let left = this.lefts[column] + this.widths[column] - 6 - this.trackWidth(column);
+    return this.tracks[column].map((variable) => {
+      const placed = { variable, left };
+      left += widthOfTrack(variable);
+      return placed;
+    });
   }
 
   /** Where a lane's line stands, and the points of one of its tasks. */
@@ -1402,7 +1499,7 @@ class LanesView {
     this.layer.replaceChildren(
       svg("g", { class: "bands" }, this.selection(first, end), seen.map((event) => this.band(event))),
       svg("g", { class: "lines" }, this.run.lanes.map((_, column) => this.laneLine(column, seen, above, above + size))),
-      svg("g", { class: "tracks" }, this.tracks.flatMap((tracks, column) => this.laneTracks(tracks, column, first, end))),
+      svg("g", { class: "tracks" }, this.tracks.flatMap((_, column) => this.placedTracks(column).map((it) => this.laneTrack(it, first, end)))),
       svg("g", { class: "deliveries" }, this.deliveries(seen)),
       svg("g", { class: "arrows" }, this.arrows(seen, first, end)),
       svg("g", { class: "points" }, seen.map((event) => this.event(event))));
@@ -1458,7 +1555,7 @@ class LanesView {
   /** Where lines meet an event from the left and from the right: behind its label. */
   sides(event) {
     const x = event.kind === "evaluation" ? this.x(event.column, event.of) : this.x(event.column ?? 0);
-    return { left: x - (isMark(event) ? 10 : event.kind === "evaluation" ? 8 : 5), middle: x, right: this.labelAt(event) + this.labelOf(event).length * LETTER_IN_LANE + 5, y: this.y(event.at) };
+    return { lane: event.column, left: x - (isMark(event) ? 10 : event.kind === "evaluation" ? 8 : 5), middle: x, right: this.labelAt(event) + this.labelOf(event).length * LETTER_IN_LANE + 5, y: this.y(event.at) };
   }
 
   delivery(event, y) {
@@ -1532,32 +1629,22 @@ class LanesView {
   /** Where an arrow comes from whose evaluation isn't in this text. */
   outside(producer, y) {
     const x = this.x(producer.lane, producer);
-    return { left: x, middle: x, right: x, y: y - EVENT * 0.9 };
-  }
-
-  laneTracks(tracks, column, first, end) {
-    let right = this.lefts[column] + this.widths[column] - 10;
-    return tracks.map((variable) => {
-      const width = widthOfTrack(variable);
-      right -= width;
-      return this.laneTrack(variable, right, width, first, end);
-    });
+    return { lane: producer.lane, left: x, middle: x, right: x, y: y - EVENT * 0.9 };
   }
 
   /** A variable's line, from above to below: to the right is more. */
-  laneTrack(variable, left, width, first, end) {
-    const isBit = variable.values.every((it) => it === "0" || it === "1");
-    const inner = isBit ? 14 : 6;
+  laneTrack({ variable, left }, first, end) {
+    const { isBit, least, most } = shapeOf(variable);
     const parts = [];
     let d = "";
     for (let k = Math.max(0, upTo(variable.at, first) - 1); k < variable.at.length && variable.at[k] < end; k += 1) {
       const top = this.y(Math.max(variable.at[k], first));
       const bottom = this.y(Math.min(variable.at[k + 1] ?? end, end));
       const value = variable.values[k];
-      const x = left + 8 + (isBit ? (value === "1" ? inner : 0) : 0);
-      if (isBit && value === "1") parts.push(svg("rect", { x: left + 8, y: top, width: inner, height: bottom - top, class: "high" }));
+      const x = left + 8 + ((numberOf(value) - least) / (most - least)) * SWING;
+      parts.push(svg("rect", { x: left + 8, y: top, width: Math.max(0, x - left - 8), height: bottom - top, class: isBit ? "high" : "band-track" }));
       d += `${d ? "H" : "M"}${x}${d ? "" : ` ${top}`}V${bottom}`;
-      parts.push(svg("text", { x: left + 12 + (isBit ? inner : 0), y: top + 11, class: "value" }, value.replace(/^T#/, "")));
+      parts.push(svg("text", { x: left + 13 + SWING, y: top + 11, class: "value" }, value));
     }
     return svg("g", { class: "lane-track", "data-name": variable.name }, parts, path(d, classes("wave", isBit && "bit")),
       svg("title", {}, variable.name));
@@ -1617,7 +1704,7 @@ class LanesView {
     const part = Math.floor(this.selected / MOST_EVENTS);
     if (part !== this.part) this.choosePart(part);
     const y = this.y(this.selected);
-    if (y - EVENT < this.box.scrollTop || y + EVENT + HEAD > this.box.scrollTop + this.box.clientHeight) {
+    if (y - EVENT < this.box.scrollTop || y + EVENT + this.head.offsetHeight > this.box.scrollTop + this.box.clientHeight) {
       this.box.scrollTop = Math.max(0, y - this.box.clientHeight / 2);
     }
     this.draw();
@@ -1633,8 +1720,11 @@ class LanesView {
     add("line", `${event.line + 1}`);
     if (event.kind === "evaluation") {
       if (event.inputs) add("inputs", event.inputs);
-      for (const take of event.taken) add("takes", `${take.producer.name} ${take.pair ?? "nothing yet: initial values"}${take.isOther ? ", of another incarnation" : ""}${take.pair && !take.source ? ", which isn't in this text" : ""}`);
-      for (const word of (event.gives ?? "-").split(" ")) if (word !== "-") add("gives", this.valueButton(event, word));
+      for (const take of event.taken) if (take.pair) add("takes", `${take.producer.name} ${take.pair}${take.isOther ? ", of another incarnation" : ""}${take.source ? "" : ", which isn't in this text"}`);
+      const empty = event.taken.filter((it) => !it.pair).map((it) => it.producer.name);
+      if (empty.length) add("takes", `initial values of ${empty.join(", ")}`);
+      const gives = (event.gives ?? "-").split(" ").filter((it) => it !== "-");
+      if (gives.length) add("gives", ...gives.map((word) => this.valueButton(event, word)));
     }
     if (event.kind === "delivery") {
       add("message", event.source ? `made in line ${event.source.line + 1}: ${this.lines[event.source.line]}` : "not made in this text");
@@ -1696,6 +1786,14 @@ const ANSWER_MEANINGS = {
   stray: "it is addressed to another incarnation",
 };
 
+/** Lanes in their order: by number where they are numbered, as R1 and R2, else as they come. */
+function laneOrder(names) {
+  const columns = names.map((_, k) => k);
+  const numbered = names.map((name) => /^(.*?)(\d+)$/.exec(name));
+  if (!numbered.every((it) => it && it[1] === numbered[0][1])) return columns;
+  return columns.sort((one, two) => numbered[one][2] - numbered[two][2]);
+}
+
 /** How many of the rising numbers are at most this one. */
 function upTo(numbers, most) {
   let [low, high] = [0, numbers.length];
@@ -1707,7 +1805,23 @@ function upTo(numbers, most) {
   return low;
 }
 
-const widthOfTrack = (variable) => (variable.values.every((it) => it === "0" || it === "1") ? 46 : 26 + 7 * Math.max(...variable.values.slice(0, 1000).map((it) => it.length)));
+const SWING = 16;
+const numberOf = (value) => parseInt(value.replace("T#", ""), 10);
+
+/** What is needed of a variable to draw its line, found once. */
+function shapeOf(variable) {
+  if (!variable.shape) {
+    const numbers = variable.values.map(numberOf);
+    const least = numbers.reduce((one, two) => Math.min(one, two), 0);
+    variable.shape = {
+      isBit: variable.values.every((it) => it === "0" || it === "1"), least, most: numbers.reduce((one, two) => Math.max(one, two), least + 1),
+      longest: variable.values.reduce((most, it) => Math.max(most, it.length), 1),
+    };
+  }
+  return variable.shape;
+}
+
+const widthOfTrack = (variable) => Math.max(30 + SWING + shapeOf(variable).longest * LETTER_IN_LANE, (variable.name.length - variable.name.indexOf(".")) * LETTER_IN_LANE + 6);
 
 /** The mark of a delivery that wasn't taken: a cross for an old one, a stroke for a stray one, a ring for an unused one. */
 function markSigns(answer, x, y, r) {
@@ -1729,10 +1843,10 @@ function pointOf(task, x, y) {
 
 /** A curve from one event to another, and the head of its arrow, which is so long. */
 function between(from, to, length) {
-  if (from.middle === to.middle) {
+  if (from.lane === to.lane) {
     const [x, tip] = [from.left, to.left];
-    const reach = 18 + Math.min(22, Math.abs(to.y - from.y) / 12);
-    return { d: `M${x} ${from.y}C${x - reach} ${from.y} ${tip - reach} ${to.y} ${tip - length} ${to.y}`, head: headAt(tip, to.y, 1, length) };
+    const left = Math.min(x, tip) - 14 - Math.min(22, Math.abs(to.y - from.y) / 12);
+    return { d: `M${x} ${from.y}C${left} ${from.y} ${left} ${to.y} ${tip - length} ${to.y}`, head: headAt(tip, to.y, 1, length) };
   }
   const side = Math.sign(to.middle - from.middle);
   const [x, tip] = side > 0 ? [from.right, to.left] : [from.left, to.right];
@@ -1752,8 +1866,9 @@ class ScansView {
     this.ladder = section.ladder && new LadderView(section, choose);
     this.timing = this.count ? new TimingView(section.rows, (scan) => this.show(scan), choose) : undefined;
     if (this.ladder && this.timing) {
-      const bits = new Map(this.timing.tracks.filter((it) => it.kind === "BOOL").map((it) => [it.name.toUpperCase(), it]));
-      this.ladder.isOn = (name) => bits.get(name.toUpperCase())?.values[this.scan] === 1;
+      const tracks = new Map(this.timing.tracks.map((it) => [it.name.toUpperCase(), it]));
+      this.ladder.valueOf = (name) => tracks.get(name.toUpperCase())?.told(this.scan);
+      this.ladder.isBit = (name) => tracks.get(name.toUpperCase())?.kind === "BOOL";
     }
     this.node = html("div", { class: "scans" }, this.ladder?.node, this.count > 1 && this.tools(), this.ladder && this.count > 0 && this.legend(), this.timing?.node);
   }
@@ -1822,6 +1937,18 @@ class ScansView {
   draw() {
     this.ladder?.draw();
     this.timing?.draw();
+  }
+
+  print() {
+    if (this.ladder) this.ladder.drawsAll = true;
+    this.ladder?.draw();
+    this.timing?.print();
+  }
+
+  printed() {
+    if (this.ladder) this.ladder.drawsAll = false;
+    this.timing?.printed();
+    this.draw();
   }
 
   press(key) {
@@ -1912,8 +2039,8 @@ class Page {
     const layOut = oncePerFrame(() => this.layOut());
     addEventListener("resize", layOut);
     addEventListener("scroll", oncePerFrame(() => this.views.forEach((it) => it.draw?.())), { passive: true });
-    addEventListener("beforeprint", () => this.drawAll(true));
-    addEventListener("afterprint", () => this.drawAll(false));
+    addEventListener("beforeprint", () => this.views.forEach((it) => it.print?.()));
+    addEventListener("afterprint", () => this.views.forEach((it) => it.printed?.()));
   }
 
   viewOf(section) {
@@ -1936,11 +2063,6 @@ class Page {
 
   layOut() {
     for (const view of this.views) view.layOut?.();
-  }
-
-  drawAll(isAll) {
-    for (const view of this.views.flatMap((it) => [it, it.ladder, it.timing])) if (view) view.drawsAll = isAll;
-    this.layOut();
   }
 
   head() {
@@ -1995,10 +2117,22 @@ function titleOf(sections, views) {
   return told.length > 4 ? `${told.slice(0, 4).join(", ")}, and ${told.length - 4} more` : told.join(", ");
 }
 
-const page = new Page(document.getElementById("text"));
-page.layOut();
+/** Draws the page; where that fails the text stands there as it is. */
+function begin() {
+  const pre = document.getElementById("text");
+  try {
+    const page = new Page(pre);
+    page.layOut();
+    return page;
+  } catch (fault) {
+    document.documentElement.className = "";
+    document.body.replaceChildren(pre);
+    throw fault;
+  }
+}
+
 /** What is drawn, for tests. */
-window.plcPage = page;
+window.plcPage = begin();
 })();
 </script>
 </body>
