@@ -51,6 +51,10 @@ def large_texts():
     rung = "|  A{0}     B{0}     Y{0}\n+--| |----|/|-----( )\n"
     yield "2,000 lines of one ladder", "".join(rung.format(k % 10) for k in range(1000))
     yield "1,000 variables in 200 scans", "".join(" ".join(f"V{k}={(k + scan) % 2}" for k in range(1000)) + "\n" for scan in range(200))
+    yield "100,000 lines that begin with a blank", "".join(f"   {k} - of no form\n" for k in range(100_000))
+    yield "100,000 lines of no ladder", "".join(f"| {k} | - + |\n" for k in range(100_000))
+    yield "100,000 rows of other names", "".join(f"A{k}=1\n" for k in range(100_000))
+    yield "a row and a line of no form, in turn", "A=1 B=0\nno form\n" * 50_000
     yield "100,000 lines of no form", "".join(f"line {k} of no form\n" for k in range(100_000))
 
 

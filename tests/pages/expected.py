@@ -4,6 +4,8 @@ import re
 from rules.drawing import Drawing
 
 MARKS = {"RESTART": "restart", "REFUSED": "refused", "FAULT": "fault", "UNANSWERED": "unanswered", "UNSHOWN": "unshown", "NOJOURNAL": "unshown"}
+# The word of a line that names its lane.
+PLACES = {"EVAL": 2, "DELIVER": 2, "RESTART": 1, "START": 1, "HEAR": 1, "FAULT": 1}
 
 
 # Ladders.
@@ -103,7 +105,7 @@ class Told:
     def __init__(self, lines):
         self.lines = lines
         self.points, self.arrows, self.deliveries, self.marks, self.lanes, self.restarts = {}, [], [], {}, [], []
-        self.made, self.pairs, self.now, self.own = {}, {}, {}, None
+        self.made, self.pairs, self.now, self.own, self.places = {}, {}, {}, None, {}
         for number, line in enumerate(lines, 1):
             self.add(number, line.split(" "))
 
@@ -113,6 +115,8 @@ class Told:
 
     def add(self, number, words):
         what = words[0]
+        if what in PLACES:
+            self.places[number] = words[PLACES[what]].partition(".")[0]
         if what == "EVAL":
             self.evaluation(number, words)
         elif what == "DELIVER":
@@ -199,11 +203,11 @@ def place_differences(told, drawn, at):
             first, last = lefts.get(task.partition(".")[0], (0, 1e9)) if task else (0, 1e9)
             if not first - 45 <= x <= last + 45:
                 yield f"a line from {it['from']} to {it['to']} begins or ends in another lane"
-    for line, task in told.points.items():
-        first, last = lefts.get(task.partition(".")[0], (0, 0))
+    for line, lane in told.places.items():
+        first, last = lefts.get(lane, (0, 0))
         x = at[line]["x"] if line in at else None
         if x is None or not first <= x <= last:
-            yield f"the point of line {line} isn't in its lane"
+            yield f"the sign of line {line} isn't in the lane {lane}"
     if any(it["cut"] for it in drawn["heads"]):
         yield "the name of a lane is cut"
 

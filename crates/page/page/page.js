@@ -67,22 +67,32 @@ function eventOf(line) {
 /** Whether a line can be one of a drawing. */
 const isDrawn = (line) => line === "" || line[0] === " " || line[0] === "|" || line[0] === "+";
 
+// A drawing has at most so many lines; a page draws so many parts, and what stands behind them as text.
+const MOST_ROWS = 2000;
+const MOST_PARTS = 400;
+
 /** Parts of the text that are drawn alike, in order; each with its first line and the one behind its last. */
 function sectionsOf(lines) {
-  const sections = [];
+  let sections = [];
   let at = 0;
-  const add = (section) => {
-    sections.push({ ...section, first: at });
-    at = section.end;
-  };
   while (at < lines.length) {
     const line = lines[at];
-    if (ROW.test(line)) add(scansFrom(lines, at));
-    else if (VERDICT.test(line)) add(verdictFrom(lines, at));
-    else if (eventOf(line)) add(eventsFrom(lines, at));
-    else add((isDrawn(line) && drawingFrom(lines, at)) || { form: "text", end: at + 1 });
+    const found = ROW.test(line) ? [scansFrom(lines, at)]
+      : VERDICT.test(line) ? [verdictFrom(lines, at)]
+      : eventOf(line) ? [eventsFrom(lines, at)]
+      : isDrawn(line) ? drawingsFrom(lines, at)
+      : [{ form: "text", end: at + 1 }];
+    for (const section of found) {
+      sections.push({ ...section, first: at });
+      at = section.end;
+    }
+    if (sections.length > 2 * MOST_PARTS) sections = joinedTexts(sections);
+    if (sections.length > 2 * MOST_PARTS) break;
   }
-  return joinedTexts(sections);
+  sections = joinedTexts(sections);
+  const kept = sections.slice(0, MOST_PARTS);
+  const end = kept.length ? kept[kept.length - 1].end : 0;
+  return end < lines.length ? joinedTexts([...kept, { form: "text", first: end, end: lines.length }]) : kept;
 }
 
 /** Texts that follow each other are one. */
@@ -101,8 +111,7 @@ const namesOf = (row) => row.replace(/=\S*/g, "");
 /** Rows of the same variables; behind each one the same number of drawn lines, or none. */
 function scansFrom(lines, first) {
   const names = namesOf(lines[first]);
-  let height = 0;
-  while (first + 1 + height < lines.length && isDrawn(lines[first + 1 + height])) height += 1;
+  const height = endOf(lines, first + 1, isDrawn) - first - 1;
   const rows = [];
   const drawn = [];
   let at = first;
@@ -141,18 +150,34 @@ function eventsFrom(lines, first) {
   return { form: "events", run: new Run(events), end };
 }
 
-/** A drawing that begins at this line, or undefined: of all lines that can be drawn, or of those between rails alone. */
-function drawingFrom(lines, first) {
-  let all = first;
-  while (all < lines.length && isDrawn(lines[all])) all += 1;
-  let railed = first;
-  while (railed < all && /^ *[|+]/.test(lines[railed])) railed += 1;
-  for (const end of all === railed ? [all] : [all, railed]) {
-    const drawn = lines.slice(first, end);
-    const ladder = drawn.some((line) => /[-=]/.test(line)) && ladderOf([drawn]);
-    if (ladder) return { form: "drawing", rows: [], drawn: [drawn], ladder, end };
+/** Lines that can be drawn: one drawing, or else those drawings that stand between other lines, each on a rail of its own. */
+function drawingsFrom(lines, first) {
+  const end = endOf(lines, first, isDrawn);
+  const whole = drawingOf(lines, first, end);
+  if (whole) return [whole];
+  const sections = [];
+  for (let at = first; at < end; ) {
+    const isRailed = RAILED.test(lines[at]);
+    const next = Math.min(end, endOf(lines, at, (line) => RAILED.test(line) === isRailed));
+    sections.push((isRailed && drawingOf(lines, at, next)) || { form: "text", end: next });
+    at = next;
   }
-  return undefined;
+  return sections;
+}
+
+const RAILED = /^ *[|+]/;
+
+/** The line behind those that are so. */
+function endOf(lines, first, isSo) {
+  let end = first;
+  while (end < lines.length && isSo(lines[end])) end += 1;
+  return end;
+}
+
+function drawingOf(lines, first, end) {
+  const drawn = lines.slice(first, end);
+  const ladder = drawn.some((line) => line.includes("-")) && ladderOf([drawn]);
+  return ladder ? { form: "drawing", rows: [], drawn: [drawn], ladder, end } : undefined;
 }
 
 // ---- 3. Ladders ----
@@ -187,7 +212,7 @@ function withoutHashes(row) {
 
 /** The ladder that all these scans show, or undefined where they show no whole one, or not the same. */
 function ladderOf(scans) {
-  const rows = withoutPower(scans);
+  const rows = scans[0].length > MOST_ROWS ? undefined : withoutPower(scans);
   if (!rows || !rows.some((row) => row.trim())) return undefined;
   const ladder = new Ladder(rows);
   return ladder.isWhole ? ladder : undefined;
@@ -575,7 +600,7 @@ function filled(node, attributes, children) {
     if (name.startsWith("on")) node.addEventListener(name.slice(2), value);
     else node.setAttribute(name, value === true ? "" : value);
   }
-  node.append(...children.flat().filter((it) => it !== undefined && it !== false));
+  for (const child of children.flat()) if (child !== undefined && child !== false) node.append(child);
   return node;
 }
 
@@ -584,6 +609,7 @@ const svg = (name, attributes = {}, ...children) => filled(document.createElemen
 const path = (d, kind) => svg("path", { d, class: kind });
 const count = (number, one, many = `${one}s`) => `${number.toLocaleString("en")} ${number === 1 ? one : many}`;
 const classes = (...names) => names.filter(Boolean).join(" ");
+const greatest = (numbers, least) => numbers.reduce((most, it) => Math.max(most, it), least);
 const clamp = (value, least, most) => Math.max(least, Math.min(most, value));
 
 /** Calls once in the next frame, however often it is asked. */
@@ -1045,7 +1071,8 @@ class Track {
 
 /** How wide a scan is, so that a number that changes in each one can be read. */
 function unitOf(tracks) {
-  const longest = Math.max(0, ...tracks.filter((it) => it.kind !== "BOOL").map((it) => Math.max(it.label(0).length, String(it.most).length + (it.kind === "TIME" ? 2 : 0), String(it.least).length)));
+  const widths = tracks.filter((it) => it.kind !== "BOOL").map((it) => Math.max(String(it.most).length, String(it.least).length) + (it.kind === "TIME" ? 2 : 0));
+  const longest = greatest(widths, 0);
   return clamp(longest * LETTER + 8, 26, 84);
 }
 
@@ -1206,7 +1233,7 @@ class LanesView {
   /** A lane has room for its name, for its longest label and for the variables that stand in it. */
   leastWidth(name, column) {
     const tasks = [...this.run.tasks.values()].filter((it) => it.lane === column);
-    const label = Math.max(9, this.restarts.has(column) ? 11 + 3 : 0, ...tasks.map((it) => it.name.length - name.length + 6));
+    const label = greatest(tasks.map((it) => it.name.length - name.length + 6), this.restarts.has(column) ? 14 : 9);
     return Math.max(name.length * 9 + 24, 40 + this.run.perLane[column] * TASK_STEP + label * LETTER_IN_LANE) + this.trackWidth(column);
   }
 
