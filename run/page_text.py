@@ -57,6 +57,9 @@ def constant(name, told, text):
 
 def source():
     head, foot = head_and_foot()
+    # A browser drops one line feed behind <pre>, and reads up to the tag that ends it.
+    if not head.endswith('<pre id="text">\n') or not foot.startswith("</pre>"):
+        sys.exit("page.html: the text doesn't stand in <pre> behind a line feed")
     parts = [
         "//! The page around a text, made of crates/page/page by run/page_text.py.\n",
         constant("HEAD", "What stands before the text: what the page looks like.", head),

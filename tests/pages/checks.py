@@ -3,6 +3,7 @@ import os
 import re
 import random
 
+import page_text
 from rules.commands import answer_of
 
 HERE = os.path.dirname(os.path.realpath(__file__))
@@ -83,6 +84,7 @@ def key_checks(folder):
     yield "printing", list(print_faults(folder))
     yield "a phone's screen", list(phone_faults(folder))
     yield "without scripts the text stands there", list(scriptless_faults(folder))
+    yield "a script that fails leaves the text there", list(failing_script_faults(folder))
 
 
 def wants(browser, told, code, wanted):
@@ -203,10 +205,7 @@ def scriptless_faults(folder):
     text = answer("eval", "start_stop.ladder", "START=100", "--show")
     browser.ask("Emulation.setScriptExecutionDisabled", value=True)
     try:
-        browser.ask("Page.navigate", url="file://" + folder.path)
         with open(folder.path, "w", encoding="utf-8", newline="") as file:
-            import page_text
-
             file.write(page_text.page_of(text))
         browser.ask("Page.navigate", url="file://" + folder.path)
         browser.answer(lambda it: it.get("method") == "Page.loadEventFired")
@@ -215,6 +214,20 @@ def scriptless_faults(folder):
             yield "the text isn't shown"
     finally:
         browser.ask("Emulation.setScriptExecutionDisabled", value=False)
+
+
+def failing_script_faults(folder):
+    """A script that can't be read, and one that fails before all is drawn."""
+    text = answer("eval", "start_stop.ladder", "START=100", "--show")
+    for old, new in (('"use strict";', '"use strict" "";'), ("    this.views = [];", "    this.views = undefined.x;")):
+
+        def read(name, folder=page_text.FOLDER):
+            return page_text.read(name, folder).replace(old, new)
+
+        folder.open(text, read)
+        if not folder.browser.faults():
+            yield "the script doesn't fail"
+        yield from wants(folder.browser, new, "document.getElementById('text').innerText.trim()", text.strip())
 
 
 # Contrast.

@@ -33,7 +33,9 @@
     const pins = all(picture, ".pin").map((it) => [Number(it.closest(".row").dataset.row), Math.round(it.getAttribute("x") / 10), it.textContent]);
     const thin = all(picture, ".wire:not(.live)").some((it) => parseFloat(getComputedStyle(it).strokeWidth) > 2);
     if (thin) wrong.push("a line without power is thick");
-    return { live, words, symbols, boxes, pins, wrong };
+    const worths = all(picture, ".worth").map((it) => [it.previousSibling.textContent, it.textContent]);
+    const on = all(picture, ".row > .word.on").map((it) => [Number(it.parentNode.dataset.row), Math.round(it.getAttribute("x") / 10)]);
+    return { live, words, symbols, boxes, pins, worths, on, wrong };
   }
 
   function timing(node) {
@@ -45,7 +47,7 @@
   }
 
   function lanes(node) {
-    const heads = all(node, ".lane-head").map((it) => ({ name: it.textContent, left: parseFloat(it.style.left), width: it.offsetWidth, cut: it.scrollWidth > it.clientWidth }));
+    const heads = all(node, ".lane-head").map((it) => ({ name: it.querySelector("b").textContent, left: parseFloat(it.style.left), width: it.offsetWidth, cut: it.scrollWidth > it.clientWidth }));
     const events = all(node, ".event").map((it) => {
       const point = it.querySelector(".point");
       const sign = it.querySelector(".point, .arrival, .mark-ring, .break, .heard, .fault-sign");
@@ -69,7 +71,8 @@
     const deliveries = all(node, ".delivery-line:not(.sample *)").filter((it) => it.dataset.from).map((it) => ({ from: it.dataset.from, to: it.dataset.to, ends: ends(it.getAttribute("d")) }));
     const breaks = all(node, ".lane").map((it) => (it.getAttribute("d").match(/M/g).length - 1));
     const chips = all(node, ".chips .chip").map((it) => it.textContent);
-    return { heads, events, arrows, deliveries, breaks, chips };
+    const tracks = all(node, ".lane-track").map((it) => [it.dataset.name, all(it, ".value").map((text) => [Number(text.getAttribute("y")) - 11, text.textContent])]);
+    return { heads, events, arrows, deliveries, breaks, chips, tracks };
   }
 
   return {

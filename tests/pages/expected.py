@@ -47,7 +47,22 @@ def power_differences(rows, shown, drawing, drawn, scan):
             yield f"scan {scan + 1}: {name} at {row}:{column} is drawn {'with' if is_live else 'without'} power"
 
 
+def worth_differences(drawing, rows, drawn, scan):
+    """Names of bits that are 1 are bold; what stands beside another name is its value."""
+    values = {name.upper(): value for name, value in zip(names_of(rows[0]), values_of(rows[scan]))}
+    bits = {name.upper() for k, name in enumerate(names_of(rows[0])) if all(values_of(row)[k] in ("0", "1") for row in rows)}
+    on = sorted((it.row - 1, it.column - 1) for it in drawing.words if it.text.upper() in bits and values[it.text.upper()] == "1")
+    yield from differs(f"names that are 1 in scan {scan + 1}", on, sorted(map(tuple, drawn["on"])))
+    for name, value in drawn["worths"]:
+        if values.get(name.upper()) != value:
+            yield f"scan {scan + 1}: beside {name} stands {value}"
+
+
 # Timing diagrams.
+
+
+def names_of(row):
+    return [word.partition("=")[0] for word in row.split(" ")]
 
 
 def values_of(row):
@@ -60,7 +75,7 @@ def number_of(value):
 
 def timing_differences(rows, drawn, scan):
     """Each variable with its value in the scan shown, and a line whose height rises and falls as its values do."""
-    names = [word.partition("=")[0] for word in rows[0].split(" ")]
+    names = names_of(rows[0])
     yield from differs(f"values of scan {scan + 1}", list(zip(names, values_of(rows[scan]))), [tuple(it) for it in drawn["names"]])
     if drawn["cut"]:
         yield f"names are cut: {drawn['cut']}"
@@ -177,6 +192,21 @@ def lanes_differences(lines, drawn):
     yield from place_differences(told, drawn, at)
     yield from colour_differences(told, drawn)
     yield from label_differences(lines, at)
+
+
+def track_differences(lines, drawn):
+    """A variable in a lane has each value from the evaluation on that gave it, until one gave another."""
+    at = {it["y"]: it["line"] for it in drawn["events"]}
+    for name, values in drawn["tracks"]:
+        resource, _, output = name.partition(".")
+        wanted = []
+        for number, line in enumerate(lines, 1):
+            words = line.split(" ")
+            if words[0] == "EVAL" and words[2].partition(".")[0] == resource:
+                given = dict(it.split("=") for it in words[words.index("GIVES") + 1 :] if "=" in it)
+                if output in given and (not wanted or wanted[-1][1] != given[output]):
+                    wanted.append((number, given[output]))
+        yield from differs(f"values of {name}", wanted, [(at.get(y), value) for y, value in values])
 
 
 def is_over_of(arrow, told):

@@ -106,7 +106,8 @@ function joinedTexts(sections) {
   return joined;
 }
 
-const namesOf = (row) => row.replace(/=\S*/g, "");
+/** The names of a row, with what is a time. */
+const namesOf = (row) => row.replace(/=T#\d+ms/g, " TIME").replace(/=-?\d+/g, "");
 
 /** Rows of the same variables; behind each one the same number of drawn lines, or none. */
 function scansFrom(lines, first) {
@@ -185,7 +186,7 @@ function drawingOf(lines, first, end) {
 const BLANK = 0, RAIL = 1, WIRE = 2, JOIN = 3, UPRIGHT = 4, SYMBOL = 5, BOX = 6, OPERAND = 7, WORD = 8;
 const BLOCKS = new Set(["SR", "RS", "CTU", "CTD", "CTUD", "TP", "TON", "TOF"]);
 const WORDS = /[A-Za-z0-9_.#]+/g;
-const DURATION = /(?<![A-Za-z0-9_.#])(?:T|TIME)#[0-9][A-Za-z0-9_]*/gi;
+const DURATION = /(^|[^A-Za-z0-9_.#])(?:T|TIME)#[0-9][A-Za-z0-9_]*/gi;
 
 /** What is drawn, without power: a sign that some scan shows as drawn, else `-` for `=`, and `+` for a `#` that is in no duration. */
 function withoutPower(scans) {
@@ -227,7 +228,7 @@ class Ladder {
     this.marks = this.rows.map((row) => new Uint8Array(row.length));
     this.boxes = [];
     this.symbols = [];
-    this.isWhole = this.rows.every((row) => " |+".includes(this.sign2(row, this.rail)));
+    this.isWhole = this.rows.every((row) => " |+".includes(row[this.rail] ?? " "));
     this.findBoxes();
     this.findSymbols(/\|[ \/PNpn]\|/g, false);
     this.findSymbols(/\([ \/SRPNsrpn]\)/g, true);
@@ -237,10 +238,6 @@ class Ladder {
     this.markRest();
     this.nameThings();
     this.byRow = this.thingsByRow();
-  }
-
-  sign2(row, column) {
-    return row[column] ?? " ";
   }
 
   sign(row, column) {
@@ -877,7 +874,9 @@ const LETTER = 6.7;
 class TimingView {
   constructor(rows, select, choose) {
     this.count = rows.length;
+    this.rows = rows;
     this.tracks = tracksOf(rows);
+    this.places = new Map(this.tracks.map((track, k) => [track.name.toUpperCase(), k]));
     this.select = select;
     this.unit = unitOf(this.tracks);
     this.scan = 0;
@@ -919,9 +918,10 @@ class TimingView {
 
   show(scan) {
     this.scan = scan;
+    this.told = this.rows[scan].split(" ").map((word) => word.slice(word.indexOf("=") + 1));
     this.list.querySelector("output").textContent = scan + 1;
     this.names.forEach((row, k) => {
-      row.querySelector("output").textContent = this.tracks[k].told(scan);
+      row.querySelector("output").textContent = this.told[k];
       row.classList.toggle("on", this.tracks[k].kind === "BOOL" && this.tracks[k].values[scan] === 1);
     });
     this.reveal();
@@ -1052,10 +1052,6 @@ class Track {
 
   label(scan) {
     return this.kind === "TIME" ? `${this.values[scan]}ms` : String(this.values[scan]);
-  }
-
-  told(scan) {
-    return this.kind === "TIME" ? `T#${this.values[scan]}ms` : String(this.values[scan]);
   }
 
   /** The stretches of one value between two scans. */
@@ -1483,12 +1479,13 @@ class LanesView {
     if (move.pointerType === "mouse") this.tell(this.eventAt(move));
   }
 
+  /** Selects the next event that is wanted, or the one before; behind the last comes the first. */
   goToNext(isWanted, step = 1) {
     const { events } = this.run;
+    const begun = step > 0 ? this.selected : Math.max(0, this.selected);
     for (let k = 1; k <= events.length; k += 1) {
-      const at = (this.selected + step * k + events.length * (k > 0 ? 1 : 0)) % events.length;
-      const place = (at + events.length) % events.length;
-      if (isWanted(events[place])) return this.selectEvent(place);
+      const at = (begun + step * k + events.length) % events.length;
+      if (isWanted(events[at])) return this.selectEvent(at);
     }
     return undefined;
   }
@@ -1660,9 +1657,9 @@ class ScansView {
     this.ladder = section.ladder && new LadderView(section, choose);
     this.timing = this.count ? new TimingView(section.rows, (scan) => this.show(scan), choose) : undefined;
     if (this.ladder && this.timing) {
-      const tracks = new Map(this.timing.tracks.map((it) => [it.name.toUpperCase(), it]));
-      this.ladder.valueOf = (name) => tracks.get(name.toUpperCase())?.told(this.scan);
-      this.ladder.isBit = (name) => tracks.get(name.toUpperCase())?.kind === "BOOL";
+      const { timing } = this;
+      this.ladder.valueOf = (name) => timing.told[timing.places.get(name.toUpperCase())];
+      this.ladder.isBit = (name) => timing.tracks[timing.places.get(name.toUpperCase())]?.kind === "BOOL";
     }
     this.node = html("div", { class: "scans" }, this.ladder?.node, this.count > 1 && this.tools(), this.ladder && this.count > 0 && this.legend(), this.timing?.node);
   }
@@ -1693,8 +1690,8 @@ class ScansView {
       this.slider.value = this.scan + 1;
       this.told.textContent = `scan ${(this.scan + 1).toLocaleString("en")} of ${this.count.toLocaleString("en")}${this.dt ? ` · dt ${this.dt} ms` : ""}`;
     }
-    this.ladder?.show(this.scan);
     this.timing?.show(this.scan);
+    this.ladder?.show(this.scan);
   }
 
   step(by) {
@@ -1911,20 +1908,8 @@ function titleOf(sections, views) {
   return told.length > 4 ? `${told.slice(0, 4).join(", ")}, and ${told.length - 4} more` : told.join(", ");
 }
 
-/** Draws the page; where that fails the text stands there as it is. */
-function begin() {
-  const pre = document.getElementById("text");
-  try {
-    const page = new Page(pre);
-    page.layOut();
-    return page;
-  } catch (fault) {
-    document.documentElement.className = "";
-    document.body.replaceChildren(pre);
-    throw fault;
-  }
-}
-
-/** What is drawn, for tests. */
-window.plcPage = begin();
+const page = new Page(document.getElementById("text"));
+page.layOut();
+/** What is drawn, for tests; that it is there tells that all went well. */
+window.plcPage = page;
 })();

@@ -5,7 +5,7 @@ pub const HEAD: &str = r#"<!doctype html>
 <html lang="en">
 <head>
 <meta charset="utf-8">
-<meta http-equiv="Content-Security-Policy" content="default-src 'none'; style-src 'sha256-l3PUu0M7D+Z6eyyDxua7Uto4L81/Mc+HHboSrfnrCes='; script-src 'sha256-KUk662Ykz2Sw0i6CZenO6zIfWJxcnQPDG246AnLU4+8=' 'sha256-Ktu6mOtZ5zgeLTqnwt/6ADuDjgacNcEr6u5ztCHXLgk='; base-uri 'none'; form-action 'none'">
+<meta http-equiv="Content-Security-Policy" content="default-src 'none'; style-src 'sha256-l3PUu0M7D+Z6eyyDxua7Uto4L81/Mc+HHboSrfnrCes='; script-src 'sha256-9oLiTQf2sBVm+JgZ5jSvKPEtGr4mZtQBIk2VvBYEqJ0=' 'sha256-ao3EcVez3Lv7E9XsqTT4Ivk6ofM1zA87B1B3yZ9w2yM='; base-uri 'none'; form-action 'none'">
 <meta name="viewport" content="width=device-width, initial-scale=1">
 <meta name="color-scheme" content="light dark">
 <title>plc</title>
@@ -222,8 +222,12 @@ button.chip { border-width: 2px; font-weight: 700; }
   * { print-color-adjust: exact; -webkit-print-color-adjust: exact; }
 }
 </style>
-<script>// The text is drawn once it is read; where scripts may not run it stands there as it is.
+<script>// Where a script draws, the text itself is hidden until it is asked for. Where none may run, or it fails before all is drawn, the
+// text stands there as it is.
 document.documentElement.className = "drawn";
+addEventListener("error", () => {
+  if (!window.plcPage) document.documentElement.className = "";
+});
 </script>
 </head>
 <body>
@@ -340,7 +344,8 @@ function joinedTexts(sections) {
   return joined;
 }
 
-const namesOf = (row) => row.replace(/=\S*/g, "");
+/** The names of a row, with what is a time. */
+const namesOf = (row) => row.replace(/=T#\d+ms/g, " TIME").replace(/=-?\d+/g, "");
 
 /** Rows of the same variables; behind each one the same number of drawn lines, or none. */
 function scansFrom(lines, first) {
@@ -419,7 +424,7 @@ function drawingOf(lines, first, end) {
 const BLANK = 0, RAIL = 1, WIRE = 2, JOIN = 3, UPRIGHT = 4, SYMBOL = 5, BOX = 6, OPERAND = 7, WORD = 8;
 const BLOCKS = new Set(["SR", "RS", "CTU", "CTD", "CTUD", "TP", "TON", "TOF"]);
 const WORDS = /[A-Za-z0-9_.#]+/g;
-const DURATION = /(?<![A-Za-z0-9_.#])(?:T|TIME)#[0-9][A-Za-z0-9_]*/gi;
+const DURATION = /(^|[^A-Za-z0-9_.#])(?:T|TIME)#[0-9][A-Za-z0-9_]*/gi;
 
 /** What is drawn, without power: a sign that some scan shows as drawn, else `-` for `=`, and `+` for a `#` that is in no duration. */
 function withoutPower(scans) {
@@ -461,7 +466,7 @@ class Ladder {
     this.marks = this.rows.map((row) => new Uint8Array(row.length));
     this.boxes = [];
     this.symbols = [];
-    this.isWhole = this.rows.every((row) => " |+".includes(this.sign2(row, this.rail)));
+    this.isWhole = this.rows.every((row) => " |+".includes(row[this.rail] ?? " "));
     this.findBoxes();
     this.findSymbols(/\|[ \/PNpn]\|/g, false);
     this.findSymbols(/\([ \/SRPNsrpn]\)/g, true);
@@ -471,10 +476,6 @@ class Ladder {
     this.markRest();
     this.nameThings();
     this.byRow = this.thingsByRow();
-  }
-
-  sign2(row, column) {
-    return row[column] ?? " ";
   }
 
   sign(row, column) {
@@ -1111,7 +1112,9 @@ const LETTER = 6.7;
 class TimingView {
   constructor(rows, select, choose) {
     this.count = rows.length;
+    this.rows = rows;
     this.tracks = tracksOf(rows);
+    this.places = new Map(this.tracks.map((track, k) => [track.name.toUpperCase(), k]));
     this.select = select;
     this.unit = unitOf(this.tracks);
     this.scan = 0;
@@ -1153,9 +1156,10 @@ class TimingView {
 
   show(scan) {
     this.scan = scan;
+    this.told = this.rows[scan].split(" ").map((word) => word.slice(word.indexOf("=") + 1));
     this.list.querySelector("output").textContent = scan + 1;
     this.names.forEach((row, k) => {
-      row.querySelector("output").textContent = this.tracks[k].told(scan);
+      row.querySelector("output").textContent = this.told[k];
       row.classList.toggle("on", this.tracks[k].kind === "BOOL" && this.tracks[k].values[scan] === 1);
     });
     this.reveal();
@@ -1286,10 +1290,6 @@ class Track {
 
   label(scan) {
     return this.kind === "TIME" ? `${this.values[scan]}ms` : String(this.values[scan]);
-  }
-
-  told(scan) {
-    return this.kind === "TIME" ? `T#${this.values[scan]}ms` : String(this.values[scan]);
   }
 
   /** The stretches of one value between two scans. */
@@ -1717,12 +1717,13 @@ class LanesView {
     if (move.pointerType === "mouse") this.tell(this.eventAt(move));
   }
 
+  /** Selects the next event that is wanted, or the one before; behind the last comes the first. */
   goToNext(isWanted, step = 1) {
     const { events } = this.run;
+    const begun = step > 0 ? this.selected : Math.max(0, this.selected);
     for (let k = 1; k <= events.length; k += 1) {
-      const at = (this.selected + step * k + events.length * (k > 0 ? 1 : 0)) % events.length;
-      const place = (at + events.length) % events.length;
-      if (isWanted(events[place])) return this.selectEvent(place);
+      const at = (begun + step * k + events.length) % events.length;
+      if (isWanted(events[at])) return this.selectEvent(at);
     }
     return undefined;
   }
@@ -1894,9 +1895,9 @@ class ScansView {
     this.ladder = section.ladder && new LadderView(section, choose);
     this.timing = this.count ? new TimingView(section.rows, (scan) => this.show(scan), choose) : undefined;
     if (this.ladder && this.timing) {
-      const tracks = new Map(this.timing.tracks.map((it) => [it.name.toUpperCase(), it]));
-      this.ladder.valueOf = (name) => tracks.get(name.toUpperCase())?.told(this.scan);
-      this.ladder.isBit = (name) => tracks.get(name.toUpperCase())?.kind === "BOOL";
+      const { timing } = this;
+      this.ladder.valueOf = (name) => timing.told[timing.places.get(name.toUpperCase())];
+      this.ladder.isBit = (name) => timing.tracks[timing.places.get(name.toUpperCase())]?.kind === "BOOL";
     }
     this.node = html("div", { class: "scans" }, this.ladder?.node, this.count > 1 && this.tools(), this.ladder && this.count > 0 && this.legend(), this.timing?.node);
   }
@@ -1927,8 +1928,8 @@ class ScansView {
       this.slider.value = this.scan + 1;
       this.told.textContent = `scan ${(this.scan + 1).toLocaleString("en")} of ${this.count.toLocaleString("en")}${this.dt ? ` · dt ${this.dt} ms` : ""}`;
     }
-    this.ladder?.show(this.scan);
     this.timing?.show(this.scan);
+    this.ladder?.show(this.scan);
   }
 
   step(by) {
@@ -2145,22 +2146,10 @@ function titleOf(sections, views) {
   return told.length > 4 ? `${told.slice(0, 4).join(", ")}, and ${told.length - 4} more` : told.join(", ");
 }
 
-/** Draws the page; where that fails the text stands there as it is. */
-function begin() {
-  const pre = document.getElementById("text");
-  try {
-    const page = new Page(pre);
-    page.layOut();
-    return page;
-  } catch (fault) {
-    document.documentElement.className = "";
-    document.body.replaceChildren(pre);
-    throw fault;
-  }
-}
-
-/** What is drawn, for tests. */
-window.plcPage = begin();
+const page = new Page(document.getElementById("text"));
+page.layOut();
+/** What is drawn, for tests; that it is there tells that all went well. */
+window.plcPage = page;
 })();
 </script>
 </body>
