@@ -106,6 +106,8 @@ def scan_keys(folder):
     yield from wants(browser, "t again", "document.getElementById('whole') === null && !document.querySelector('main').hidden", True)
     browser.press("?", "?")
     yield from wants(browser, "?", "document.querySelector('dialog').open", True)
+    yield from wants(browser, "the keys", "['scan before', 'next mark', 'as text'].every((it) => document.querySelector('dialog').innerText.includes(it))", True)
+    yield from wants(browser, "no object is told", "document.body.innerText.includes('[object')", False)
     browser.press("Escape")
     browser.value("plcPage.help.close()")
     yield from wants(browser, "Escape", "plcPage.help.close() ?? document.querySelector('dialog').open", False)

@@ -597,7 +597,7 @@ function filled(node, attributes, children) {
     if (name.startsWith("on")) node.addEventListener(name.slice(2), value);
     else node.setAttribute(name, value === true ? "" : value);
   }
-  for (const child of children.flat()) if (child !== undefined && child !== false) node.append(child);
+  for (const child of children.flat(Infinity)) if (child !== undefined && child !== false) node.append(child);
   return node;
 }
 
@@ -666,10 +666,13 @@ class LadderView {
     return this.ladder.byRow[row].words.map((it) => this.valueOf(it.text) ?? "").join(" ");
   }
 
-  /** As large as the window has room for, and never so small that names can't be read: then the sheet scrolls. */
-  fit() {
+  /** How large it can be in this window, and never so small that names can't be read: then the sheet scrolls. */
+  room() {
     const most = clamp((innerHeight * 0.5) / this.size.height, 1, 1.4);
-    const scale = clamp((this.node.clientWidth - 2) / this.size.width, 0.72, most);
+    return clamp((this.node.clientWidth - 2) / this.size.width, 0.72, most);
+  }
+
+  fit(scale) {
     this.picture.setAttribute("width", this.size.width * scale);
     this.picture.setAttribute("height", this.size.height * scale);
     this.scale = scale;
@@ -677,7 +680,7 @@ class LadderView {
 
   draw() {
     if (!this.shown) return;
-    if (!this.scale) this.fit();
+    if (!this.scale) this.fit(this.room());
     const step = LINE * this.scale;
     const above = this.picture.getBoundingClientRect().top + MARGIN * this.scale;
     const view = this.drawsAll ? [0, this.ladder.rows.length] : [(-above - 400) / step, (innerHeight - above + 400) / step];
@@ -1678,8 +1681,8 @@ class ScansView {
       button("next", "next scan (→)", () => this.step(1)), button("last", "last scan (End)", () => this.show(this.count - 1)), this.slider, this.told);
   }
 
-  layOut() {
-    this.ladder?.fit();
+  layOut(scale) {
+    this.ladder?.fit(scale);
     this.timing?.fit();
     this.show(this.scan);
   }
@@ -1852,8 +1855,10 @@ class Page {
     });
   }
 
+  /** All ladders are drawn in one size. */
   layOut() {
-    for (const view of this.views) view.layOut?.();
+    const scale = this.views.reduce((least, it) => Math.min(least, it.ladder?.room() ?? least), Infinity);
+    for (const view of this.views) view.layOut?.(scale);
   }
 
   head() {
@@ -1897,16 +1902,22 @@ class Page {
 
 /** What is drawn, in a few words. */
 function titleOf(sections, views) {
-  const told = sections.map((section, k) => {
-    const counts = views[k].counts();
-    if (section.form === "events") return `${count(counts.events, "event")} of ${count(counts.lanes, "resource")}`;
-    if (section.form === "scans") return `${count(counts.scans, "scan")} of a ladder`;
-    if (section.form === "rows") return count(counts.scans, "scan");
-    if (section.form === "verdict") return section.verdict;
-    return section.form === "drawing" ? "a ladder" : undefined;
-  }).filter(Boolean);
-  return told.length > 4 ? `${told.slice(0, 4).join(", ")}, and ${told.length - 4} more` : told.join(", ");
+  const tally = new Map();
+  sections.forEach((section, k) => {
+    const told = TITLES[section.form]?.(views[k].counts(), section);
+    if (told) tally.set(told, (tally.get(told) ?? 0) + 1);
+  });
+  const parts = [...tally].map(([told, number]) => (number === 1 ? told : told === "a ladder" ? `${number} ladders` : `${number} × ${told}`));
+  return parts.length > 4 ? `${parts.slice(0, 4).join(", ")}, and more` : parts.join(", ");
 }
+
+const TITLES = {
+  events: (counts) => `${count(counts.events, "event")} of ${count(counts.lanes, "resource")}`,
+  scans: (counts) => `${count(counts.scans, "scan")} of a ladder`,
+  rows: (counts) => count(counts.scans, "scan"),
+  verdict: (_, section) => section.verdict,
+  drawing: () => "a ladder",
+};
 
 const page = new Page(document.getElementById("text"));
 page.layOut();
