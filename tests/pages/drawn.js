@@ -50,13 +50,13 @@
     const heads = all(node, ".lane-head").map((it) => ({ name: it.querySelector("b").textContent, left: parseFloat(it.style.left), width: it.offsetWidth, cut: it.scrollWidth > it.clientWidth }));
     const events = all(node, ".event").map((it) => {
       const point = it.querySelector(".point");
-      const sign = it.querySelector(".point, .arrival, .mark-ring, .break, .heard, .fault-sign");
+      const sign = it.querySelector(".point") ?? it.querySelector(".arrival, .mark-ring, .break, .heard, .fault-sign");
       const labels = all(it, ".label");
       return {
         line: Number(it.dataset.line), y: Number(it.querySelector(".number").getAttribute("y")) - 4, labels: labels.map((text) => text.textContent),
         ends: labels.map((text) => text.getBBox().x + text.getBBox().width), task: point?.dataset.task ?? null, fill: point ? getComputedStyle(point).fill : null,
         shape: point?.getAttribute("d").replace(/[^A-Z]/g, "") ?? null, x: sign ? sign.getBBox().x + sign.getBBox().width / 2 : null,
-        isMark: it.classList.contains("mark"), kinds: [...it.classList], broken: it.querySelector(".break") !== null,
+        isMark: it.classList.contains("mark"), kinds: [...it.classList], broken: it.querySelector(".break:not(.risen)") !== null,
         ring: it.querySelector(".mark-ring") !== null,
       };
     });

@@ -174,6 +174,8 @@ class Told:
                 other = producer.partition(".")[0]
                 is_over = int(taken.partition(".")[0]) != self.now.get(other, 1)
                 self.arrows.append((str(self.pairs.get((producer, taken), "")), str(number), is_over))
+        if resource in self.now and int(pair.partition(".")[0]) > self.now[resource]:
+            self.restarts.append(resource)
         self.made[words[1]] = number
         self.pairs[task, pair] = number
         self.now[resource] = max(self.now.get(resource, 1), int(pair.partition(".")[0]))
@@ -188,7 +190,8 @@ def lanes_differences(lines, drawn):
     yield from differs("arrows", sorted(told.arrows), sorted(arrows))
     yield from differs("deliveries", sorted((str(a), str(b)) for a, b in told.deliveries), sorted((it["from"], it["to"]) for it in drawn["deliveries"]))
     yield from differs("marks", sorted(told.marks.items()), sorted((it["line"], mark_of(it)) for it in drawn["events"] if it["isMark"]))
-    yield from differs("breaks of lanes", len(told.restarts), sum(drawn["breaks"]))
+    breaks = [sum(it == head["name"] for it in told.restarts) for head in drawn["heads"]]
+    yield from differs("breaks of lanes", breaks, drawn["breaks"])
     yield from place_differences(told, drawn, at)
     yield from colour_differences(told, drawn)
     yield from label_differences(lines, at)

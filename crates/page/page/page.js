@@ -449,6 +449,7 @@ class Run {
     this.marks = [];
     this.variables = new Map();
     this.incarnations = [];
+    this.begun = new Set();
     this.messages = new Map();
     this.made = 0;
     this.laneSpellings = new Map();
@@ -484,6 +485,7 @@ class Run {
     if (event.kind === "evaluation") this.addEvaluation(event);
     else if (event.kind === "delivery") this.addDelivery(event);
     else if (event.kind === "restart" && event.incarnation) this.raise(event.column, event.incarnation);
+    if (event.kind === "restart") this.begun.add(event.column);
     if (isMark(event)) this.marks.push(at);
   }
 
@@ -498,7 +500,11 @@ class Run {
     event.taken = !event.takes || event.takes === "-" ? [] : event.takes.split(" ").map((word) => this.take(word, event));
     this.messages.set(event.message, event);
     if (!event.pair) return;
-    this.raise(event.column, incarnationOf(event.pair));
+    const incarnation = incarnationOf(event.pair);
+    // Of runs and audits no line tells a restart, but the next evaluation does.
+    event.hasRisen = this.begun.has(event.column) && Number(incarnation) > this.incarnations[event.column];
+    this.begun.add(event.column);
+    this.raise(event.column, incarnation);
     event.of.pairs.set(event.pair, event);
     if (event.gives !== "-") event.gives.split(" ").forEach((word, k) => this.give(word, k, event));
   }
@@ -1315,7 +1321,9 @@ class LanesView {
     const x = this.x(column);
     let d = `M${x} ${top}`;
     for (const event of seen) {
-      if (event.kind === "restart" && event.column === column) d += `V${this.y(event.at) - 11}M${x} ${this.y(event.at) + 11}`;
+      if (event.column !== column) continue;
+      if (event.kind === "restart") d += `V${this.y(event.at) - 11}M${x} ${this.y(event.at) + 11}`;
+      if (event.hasRisen) d += `V${this.y(event.at) - 19}M${x} ${this.y(event.at) - 10}`;
     }
     return path(`${d}V${bottom}`, "lane");
   }
@@ -1333,7 +1341,9 @@ class LanesView {
   }
 
   evaluation(event, y) {
-    return [pointOf(event.of, this.x(event.column, event.of), y), this.told(this.labelAt(event), y, this.labelOf(event))];
+    const x = this.x(event.column);
+    const risen = event.hasRisen && path(`M${x - 8} ${y - 17}L${x + 8} ${y - 21}M${x - 8} ${y - 8}L${x + 8} ${y - 12}`, "break risen");
+    return [risen, pointOf(event.of, this.x(event.column, event.of), y), this.told(this.labelAt(event), y, this.labelOf(event))];
   }
 
   labelOf(event) {
@@ -1513,6 +1523,7 @@ class LanesView {
     const add = (term, ...told) => list.append(html("dt", {}, term), html("dd", {}, ...told));
     add("line", `${event.line + 1}`);
     if (event.kind === "evaluation") {
+      if (event.hasRisen) add("restarted", `its resource is in incarnation ${incarnationOf(event.pair)} now`);
       if (event.inputs) add("inputs", event.inputs);
       for (const take of event.taken) if (take.pair) add("takes", `${take.producer.name} ${take.pair}${take.isOther ? ", of another incarnation" : ""}${take.source ? "" : ", which isn't in this text"}`);
       const empty = event.taken.filter((it) => !it.pair).map((it) => it.producer.name);
