@@ -30,7 +30,7 @@ fn push_escaped(page: &mut String, text: &str) -> Result<(), AllocError>
     Ok(())
 }
 
-/// The page of a text: one file of HTML that asks for no other. It is some 85 kB longer than the text, and four bytes more for
+/// The page of a text: one file of HTML that asks for no other. It is some 100 kB longer than the text, and up to four bytes more for
 /// each sign that is escaped.
 pub fn page_of(alloc: Global, text: &str) -> Result<String, AllocError>
     ensures { IfOk result (λ page. string_bytes page ≡ page_of text.now) }
