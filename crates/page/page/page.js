@@ -175,9 +175,11 @@ function endOf(lines, first, isSo) {
   return end;
 }
 
+/** These lines as a drawing, or undefined. What shows power without a row above is none. */
 function drawingOf(lines, first, end) {
   const drawn = lines.slice(first, end);
-  const ladder = drawn.some((line) => line.includes("-")) && ladderOf([drawn]);
+  const isPlain = drawn.some((line) => line.includes("-")) && drawn.every((line) => !line.includes("=") && withoutHashes(line) === line);
+  const ladder = isPlain && ladderOf([drawn]);
   return ladder ? { form: "drawing", rows: [], drawn: [drawn], ladder, end } : undefined;
 }
 

@@ -5,7 +5,7 @@ pub const HEAD: &str = r#"<!doctype html>
 <html lang="en">
 <head>
 <meta charset="utf-8">
-<meta http-equiv="Content-Security-Policy" content="default-src 'none'; style-src 'sha256-l3PUu0M7D+Z6eyyDxua7Uto4L81/Mc+HHboSrfnrCes='; script-src 'sha256-9oLiTQf2sBVm+JgZ5jSvKPEtGr4mZtQBIk2VvBYEqJ0=' 'sha256-R6bYqXa7ZhqbrpxDi/nIOD9UmSPpTFNenT5Y3l7ofXQ='; base-uri 'none'; form-action 'none'">
+<meta http-equiv="Content-Security-Policy" content="default-src 'none'; style-src 'sha256-l3PUu0M7D+Z6eyyDxua7Uto4L81/Mc+HHboSrfnrCes='; script-src 'sha256-9oLiTQf2sBVm+JgZ5jSvKPEtGr4mZtQBIk2VvBYEqJ0=' 'sha256-RvR2Xpbj+y4YkkK9s0ykeOaYQwfSAI1wc7J1tqVXOIM='; base-uri 'none'; form-action 'none'">
 <meta name="viewport" content="width=device-width, initial-scale=1">
 <meta name="color-scheme" content="light dark">
 <title>plc</title>
@@ -413,9 +413,11 @@ function endOf(lines, first, isSo) {
   return end;
 }
 
+/** These lines as a drawing, or undefined. What shows power without a row above is none. */
 function drawingOf(lines, first, end) {
   const drawn = lines.slice(first, end);
-  const ladder = drawn.some((line) => line.includes("-")) && ladderOf([drawn]);
+  const isPlain = drawn.some((line) => line.includes("-")) && drawn.every((line) => !line.includes("=") && withoutHashes(line) === line);
+  const ladder = isPlain && ladderOf([drawn]);
   return ladder ? { form: "drawing", rows: [], drawn: [drawn], ladder, end } : undefined;
 }
 
