@@ -1,7 +1,8 @@
 """That the pages of the repository hold together, the program aside.
 
 Each link to a file of the repository leads to one, and one to a heading to that heading. The table of crates is made of
-crates.txt and the crates, and each crate of the program that promises something has its heading among what is proved.
+crates.txt and the crates, the text of a page of what stands in crates/page/page, and each crate of the program that promises
+something has its heading among what is proved.
 """
 import os
 import re
@@ -55,9 +56,10 @@ def main():
     titles = re.findall(r"(?m)^### (\w+)", read("docs/PROVED.md"))
     for crate in sorted(crates_of(PROGRAM).keys() - PROMISE_NOTHING ^ set(titles)):
         told.append(f"docs/PROVED.md: {crate} is a crate of the program or a heading, and not both")
-    table = subprocess.run([sys.executable, f"{ROOT}/run/crate_table.py"], stdout=subprocess.PIPE, text=True, check=False)
-    if table.returncode:
-        told.append(table.stdout)
+    for script in ("crate_table.py", "page_text.py"):
+        made = subprocess.run([sys.executable, f"{ROOT}/run/{script}"], stdout=subprocess.PIPE, text=True, check=False)
+        if made.returncode:
+            told.append(made.stdout)
     print("\n".join(told) or "the pages hold together")
 
 
