@@ -1,21 +1,25 @@
 -- A file of which enough was read departs where that does.
-use Rattle.std.proofs.Common.{arith, ◌≡◌, ◌≢◌, ◌⊎◌, inl, inr, ℕ, ◌+◌, ◌-◌, ◌<◌, ◌≤◌, ◌++◌, ◌∷◌, [], List, length, map, take, drop, slice_get, Option, Some, None, Ok, sym, ap, refl, ◌∙◌, subst, append_assoc}
+use Rattle.std.proofs.Common.{arith, ◌≡◌, ◌≢◌, ◌⊎◌, inl, inr, ℕ, ◌+◌, ◌<◌, ◌≤◌, ◌++◌, ◌∷◌, [], List, length, take, drop, slice_get, Option, Some, None, Result, Ok, Err, sym, ap, refl, ◌∙◌, subst, append_assoc}
+use Rattle.std.specs.Prelude.{IsErrAnd, IfErr}
 use Rattle.std.specs.List.{AllByRecursion}
 use Rattle.std.specs.Global.{Vec}
 use Rattle.std.proofs.Math.Seq.{take-append_seam}
 use Rattle.std.proofs.lemmas.Bool.{cases_lt}
 use Rattle.std.proofs.lemmas.List.{length-append, length-take, length-drop, take_all, take-append-le, take-append-drop}
-use Rattle.std.proofs.lemmas.Option.{none-some, slice_get_within}
+use Rattle.std.proofs.lemmas.Option.{none-some}
 use Rattle.std_blocks.specs.declared.value.Value.{Value}
 use Rattle.task_codes.specs.declared.retained_variable.RetainedVariable.{RetainedVariable}
 use Rattle.task_codes.specs.CodeValue.{CodeValue}
 use Rattle.evaluation.specs.Retained.{Suits}
 use Rattle.text_lines.specs.ReadParts.{IsInRange}
 use Rattle.keepers.specs.declared.bad_line.BadLine.{BadLine}
-use Rattle.keepers.specs.BadLines.{IsFirstBad, IsBadLineOf}
+use Rattle.keepers.specs.declared.keeper_fault.KeeperFault.{KeeperFault}
+use Rattle.keepers.specs.declared.keeper_fault.KeeperFault.TheVariants as fault
+use Rattle.keepers.specs.BadLines.{IsBadAt, IsBadLineOf, IsBadLineFault}
 use Rattle.keepers.specs.KnownFiles.{KnownFile, IsRead}
 use Rattle.keepers.specs.KnownFiles.KnownFile.{Unknown, Missing, Holding, Broken}
 use Rattle.keepers.specs.KeptRetained.{line_text, retained_text, BeginsWith, Differs, DepartsAt}
+use Rattle.keepers.specs.Steps.Raising.{IsReadOf}
 use Rattle.keepers.specs.Steps.Reading.{IsLonger, AreRead}
 use Rattle.keepers.proofs.KeptTexts.{whole}
 use Rattle.keepers.proofs.RetainedTexts.{longest_longer}
@@ -86,9 +90,23 @@ bad_none Missing code most bytes values longer read suits ranges is = absurd (no
 bad_none (Holding held) code most bytes values longer read suits ranges is = (values, suits, ranges, whole most held (retained_text code values) (longer values suits ranges) (sym read ∙ is))
 bad_none Broken code most bytes values longer read suits ranges is = absurd read
 
-pub bad_some : (file : KnownFile) (code : CodeValue) (most place : ℕ) (bytes : Vec ℕ) (bad : BadLine) → IsLonger code most → IsRead file most (Ok (Some bytes)) → DepartsAt code bytes.items place → bad.line ≡ place + 1
+pub bad_some : (file : KnownFile) (code : CodeValue) (most place : ℕ) (bytes : Vec ℕ) (bad : BadLine) → IsLonger code most → IsRead file most (Ok (Some bytes)) → DepartsAt code bytes.items place → IsBadAt code place bad
     → IsBadLineOf file code (Some bad)
-bad_some Unknown code most place bytes bad longer read departs line = tt
-bad_some Missing code most place bytes bad longer read departs line = absurd (none-some bytes (sym read))
-bad_some (Holding held) code most place bytes bad longer read departs line = (place, departs_whole code most place held (subst (λ l. DepartsAt code l place) read departs) longer, line)
-bad_some Broken code most place bytes bad longer read departs line = absurd read
+bad_some Unknown code most place bytes bad longer read departs at = (place, at)
+bad_some Missing code most place bytes bad longer read departs at = absurd (none-some bytes (sym read))
+bad_some (Holding held) code most place bytes bad longer read departs at = (place, departs_whole code most place held (subst (λ l. DepartsAt code l place) read departs) longer, at)
+bad_some Broken code most place bytes bad longer read departs at = absurd read
+
+-- or that the file can't be read
+bad_failed : (file : KnownFile) (most : ℕ) (e : KeeperFault) → IsReadOf file most (Err e) → IsBadLineFault file e
+bad_failed Unknown most fault.Unreadable read = tt
+bad_failed Missing most fault.Unreadable read = absurd read
+bad_failed (Holding held) most fault.Unreadable read = absurd read
+bad_failed Broken most fault.Unreadable read = tt
+bad_failed file most fault.Unwritable read = absurd read
+bad_failed file most fault.Spent read = absurd read
+bad_failed file most fault.Memory read = tt
+
+pub bad_fault : {T : Type 0} (file : KnownFile) (most : ℕ) (e : KeeperFault) (r : Result T KeeperFault) → IsErrAnd r (λ f. f ≡ e) → IsReadOf file most (Err e) → IfErr r (IsBadLineFault file)
+bad_fault file most e (Ok found) is read = tt
+bad_fault file most e (Err f) is read = subst (IsBadLineFault file) (sym is) (bad_failed file most e read)

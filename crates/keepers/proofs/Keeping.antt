@@ -12,7 +12,7 @@ use Rattle.keepers.specs.declared.keeper_fault.KeeperFault.{KeeperFault}
 use Rattle.keepers.specs.declared.keeper_fault.KeeperFault.TheVariants as fault
 use Rattle.keepers.specs.Keepers.{KeepsEither, KeepsOthers}
 use Rattle.keepers.specs.KeptNumbers.{temporary_file}
-use Rattle.keepers.specs.KnownFiles.{KnownFile, Holds, AreOthersKept, IsKeptOrReplaced, IsStored}
+use Rattle.keepers.specs.KnownFiles.{KnownFile, Replacing, Holds, AreOthersKept, IsKeptOrReplaced, IsStored, MayStore}
 use Rattle.keepers.specs.KnownFiles.KnownFile.{Unknown, Missing, Holding, Broken}
 use Rattle.keepers.specs.KeptRetained.{KeepsValues, IsToldOf, retained_file, retained_text, tells_of}
 
@@ -24,12 +24,12 @@ holding_keeps (Holding bytes) code values held = held
 holding_keeps Broken code values held = absurd held
 
 -- so they may be told
-pub stored_told : (old new : List ℕ → KnownFile) (resource resource_new : List ℕ) (task : ℕ) (code : CodeValue) (values : List Value) (r : Result (Unit {0}) KeeperFault)
-    → IsStored old new (retained_file resource task) (temporary_file resource) (retained_text code values) r → resource_new ≡ resource
+pub stored_told : (answers : Replacing) (old new : List ℕ → KnownFile) (resource resource_new : List ℕ) (task : ℕ) (code : CodeValue) (values : List Value) (r : Result (Unit {0}) KeeperFault)
+    → IsStored answers old new (retained_file resource task) (temporary_file resource) (retained_text code values) r → resource_new ≡ resource
     → OnOk r (IsToldOf (new (retained_file resource_new task)) code (Ok values))
-stored_told old new resource resource_new task code values (Ok done) stored is =
+stored_told answers old new resource resource_new task code values (Ok done) stored is =
     subst (λ n. IsToldOf (new (retained_file n task)) code (Ok values)) (sym is) (holding_keeps (new (retained_file resource task)) code values stored.held)
-stored_told old new resource resource_new task code values (Err e) stored is = tt
+stored_told answers old new resource resource_new task code values (Err e) stored is = tt
 
 -- after a fault either what was told or these may be told
 left_either : (old new : List ℕ → KnownFile) (resource : List ℕ) (task : ℕ) (code : CodeValue) (values : List Value) → IsKeptOrReplaced old new (retained_file resource task) (temporary_file resource) (retained_text code values)
@@ -37,19 +37,27 @@ left_either : (old new : List ℕ → KnownFile) (resource : List ℕ) (task : �
 left_either old new resource task code values (inl same) kept told = inl (subst (λ f. IsToldOf f code (Ok kept)) (sym same.same) told)
 left_either old new resource task code values (inr replaced) kept told = inr (holding_keeps (new (retained_file resource task)) code values replaced.held)
 
-pub stored_either : (old new : List ℕ → KnownFile) (resource resource_new : List ℕ) (task : ℕ) (code : CodeValue) (values : List Value) (r : Result (Unit {0}) KeeperFault)
-    → IsStored old new (retained_file resource task) (temporary_file resource) (retained_text code values) r → resource_new ≡ resource
+pub stored_either : (answers : Replacing) (old new : List ℕ → KnownFile) (resource resource_new : List ℕ) (task : ℕ) (code : CodeValue) (values : List Value) (r : Result (Unit {0}) KeeperFault)
+    → IsStored answers old new (retained_file resource task) (temporary_file resource) (retained_text code values) r → resource_new ≡ resource
     → OnErr r (KeepsEither (tells_of old resource) (tells_of new resource_new) task code values)
-stored_either old new resource resource_new task code values (Ok done) stored is = tt
-stored_either old new resource resource_new task code values (Err e) stored is =
+stored_either answers old new resource resource_new task code values (Ok done) stored is = tt
+stored_either answers old new resource resource_new task code values (Err e) stored is =
     subst (λ n. KeepsEither (tells_of old resource) (tells_of new n) task code values) (sym is) (by e stored)
   where
-    by : (e : KeeperFault) → IsStored old new (retained_file resource task) (temporary_file resource) (retained_text code values) (Err e) → KeepsEither (tells_of old resource) (tells_of new resource) task code values
+    by : (e : KeeperFault) → IsStored answers old new (retained_file resource task) (temporary_file resource) (retained_text code values) (Err e) → KeepsEither (tells_of old resource) (tells_of new resource) task code values
     by fault.Unreadable stored = absurd stored
-    by fault.Unwritable stored = left_either old new resource task code values stored
+    by fault.Unwritable stored = left_either old new resource task code values stored.1
     by fault.Spent stored = absurd stored
     by fault.Memory (inl same) = λ kept told. inl (subst (λ (f : List ℕ → KnownFile). IsToldOf (f (retained_file resource task)) code (Ok kept)) (sym same) told)
-    by fault.Memory (inr stored) = left_either old new resource task code values stored
+    by fault.Memory (inr stored) = left_either old new resource task code values stored.1
+
+-- and what keeping them answers is what it may answer
+pub stored_may : (answers : Replacing) (old new : List ℕ → KnownFile) (name temporary bytes : List ℕ) (r : Result (Unit {0}) KeeperFault) → IsStored answers old new name temporary bytes r → MayStore answers name temporary bytes r
+stored_may answers old new name temporary bytes (Ok done) stored = tt
+stored_may answers old new name temporary bytes (Err fault.Unreadable) stored = absurd stored
+stored_may answers old new name temporary bytes (Err fault.Unwritable) stored = stored.0
+stored_may answers old new name temporary bytes (Err fault.Spent) stored = absurd stored
+stored_may answers old new name temporary bytes (Err fault.Memory) stored = tt
 
 power_some : (k : ℕ) → 0 < 10 ^ k
 power_some zero = omega arith
@@ -85,7 +93,7 @@ one_file resource other task small same =
     (append_cancel_right (resource ++ codes "." ++ decimal other) (resource ++ codes "." ++ decimal task) (codes ".ret") same))
 
 -- a task's file isn't the one by way of which it is replaced
-longer_name : (resource dot number ending short : List ℕ) → length dot ≡ 1 → length ending ≡ length short → resource ++ dot ++ number ++ ending ≡ resource ++ short → ⊥
+pub longer_name : (resource dot number ending short : List ℕ) → length dot ≡ 1 → length ending ≡ length short → resource ++ dot ++ number ++ ending ≡ resource ++ short → ⊥
 longer_name resource dot number ending short one same is =
     let l = ap (λ n. length n) is in
     let a = length-append (resource ++ dot ++ number) ending in
@@ -107,18 +115,18 @@ left_same : (old new : List ℕ → KnownFile) (resource bytes : List ℕ) (task
 left_same old new resource bytes task other small differs (inl kept) = other_same old new resource task other small differs kept.others
 left_same old new resource bytes task other small differs (inr replaced) = other_same old new resource task other small differs replaced.others
 
-stored_same : (old new : List ℕ → KnownFile) (resource bytes : List ℕ) (task other : ℕ) (r : Result (Unit {0}) KeeperFault) → task < 2 ^ 64 → other ≢ task
-    → IsStored old new (retained_file resource task) (temporary_file resource) bytes r → new (retained_file resource other) ≡ old (retained_file resource other)
-stored_same old new resource bytes task other (Ok done) small differs stored = other_same old new resource task other small differs stored.others
-stored_same old new resource bytes task other (Err fault.Unreadable) small differs stored = absurd stored
-stored_same old new resource bytes task other (Err fault.Unwritable) small differs stored = left_same old new resource bytes task other small differs stored
-stored_same old new resource bytes task other (Err fault.Spent) small differs stored = absurd stored
-stored_same old new resource bytes task other (Err fault.Memory) small differs (inl same) = ap (λ f. f (retained_file resource other)) same
-stored_same old new resource bytes task other (Err fault.Memory) small differs (inr stored) = left_same old new resource bytes task other small differs stored
+stored_same : (answers : Replacing) (old new : List ℕ → KnownFile) (resource bytes : List ℕ) (task other : ℕ) (r : Result (Unit {0}) KeeperFault) → task < 2 ^ 64 → other ≢ task
+    → IsStored answers old new (retained_file resource task) (temporary_file resource) bytes r → new (retained_file resource other) ≡ old (retained_file resource other)
+stored_same answers old new resource bytes task other (Ok done) small differs stored = other_same old new resource task other small differs stored.others
+stored_same answers old new resource bytes task other (Err fault.Unreadable) small differs stored = absurd stored
+stored_same answers old new resource bytes task other (Err fault.Unwritable) small differs stored = left_same old new resource bytes task other small differs stored.1
+stored_same answers old new resource bytes task other (Err fault.Spent) small differs stored = absurd stored
+stored_same answers old new resource bytes task other (Err fault.Memory) small differs (inl same) = ap (λ f. f (retained_file resource other)) same
+stored_same answers old new resource bytes task other (Err fault.Memory) small differs (inr stored) = left_same old new resource bytes task other small differs stored.1
 
-pub stored_others : (old new : List ℕ → KnownFile) (resource resource_new bytes : List ℕ) (task : ℕ) (r : Result (Unit {0}) KeeperFault) → task < 2 ^ 64
-    → IsStored old new (retained_file resource task) (temporary_file resource) bytes r → resource_new ≡ resource
+pub stored_others : (answers : Replacing) (old new : List ℕ → KnownFile) (resource resource_new bytes : List ℕ) (task : ℕ) (r : Result (Unit {0}) KeeperFault) → task < 2 ^ 64
+    → IsStored answers old new (retained_file resource task) (temporary_file resource) bytes r → resource_new ≡ resource
     → KeepsOthers (tells_of old resource) (tells_of new resource_new) task
-stored_others old new resource resource_new bytes task r small stored is other code values differs before =
+stored_others answers old new resource resource_new bytes task r small stored is other code values differs before =
     subst (λ n. IsToldOf (new (retained_file n other)) code (Ok values)) (sym is)
-    (subst (λ f. IsToldOf f code (Ok values)) (sym (stored_same old new resource bytes task other r small differs stored)) before)
+    (subst (λ f. IsToldOf f code (Ok values)) (sym (stored_same answers old new resource bytes task other r small differs stored)) before)

@@ -5,3 +5,4 @@ pub mod KeptTexts
 pub mod NumberTexts
 pub mod ReadTexts
 pub mod RetainedTexts
+pub mod Succeeding

@@ -3,7 +3,9 @@ use Rattle.std.specs.Prelude.{◌≡◌, ◌≢◌, ℕ, ◌+◌, ◌<◌, ◌�
 use Rattle.std.specs.Fmt.{decimal}
 use Rattle.keepers.specs.declared.keeper_fault.KeeperFault.{KeeperFault}
 use Rattle.keepers.specs.declared.keeper_fault.KeeperFault.TheVariants as fault
-use Rattle.keepers.specs.KnownFiles.{KnownFile, IsReplaced, IsKeptOrReplaced}
+use Rattle.keepers.specs.declared.folder_fault.FolderFault.{FolderFault}
+use Rattle.keepers.specs.declared.folder_fault.FolderFault.TheVariants as folder
+use Rattle.keepers.specs.KnownFiles.{KnownFile, Replacing, IsReplaced, IsRefused}
 use Rattle.keepers.specs.KnownFiles.KnownFile.{Unknown, Missing, Holding, Broken}
 
 -- the name of a resource's file
@@ -46,28 +48,35 @@ IsNext file last (Err fault.Spent) = KeepsNumber file 4294967295
 IsNext file last (Err fault.Unwritable) = ⊥
 IsNext file last (Err fault.Memory) = Unit {0}
 
--- The number after the one kept was to be kept: the file is as before, or keeps it.
-pub record IsTried (old new : List ℕ → KnownFile) (resource : List ℕ) (last : ℕ) : Type 0 where
+-- The number after the one kept was to be kept, and the folder answered a fault: the file is as before, or keeps it.
+pub record IsTried (answers : Replacing) (why : FolderFault) (old new : List ℕ → KnownFile) (resource : List ℕ) (last : ℕ)
+    : Type 0 where
   pub n : ℕ
   pub raisable : IsRaisable (old (number_file resource)) last n
-  pub left : IsKeptOrReplaced old new (number_file resource) (temporary_file resource) (number_text (n + 1))
+  pub refused : IsRefused answers why old new (number_file resource) (temporary_file resource) (number_text (n + 1))
 
 -- What a raise answers, and leaves in the folder: the next number is kept; or the fault, in this order, and no file is
--- changed, but where replacing it fails or memory is wanting then.
-abbrev pub IsRaisedIn : (List ℕ → KnownFile) → (List ℕ → KnownFile) → List ℕ → ℕ → Result ℕ KeeperFault → Type 0
-IsRaisedIn old new resource last (Ok i) =
+-- changed, but where the folder answers that it can't replace it, or that memory is wanting.
+abbrev pub IsRaisedIn : Replacing → (List ℕ → KnownFile) → (List ℕ → KnownFile) → List ℕ → ℕ → Result ℕ KeeperFault → Type 0
+IsRaisedIn answers old new resource last (Ok i) =
     (n : ℕ) × IsRaisable (old (number_file resource)) last n × (i ≡ n + 1)
     × IsReplaced old new (number_file resource) (temporary_file resource) (number_text i)
-IsRaisedIn old new resource last (Err fault.Unreadable) = KeepsNoneFrom (old (number_file resource)) last × (new ≡ old)
-IsRaisedIn old new resource last (Err fault.Spent) = KeepsNumber (old (number_file resource)) 4294967295 × (new ≡ old)
-IsRaisedIn old new resource last (Err fault.Unwritable) = IsTried old new resource last
-IsRaisedIn old new resource last (Err fault.Memory) = (new ≡ old) ⊎ IsTried old new resource last
+IsRaisedIn answers old new resource last (Err fault.Unreadable) =
+    KeepsNoneFrom (old (number_file resource)) last × (new ≡ old)
+IsRaisedIn answers old new resource last (Err fault.Spent) =
+    KeepsNumber (old (number_file resource)) 4294967295 × (new ≡ old)
+IsRaisedIn answers old new resource last (Err fault.Unwritable) = IsTried answers folder.Failed old new resource last
+IsRaisedIn answers old new resource last (Err fault.Memory) =
+    (new ≡ old) ⊎ IsTried answers folder.Memory old new resource last
 
--- What a raise may answer, by the file alone: the number after the one that it keeps; or why there is none, in this order,
--- where Unwritable is told only if there is one.
-abbrev pub MayAnswer : KnownFile → ℕ → Result ℕ KeeperFault → Type 0
-MayAnswer file last (Ok i) = (n : ℕ) × IsRaisable file last n × (i ≡ n + 1)
-MayAnswer file last (Err fault.Unreadable) = KeepsNoneFrom file last
-MayAnswer file last (Err fault.Spent) = KeepsNumber file 4294967295
-MayAnswer file last (Err fault.Unwritable) = (n : ℕ) × IsRaisable file last n
-MayAnswer file last (Err fault.Memory) = Unit {0}
+-- What a raise may answer, by the file and what the folder may answer alone: the number after the one that it keeps; or why
+-- there is none, in this order, where Unwritable is told only if there is one, and the folder may answer that it can't
+-- keep it.
+abbrev pub MayAnswer : Replacing → KnownFile → List ℕ → ℕ → Result ℕ KeeperFault → Type 0
+MayAnswer answers file resource last (Ok i) = (n : ℕ) × IsRaisable file last n × (i ≡ n + 1)
+MayAnswer answers file resource last (Err fault.Unreadable) = KeepsNoneFrom file last
+MayAnswer answers file resource last (Err fault.Spent) = KeepsNumber file 4294967295
+MayAnswer answers file resource last (Err fault.Unwritable) =
+    (n : ℕ) × IsRaisable file last n
+    × answers (number_file resource) (temporary_file resource) (number_text (n + 1)) (Err folder.Failed)
+MayAnswer answers file resource last (Err fault.Memory) = Unit {0}

@@ -25,6 +25,13 @@ IsRead Missing most (Err fault.Failed) = ⊥
 IsRead (Holding bytes) most (Err fault.Failed) = ⊥
 IsRead Broken most (Err fault.Failed) = Unit {0}
 
+-- If anything is known of a file, it is that it can't be read.
+abbrev pub CantBeRead : KnownFile → Type 0
+CantBeRead Unknown = Unit {0}
+CantBeRead Missing = ⊥
+CantBeRead (Holding bytes) = ⊥
+CantBeRead Broken = Unit {0}
+
 -- If anything is known of a file, it is that it holds these bytes.
 abbrev pub Holds : KnownFile → List ℕ → Type 0
 Holds Unknown bytes = Unit {0}
@@ -55,12 +62,31 @@ abbrev pub IsReplacing : (List ℕ → KnownFile) → (List ℕ → KnownFile) �
 IsReplacing old new name temporary bytes (Ok done) = IsReplaced old new name temporary bytes
 IsReplacing old new name temporary bytes (Err fault) = IsKeptOrReplaced old new name temporary bytes
 
--- What keeping bytes in a file leaves: after Ok they are kept. Where the folder can't, or memory is wanting, these are or
--- what was there.
-abbrev pub IsStored : (List ℕ → KnownFile) → (List ℕ → KnownFile) → List ℕ → List ℕ → List ℕ → Result (Unit {0}) KeeperFault → Type 0
-IsStored old new name temporary bytes (Ok done) = IsReplaced old new name temporary bytes
-IsStored old new name temporary bytes (Err keeper.Unreadable) = ⊥
-IsStored old new name temporary bytes (Err keeper.Unwritable) = IsKeptOrReplaced old new name temporary bytes
-IsStored old new name temporary bytes (Err keeper.Spent) = ⊥
-IsStored old new name temporary bytes (Err keeper.Memory) =
-    (new ≡ old) ⊎ IsKeptOrReplaced old new name temporary bytes
+-- what a folder may answer where a file is to be replaced, by way of a temporary one, by bytes
+abbrev pub Replacing : Type 1
+Replacing = List ℕ → List ℕ → List ℕ → Result (Unit {0}) FolderFault → Type 0
+
+-- A folder may have refused to replace a file for this reason, and the file is as before, or was replaced.
+abbrev pub IsRefused : Replacing → FolderFault → (List ℕ → KnownFile) → (List ℕ → KnownFile) → List ℕ → List ℕ → List ℕ → Type 0
+IsRefused answers why old new name temporary bytes =
+    answers name temporary bytes (Err why) × IsKeptOrReplaced old new name temporary bytes
+
+-- What keeping bytes in a file leaves: after Ok they are kept. It is Unwritable only where the folder answers so; where
+-- memory is wanting, the folder answers so, or no file has changed. After both these bytes are there, or what was there.
+abbrev pub IsStored : Replacing → (List ℕ → KnownFile) → (List ℕ → KnownFile) → List ℕ → List ℕ → List ℕ → Result (Unit {0}) KeeperFault → Type 0
+IsStored answers old new name temporary bytes (Ok done) = IsReplaced old new name temporary bytes
+IsStored answers old new name temporary bytes (Err keeper.Unreadable) = ⊥
+IsStored answers old new name temporary bytes (Err keeper.Unwritable) =
+    IsRefused answers fault.Failed old new name temporary bytes
+IsStored answers old new name temporary bytes (Err keeper.Spent) = ⊥
+IsStored answers old new name temporary bytes (Err keeper.Memory) =
+    (new ≡ old) ⊎ IsRefused answers fault.Memory old new name temporary bytes
+
+-- What keeping bytes in a file may answer: Unwritable only where the folder may answer that it can't, and no other fault
+-- but Memory.
+abbrev pub MayStore : Replacing → List ℕ → List ℕ → List ℕ → Result (Unit {0}) KeeperFault → Type 0
+MayStore answers name temporary bytes (Ok done) = Unit {0}
+MayStore answers name temporary bytes (Err keeper.Unreadable) = ⊥
+MayStore answers name temporary bytes (Err keeper.Unwritable) = answers name temporary bytes (Err fault.Failed)
+MayStore answers name temporary bytes (Err keeper.Spent) = ⊥
+MayStore answers name temporary bytes (Err keeper.Memory) = Unit {0}

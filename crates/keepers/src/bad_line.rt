@@ -1,4 +1,5 @@
-ghost use Rattle.std.specs.Prelude.{◌≡◌, ◌+◌, ◌≤◌, IfOk, length};
+ghost use Rattle.std.specs.Prelude.{◌≡◌, ◌≤◌, IfOk, length, slice_get, string_bytes};
+ghost use Rattle.keepers.specs.BadLines.{IsBadAt, expected_text, range_text};
 
 use crate::retained_text::before_value;
 use declared_names::Kind;
@@ -15,7 +16,9 @@ pub struct BadLine {
 }
 
 /// What the text of a value of a kind can be.
-fn range_text(kind: Kind) -> &'static str {
+fn range_text(kind: Kind) -> &'static str
+    ensures { result.now ≡ range_text kind }
+{
     match kind {
         Kind::Bool => "0 or 1",
         Kind::Int => "-32768 to 32767",
@@ -24,7 +27,9 @@ fn range_text(kind: Kind) -> &'static str {
 }
 
 /// What is to stand in the line at a place, counted from 0.
-fn expected_at(alloc: Global, code: &TaskCode, place: usize) -> Result<String, AllocError> {
+fn expected_at(alloc: Global, code: &TaskCode, place: usize) -> Result<String, AllocError>
+    ensures { IfOk result (λ text. string_bytes text ≡ expected_text code.now (slice_get code.now.retained place)) }
+{
     match code.retained().get(place) {
         None => String::from_str(alloc, "the end of the file"),
         Some(variable) => {
@@ -38,7 +43,7 @@ impl BadLine {
     /// The line at a place, counted from 0.
     pub(crate) fn at(alloc: Global, code: &TaskCode, place: usize) -> Result<BadLine, AllocError>
         requires { place ≤ length code.now.retained }
-        ensures { IfOk result (λ bad. bad.line ≡ place + 1) }
+        ensures { IfOk result (IsBadAt code.now place) }
     {
         let _variables = code.retained();
         Ok(BadLine {

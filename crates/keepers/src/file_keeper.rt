@@ -1,8 +1,8 @@
-ghost use Rattle.std.specs.Prelude.{◌≡◌, IfOk, string_bytes};
+ghost use Rattle.std.specs.Prelude.{◌≡◌, IfOk, IfErr, string_bytes};
 ghost use Rattle.evaluation.specs.Retained.{Suits};
-ghost use Rattle.keepers.specs.BadLines.{IsBadLineOf};
+ghost use Rattle.keepers.specs.BadLines.{IsBadLineFault, IsBadLineOf};
 ghost use Rattle.keepers.specs.Keepers.{Raises, KeepsOthers};
-ghost use Rattle.keepers.specs.KnownFiles.{IsStored};
+ghost use Rattle.keepers.specs.KnownFiles.{IsStored, MayStore};
 ghost use Rattle.keepers.specs.KeptNumbers.{IsNext, IsRaisedIn, MayAnswer, number_file, number_text, temporary_file};
 ghost use Rattle.keepers.specs.KeptRetained.{IsToldOf, retained_file, retained_text, tells_of};
 ghost use Rattle.keepers.specs.Steps.Raising.{IsFound, IsReadOf};
@@ -55,7 +55,7 @@ impl<F: Folder> FileKeeper<F> {
 
     /// Keeps a text in a file. Unwritable: the folder can't replace it.
     fn store(&mut self, name: &str, text: &str) -> Result<(), KeeperFault>
-        ensures stored { IsStored (F.file self.old.folder) (F.file self.new.folder)
+        ensures stored { IsStored (F.replace_gives self.old.folder) (F.file self.old.folder) (F.file self.new.folder)
             name.now (temporary_file (string_bytes self.old.resource)) text.now result }
         ensures last { self.new.last ≡ self.old.last }
         ensures resource { self.new.resource ≡ self.old.resource }
@@ -100,7 +100,7 @@ impl<F: Folder> FileKeeper<F> {
 
     /// Keeps a number. Unwritable: the folder couldn't.
     fn keep_number(&mut self, number: u32) -> Result<(), KeeperFault>
-        ensures stored { IsStored (F.file self.old.folder) (F.file self.new.folder)
+        ensures stored { IsStored (F.replace_gives self.old.folder) (F.file self.old.folder) (F.file self.new.folder)
             (number_file (string_bytes self.old.resource)) (temporary_file (string_bytes self.old.resource)) (number_text number) result }
         ensures last { self.new.last ≡ self.old.last }
         ensures resource { self.new.resource ≡ self.old.resource }
@@ -138,9 +138,10 @@ impl<F: Folder> FileKeeper<F> {
 
     /// The first line of a task's file that isn't what is kept of this code; None where all are, and where there is no
     /// file. Unreadable: the file can't be read.
-    #[tactic(auto, using(crate::proofs::Departing::bad_missing, crate::proofs::Departing::bad_none, crate::proofs::Departing::bad_some))]
+    #[tactic(auto, using(crate::proofs::Departing::bad_missing, crate::proofs::Departing::bad_none, crate::proofs::Departing::bad_some, crate::proofs::Departing::bad_fault))]
     pub fn bad_line(&self, task: usize, code: &TaskCode) -> Result<Option<BadLine>, KeeperFault>
-        ensures { IfOk result (IsBadLineOf (F.file self.now.folder (retained_file (string_bytes self.now.resource) task)) code.now) }
+        ensures line { IfOk result (IsBadLineOf (F.file self.now.folder (retained_file (string_bytes self.now.resource) task)) code.now) }
+        ensures fault { IfErr result (IsBadLineFault (F.file self.now.folder (retained_file (string_bytes self.now.resource) task))) }
     {
         let name = self.retained_name(task)?;
         let most = most_bytes(self.alloc, code)?;
@@ -158,15 +159,18 @@ impl<F: Folder> FileKeeper<F> {
 impl<F: Folder + Send> Keeper for FileKeeper<F> {
     ghost last = { λ k. k.last };
 
-    ghost raise_gives = { λ k answer. MayAnswer (F.file k.folder (number_file (string_bytes k.resource))) k.last answer };
+    ghost raise_gives = { λ k answer. MayAnswer (F.replace_gives k.folder) (F.file k.folder (number_file (string_bytes k.resource))) (string_bytes k.resource) k.last answer };
 
     ghost kept_gives = { λ k task code answer. IsToldOf (F.file k.folder (retained_file (string_bytes k.resource) task)) code answer };
+
+    ghost keep_gives = { λ k task code values answer. MayStore (F.replace_gives k.folder) (retained_file (string_bytes k.resource) task)
+        (temporary_file (string_bytes k.resource)) (retained_text code values) answer };
 
     /// The next incarnation, which is kept then. Unreadable: the file can't be read, or is no incarnation from the last
     /// answer on. Spent: it is 4,294,967,295. Unwritable: the file can't be replaced.
     fn raise(&mut self) -> Result<u32, KeeperFault>
         ensures raised { Raises self.old.last self.new.last result }
-        ensures kept { IsRaisedIn (F.file self.old.folder) (F.file self.new.folder)
+        ensures kept { IsRaisedIn (F.replace_gives self.old.folder) (F.file self.old.folder) (F.file self.new.folder)
             (string_bytes self.old.resource) self.old.last result }
         ensures resource { self.new.resource ≡ self.old.resource }
     {
@@ -180,7 +184,7 @@ impl<F: Folder + Send> Keeper for FileKeeper<F> {
     fn keep(&mut self, task: usize, code: &TaskCode, retained: &Retained) -> Result<(), KeeperFault>
         requires { Suits code.now retained.now }
         ensures last { self.new.last ≡ self.old.last }
-        ensures kept { IsStored (F.file self.old.folder) (F.file self.new.folder)
+        ensures kept { IsStored (F.replace_gives self.old.folder) (F.file self.old.folder) (F.file self.new.folder)
             (retained_file (string_bytes self.old.resource) task) (temporary_file (string_bytes self.old.resource))
             (retained_text code.now retained.now) result }
         ensures others { KeepsOthers (tells_of (F.file self.old.folder) (string_bytes self.old.resource))

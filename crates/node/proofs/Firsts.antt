@@ -11,19 +11,19 @@ use Rattle.node_reports.specs.Journals.{BeginAbove}
 use Rattle.node.specs.Raises.{BeginAsRaised}
 use Rattle.node.specs.declared.threads.ended.Ended.{Ended}
 use Rattle.node.specs.declared.threads.lawful_for.LawfulFor.{LawfulFor}
-use Rattle.node.specs.Steps.Working.{WorkerValue, firsts_of_workers, firsts_of_ended, openings_of_ended, AreAbove, AreRaised}
+use Rattle.node.specs.Steps.Working.{WorkerValue, firsts_of_workers, firsts_of_ended, openings_of_ended, journals_of_ended, AreAbove, AreRaised}
 use Rattle.node.proofs.Alls.{zip_at}
 
-pub firsts_parted : (es : List Ended) → map (λ (j : Journal). j.first) (map (λ (e : Ended). e.journal) es) ≡ firsts_of_ended es
+pub firsts_parted : {K : Type 0} (es : List (Ended K)) → map (λ (j : Journal). j.first) (journals_of_ended es) ≡ firsts_of_ended es
 firsts_parted [] = refl
 firsts_parted (e ∷ es) = ap (λ firsts. e.journal.first ∷ firsts) (firsts_parted es)
 
-pub openings_parted : (es : List Ended) → map (λ (j : Journal). j.opening) (map (λ (e : Ended). e.journal) es) ≡ openings_of_ended es
+pub openings_parted : {K : Type 0} (es : List (Ended K)) → map (λ (j : Journal). j.opening) (journals_of_ended es) ≡ openings_of_ended es
 openings_parted [] = refl
 openings_parted (e ∷ es) = ap (λ openings. e.journal.opening ∷ openings) (openings_parted es)
 
 -- the first incarnation at a place, from the journal there
-first_at : (workers : List WorkerValue) (ended : List Ended) (journals : List Journal) (k : ℕ) (j : Journal) → firsts_of_ended ended ≡ firsts_of_workers workers → journals ≡ map (λ (e : Ended). e.journal) ended
+first_at : {K : Type 0} (workers : List WorkerValue) (ended : List (Ended K)) (journals : List Journal) (k : ℕ) (j : Journal) → firsts_of_ended ended ≡ firsts_of_workers workers → journals ≡ journals_of_ended ended
     → slice_get journals k ≡ Some j → slice_get (firsts_of_workers workers) k ≡ Some j.first
 first_at workers ended journals k j kept are found =
     let first_of : Journal → ℕ = λ (i : Journal). i.first in
@@ -32,23 +32,23 @@ first_at workers ended journals k j kept are found =
     subst (λ (l : List ℕ). slice_get l k ≡ Some j.first) same begun
 
 -- the journals that threads leave begin above what their keepers held, if the workers did
-pub begin_above : {K : Type 0} (last : K → ℕ) (keepers : List K) (workers : List WorkerValue) (ended : List Ended) (journals : List Journal) → AreAbove last keepers (firsts_of_workers workers)
-    → firsts_of_ended ended ≡ firsts_of_workers workers → journals ≡ map (λ (e : Ended). e.journal) ended → BeginAbove last keepers journals
+pub begin_above : {K : Type 0} (last : K → ℕ) (keepers : List K) (workers : List WorkerValue) (ended : List (Ended K)) (journals : List Journal) → AreAbove last keepers (firsts_of_workers workers)
+    → firsts_of_ended ended ≡ firsts_of_workers workers → journals ≡ journals_of_ended ended → BeginAbove last keepers journals
 begin_above last keepers workers ended journals above kept are = λ k keeper j at found.
     let held : slice_get (map last keepers) k ≡ Some (last keeper) = slice_get-map last keepers k ∙ ap (option_map last) at in
     zip_at (λ a b. a < b) (map last keepers) (firsts_of_workers workers) k (last keeper) j.first above held (first_at workers ended journals k j kept are found)
 
 -- and in those that their keepers answered
-pub begin_as_raised : {K : Type 0} (gives : K → Result ℕ KeeperFault → Type 0) (keepers : List K) (workers : List WorkerValue) (ended : List Ended) (journals : List Journal) → AreRaised gives keepers (firsts_of_workers workers)
-    → firsts_of_ended ended ≡ firsts_of_workers workers → journals ≡ map (λ (e : Ended). e.journal) ended → BeginAsRaised gives keepers journals
+pub begin_as_raised : {K : Type 0} (gives : K → Result ℕ KeeperFault → Type 0) (keepers : List K) (workers : List WorkerValue) (ended : List (Ended K)) (journals : List Journal) → AreRaised gives keepers (firsts_of_workers workers)
+    → firsts_of_ended ended ≡ firsts_of_workers workers → journals ≡ journals_of_ended ended → BeginAsRaised gives keepers journals
 begin_as_raised {K} gives keepers workers ended journals raised kept are = λ k keeper j at found.
     zip_at (λ (one : K) (first : ℕ). gives one (Ok first)) keepers (firsts_of_workers workers) k keeper j.first raised at (first_at workers ended journals k j kept are found)
 
 -- what each thread left is as its promise says, place by place
-pub each_kept : {X : Type 0} (left : Ended → X) (promised : PromisedHandle Ended LawfulFor → X) (hs : List (PromisedHandle Ended LawfulFor)) (es : List Ended) → length es ≡ length hs
-    → ((i : ℕ) (d : Ended) → i < length hs → (handle : PromisedHandle Ended LawfulFor) × (handle ≡ get_or hs i handle) × (left (get_or es i d) ≡ promised handle))
+pub each_kept : {K X : Type 0} (left : Ended K → X) (promised : PromisedHandle (Ended K) LawfulFor → X) (hs : List (PromisedHandle (Ended K) LawfulFor)) (es : List (Ended K)) → length es ≡ length hs
+    → ((i : ℕ) (d : Ended K) → i < length hs → (handle : PromisedHandle (Ended K) LawfulFor) × (handle ≡ get_or hs i handle) × (left (get_or es i d) ≡ promised handle))
     → map left es ≡ map promised hs
-each_kept {X} left promised hs es many each = same_by_each (map left es) (map promised hs) (length-map es left ∙ many ∙ sym (length-map hs promised)) at_place
+each_kept {K} {X} left promised hs es many each = same_by_each (map left es) (map promised hs) (length-map es left ∙ many ∙ sym (length-map hs promised)) at_place
   where
     at_place : (k : ℕ) (x y : X) → slice_get (map left es) k ≡ Some x → slice_get (map promised hs) k ≡ Some y → x ≡ y
     at_place k x y at found =

@@ -1,6 +1,9 @@
 pub mod Alls
 pub mod Firsts
+pub mod Kept
+pub mod Noting
 pub mod Opened
+pub mod Refused
 pub mod Refusing
 pub mod Told
 pub mod Unreported

@@ -16,6 +16,10 @@ use Rattle.node.specs.Steps.Working.{AreTold}
 pub told_before : (first later : Telling) (plant : PlantValue) (n : ℕ) (opening : List (List Value)) → TellsNoMore first later → TellsOpening later plant n opening → TellsOpening first plant n opening
 told_before first later plant n opening stays told = λ task code values found at. stays task code (Ok values) (told task code values found at)
 
+-- and what could be told at first may be told later
+pub told_after : (first later : Telling) (plant : PlantValue) (n : ℕ) (opening : List (List Value)) → TellsNoMore later first → TellsOpening first plant n opening → TellsOpening later plant n opening
+told_after first later plant n opening stays told = λ task code values found at. stays task code (Ok values) (told task code values found at)
+
 -- one more keeper
 pub told_push : {K : Type 0} (tells : K → Telling) (plant : PlantValue) (keepers : List K) (openings : List (List (List Value))) (keeper : K) (opening : List (List Value)) (n : ℕ) → length openings ≡ length keepers → n ≡ length keepers
     → AreTold tells plant keepers openings → TellsOpening (tells keeper) plant n opening → AreTold tells plant (keepers ++ keeper ∷ []) (openings ++ opening ∷ [])

@@ -1,5 +1,5 @@
 -- Why a run gives no report, from why a part of it gives none.
-use Rattle.std.proofs.Common.{◌≡◌, ℕ, List, All, reverse, Result, Ok, Err, IfOk, IfErr, sym, subst}
+use Rattle.std.proofs.Common.{◌≡◌, ℕ, List, All, reverse, subst}
 use Rattle.plant.specs.PlantValue.{PlantValue}
 use Rattle.book.specs.Book.{BookValue}
 use Rattle.book.specs.Fits.{AllFit}
@@ -10,7 +10,6 @@ use Rattle.node_reports.specs.declared.run_fault.RunFault.{RunFault}
 use Rattle.node_reports.specs.declared.run_fault.RunFault.TheVariants.{Memory, Spawn, BookDisagrees, Stranger, Doubled, Keeper}
 use Rattle.node_reports.specs.Journals.{firsts_of, IsLawful}
 use Rattle.node_reports.specs.RunFaults.{IsThreadsFault}
-use Rattle.node_reports.specs.declared.report.Report.{Report}
 use Rattle.node_reports.specs.Reports.{IsCollectFault, IsRunFault}
 
 pub threads_fault : (plant : PlantValue) (max_number : ℕ) (commands : List Command) (f : RunFault) → IsThreadsFault f → IsRunFault plant max_number commands f
@@ -30,15 +29,8 @@ collect_fault plant max_number commands book journals noted Stranger fit lawful 
 collect_fault plant max_number commands book journals noted Doubled fit lawful found = record { book = book; journals = journals; noted = noted; fit = fit; lawful = lawful; found = found }
 collect_fault plant max_number commands book journals noted Keeper fit lawful found = absurd found
 
--- so it is of what the collector answers
-pub collect_refused : (plant found : PlantValue) (max_number : ℕ) (commands : List Command) (book : BookValue) (journals : List Journal) (noted : List NodeFault) (r : Result Report RunFault) → found ≡ plant
-    → AllFit book.first (reverse book.entries) → All (IsLawful plant (firsts_of journals) max_number) journals → IfErr r (IsCollectFault found commands book journals noted) → IfErr r (IsRunFault plant max_number commands)
-collect_refused plant found max_number commands book journals noted (Ok report) same fit lawful fault = tt
-collect_refused plant found max_number commands book journals noted (Err f) same fit lawful fault =
+-- so it is of what the collector answers, for the plant that it is handed
+pub collect_refused : (plant found : PlantValue) (max_number : ℕ) (commands : List Command) (book : BookValue) (journals : List Journal) (noted : List NodeFault) (f : RunFault) → found ≡ plant
+    → AllFit book.first (reverse book.entries) → All (IsLawful plant (firsts_of journals) max_number) journals → IsCollectFault found commands book journals noted f → IsRunFault plant max_number commands f
+collect_refused plant found max_number commands book journals noted f same fit lawful fault =
     collect_fault plant max_number commands book journals noted f fit lawful (subst (λ (p : PlantValue). IsCollectFault p commands book journals noted f) same fault)
-
--- the journals of the report begin where those do that the threads left
-pub begun_kept : (Begin : List Journal → Type 0) (book : BookValue) (journals : List Journal) (r : Result Report RunFault) → Begin journals
-    → IfOk r (λ report. (report.book ≡ book) × (report.journals ≡ journals)) → IfOk r (λ report. Begin report.journals)
-begun_kept Begin book journals (Ok report) begun kept = subst Begin (sym kept.1) begun
-begun_kept Begin book journals (Err f) begun kept = tt

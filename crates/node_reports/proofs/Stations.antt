@@ -1,5 +1,5 @@
 -- A station's journal stays lawful, and its core goes on standing where the journal has come to.
-use Rattle.std.proofs.Common.{◌≡◌, ◌<◌, ℕ, Bool, true, false, cond, length, Some, List, [], ◌∷◌, ◌++◌, Result, Ok, Err, IfOk, OnOk, OnErr, ap, sym, subst}
+use Rattle.std.proofs.Common.{◌≡◌, ◌<◌, ℕ, Bool, true, false, cond, length, Some, List, [], ◌∷◌, ◌++◌, Result, Ok, Err, IfOk, OnOk, OnErr, ap, sym, ◌∙◌, subst}
 use Rattle.std.specs.Prelude.{reverse, slice_index, slice_set}
 use Rattle.std.proofs.lemmas.List.{reverse-append}
 use Rattle.std_blocks.specs.declared.value.Value.{Value}
@@ -13,7 +13,7 @@ use Rattle.exchange_core.specs.Held.{Table, with_known}
 use Rattle.node_reports.specs.declared.step.Step.{Step}
 use Rattle.node_reports.specs.declared.step.Step.TheVariants.{Took, Made, Restarted, Heard}
 use Rattle.node_reports.specs.declared.journal.Journal.{Journal}
-use Rattle.node_reports.specs.Journals.{Follows, EachAfter, IsLawful, fresh_journal, with_step}
+use Rattle.node_reports.specs.Journals.{incarnation_after, Follows, EachAfter, IsLawful, fresh_journal, with_step}
 use Rattle.node_reports.specs.Steps.Standing.{Stands, IsStation, IsAhead}
 use Rattle.node_reports.proofs.Standing.{stands-took, stands-made, stands-heard, follows-made, stands-fresh, stands-restarted}
 
@@ -103,3 +103,15 @@ station-restarted core new j ticket incarnation raised after is =
     station-with core new j (Restarted ticket incarnation) same is.lawful
     (subst (λ i. i < incarnation) is.stands.incarnation_is raised)
     (stands-restarted j.resource j.first j.opening (reverse j.steps) core new ticket incarnation is.stands after)
+
+-- the incarnation in which the resource is, with an evaluation that was made or without it
+pub station_present : (core : CoreValue) (j : Journal) → IsStation core j → incarnation_after j.first (reverse j.steps) ≡ core.incarnation
+station_present core j is = sym is.stands.incarnation_is
+
+pub ahead_present : (core : CoreValue) (j : Journal) (x : Evaluated) → IsAhead core j x → incarnation_after j.first (reverse j.steps) ≡ core.incarnation
+ahead_present core j x is = sym (is.ahead.stands.incarnation_is ∙ ap (incarnation_after j.first) (turned j (Made x)))
+
+-- what was made is of a task of the resource
+pub ahead_own : (core : CoreValue) (j : Journal) (x : Evaluated) → IsAhead core j x → x.name.task.resource ≡ j.resource
+ahead_own core j x is =
+    (subst (EachAfter (Follows core.plant core.first core.max_number j.resource j.first j.opening)) (turned j (Made x)) is.ahead.lawful.follows).0.resource_is

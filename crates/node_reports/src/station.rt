@@ -29,9 +29,9 @@ impl Model for Station {
     ghost invariant = { λ s. IsStation s.core s.journal };
 }
 
-ghost use Rattle.std.specs.Prelude.{◌≡◌, ◌<◌, IfOk, IfErr, OnErr, length};
+ghost use Rattle.std.specs.Prelude.{◌≡◌, ◌<◌, IfOk, IfErr, OnErr, length, reverse};
 ghost use Rattle.exchange_core.specs.CoreValue.{AreOpeningOf, IsCoreFault, IsEvalFault};
-ghost use Rattle.node_reports.specs.Journals.{IsLawful};
+ghost use Rattle.node_reports.specs.Journals.{incarnation_after, IsLawful};
 ghost use Rattle.node_reports.specs.Stations.{fresh_station, IsReceived, IsTold, IsPending, IsRestarted};
 ghost use Rattle.node_reports.specs.Steps.Standing.{IsStation};
 
@@ -67,7 +67,7 @@ impl Station {
     }
 
     /// A resource of a core and the journal that has come to where the core stands.
-    pub fn of(core: Core, journal: Journal) -> Station
+    pub(crate) fn of(core: Core, journal: Journal) -> Station
         requires { IsStation core journal }
         ensures { result ≡ record { core = core; journal = journal } }
     {
@@ -175,9 +175,11 @@ impl Station {
     }
 
     /// The journal, which is lawful.
+    #[tactic(auto, using(crate::proofs::Stations::station_present))]
     pub fn into_journal(self) -> Journal
         ensures same { result ≡ self.journal }
         ensures lawful { IsLawful self.core.plant self.core.first self.core.max_number result }
+        ensures present { incarnation_after result.first (reverse result.steps) ≡ self.core.incarnation }
     {
         let Station { core: _, journal } = self;
         journal

@@ -93,8 +93,9 @@ pub fn run_on<R: Threads + Wait + Sync + Abort, K: Keeper, G: Gate>(
     assert!(rt; are_numbered(commands));
     assert!(rt; are_for_plant(&shared, commands));
     assert!(rt; keepers.len() == shared.resources());
-    let report = run_threads(rt, alloc, shared, commands, keepers, gate, max_number);
-    must(rt, report)
+    let ran = run_threads(rt, alloc, shared, commands, keepers, gate, max_number);
+    let (report, _keepers) = must(rt, ran);
+    report
 }
 
 /// The report of a run on the pair.

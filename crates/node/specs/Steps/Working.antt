@@ -10,6 +10,7 @@ use Rattle.node.specs.declared.threads.lawful_for.LawfulFor.{LawfulFor}
 use Rattle.node.specs.declared.threads.raised.Raised.{Raised}
 use Rattle.node.specs.declared.threads.ended.Ended.{Ended}
 use Rattle.keepers.specs.Openings.{TellsOpening}
+use Rattle.node_reports.specs.declared.journal.Journal.{Journal}
 use Rattle.node.specs.Steps.States.{journal_of}
 use Rattle.exchange_core.specs.CoreValue.{AreOpeningOf}
 
@@ -35,8 +36,12 @@ IsPromisedFor plant firsts max_number p =
 abbrev pub firsts_of_workers : List WorkerValue → List ℕ
 firsts_of_workers workers = map (λ (w : WorkerValue). w.first) workers
 
-abbrev pub firsts_of_ended : List Ended → List ℕ
-firsts_of_ended ended = map (λ (e : Ended). e.journal.first) ended
+abbrev pub firsts_of_ended : {K : Type 0} → List (Ended K) → List ℕ
+firsts_of_ended ended = map (λ e. e.journal.first) ended
+
+-- those that threads promise
+abbrev pub first_promised : {K : Type 0} → PromisedHandle (Ended K) LawfulFor → ℕ
+first_promised h = h.promise.first
 
 -- what the tasks open with: of raised keepers, of workers, as threads promise, and of the journals that they leave
 abbrev pub openings_of_raised : {K : Type 0} → List (Raised K) → List (List (List Value))
@@ -45,11 +50,15 @@ openings_of_raised raised = map (λ r. r.opening) raised
 abbrev pub openings_of_workers : List WorkerValue → List (List (List Value))
 openings_of_workers workers = map (λ (w : WorkerValue). w.opening) workers
 
-abbrev pub opening_promised : PromisedHandle Ended LawfulFor → List (List Value)
+abbrev pub opening_promised : {K : Type 0} → PromisedHandle (Ended K) LawfulFor → List (List Value)
 opening_promised h = (journal_of h.promise.began.value).opening
 
-abbrev pub openings_of_ended : List Ended → List (List (List Value))
-openings_of_ended ended = map (λ (e : Ended). e.journal.opening) ended
+abbrev pub openings_of_ended : {K : Type 0} → List (Ended K) → List (List (List Value))
+openings_of_ended ended = map (λ e. e.journal.opening) ended
+
+-- the journals that threads leave
+abbrev pub journals_of_ended : {K : Type 0} → List (Ended K) → List Journal
+journals_of_ended ended = map (λ e. e.journal) ended
 
 -- each of these openings is what the keeper at its place may tell that it keeps of the tasks of the resource there
 abbrev pub AreTold : {K : Type 0} → (K → Telling) → PlantValue → List K → List (List (List Value)) → Type 0
@@ -69,7 +78,13 @@ AreRaised gives keepers firsts = AllZip (λ keeper first. gives keeper (Ok first
 abbrev pub lasts_of : {K : Type 0} → (K → ℕ) → List (Raised K) → List ℕ
 lasts_of last raised = map (λ r. last r.keeper) raised
 
--- the raised keepers are those of the resources from this one on, and what each has kept suits its resource's tasks
-abbrev pub AreOpened : {K : Type 0} → PlantValue → ℕ → List (Raised K) → Type 0
-AreOpened plant resource [] = Unit {0}
-AreOpened plant resource (r ∷ raised) = AreOpeningOf plant resource r.opening × AreOpened plant (resource + 1) raised
+-- what a raised keeper has kept of the tasks of a resource suits them, and may still be told
+pub record IsOpened {K : Type 0} (tells : K → Telling) (plant : PlantValue) (resource : ℕ) (r : Raised K) : Type 0 where
+  pub suits : AreOpeningOf plant resource r.opening
+  pub told : TellsOpening (tells r.keeper) plant resource r.opening
+
+-- and so it is of raised keepers, which are those of the resources from this one on
+abbrev pub AreOpened : {K : Type 0} → (K → Telling) → PlantValue → ℕ → List (Raised K) → Type 0
+AreOpened tells plant resource [] = Unit {0}
+AreOpened tells plant resource (r ∷ raised) =
+    IsOpened tells plant resource r × AreOpened tells plant (resource + 1) raised

@@ -1,8 +1,11 @@
-use node_reports::{Journal, NodeFault};
+use crate::threads::noted::Noted;
+use keepers::Keeper;
+use node_reports::Journal;
 
-/// What a thread leaves: its resource's journal, and the faults of its commands in the order of their tickets.
+/// What a thread leaves: its resource's journal, the faults of its commands in the order of their tickets, and its keeper.
 #[derive(Drop)]
-pub(crate) struct Ended {
+pub(crate) struct Ended<K: Keeper> {
     pub journal: Journal,
-    pub faults: Vec<NodeFault>,
+    pub noted: Noted,
+    pub keeper: K,
 }

@@ -1,10 +1,10 @@
 use crate::gate::Gate;
 use crate::threads::desk::Desk;
 use crate::threads::inbox::Inbox;
-use crate::threads::noting::note;
+use crate::threads::noted::Noted;
 use crate::threads::of_plant::OfPlant;
 use crossbeam_channel::Sender;
-use node_reports::{Cause, Command, NodeFault};
+use node_reports::{Cause, Command};
 use std::sync::Wait;
 use std::thread;
 
@@ -37,13 +37,13 @@ fn issue<R: Wait, G: Gate, P: OfPlant>(
 pub(crate) fn issue_all<R: Wait, G: Gate, P: OfPlant>(
     rt: &R,
     desk: &Desk<'_, G, P>,
-    faults: &mut Vec<NodeFault>,
+    noted: &mut Noted,
 ) {
     for (place, command) in desk.commands.iter().enumerate() {
         if let Err(cause) = issue(rt, desk, place, command) {
-            note(faults, command.resource, command.ticket, cause);
+            noted.note(command.resource, command.ticket, cause);
             if desk.gate.sent(command.resource, command.ticket).is_err() {
-                note(faults, command.resource, command.ticket, Cause::OutOfTurns);
+                noted.note(command.resource, command.ticket, Cause::OutOfTurns);
             }
         }
     }

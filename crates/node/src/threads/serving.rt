@@ -1,5 +1,6 @@
 ghost use Rattle.std.specs.Prelude.{◌≡◌};
 ghost use Rattle.node_reports.specs.Journals.{IsLawful};
+ghost use Rattle.node.specs.Steps.Keeping.{IsLeftKept};
 
 use crate::gate::Gate;
 use crate::threads::desk::Desk;
@@ -7,14 +8,13 @@ use crate::threads::ended::Ended;
 use crate::threads::entered::Entered;
 use crate::threads::hello::Hello;
 use crate::threads::inbox::Inbox;
-use crate::threads::noting::note;
 use crate::threads::of_plant::OfPlant;
 use crate::threads::posting::{greet, greet_back, post};
 use crate::threads::room::make_ready;
 use crate::threads::worker::Worker;
 use crossbeam_channel::Receiver;
 use keepers::Keeper;
-use node_reports::{Act, Cause, Command, NodeFault};
+use node_reports::{Act, Cause, Command};
 use std::alloc::Global;
 use std::sync::Wait;
 
@@ -25,33 +25,29 @@ pub(crate) fn serve<R: Wait, K: Keeper, G: Gate, P: OfPlant>(
     desk: Desk<'_, G, P>,
     inbox: &Receiver<Inbox>,
     worker: Worker<K>,
-    faults: Vec<NodeFault>,
-) -> Ended
+) -> Ended<K>
     requires { worker.plant ≡ P.plant }
     ensures lawful { IsLawful worker.plant worker.firsts worker.max_number result.journal }
     ensures first { result.journal.first ≡ worker.first }
     ensures opening { result.journal.opening ≡ worker.opening }
+    ensures keeps { IsLeftKept K.last K.kept_gives worker.plant result }
 {
     // There is room for one fault of each command.
-    make_ready(alloc, faults.capacity());
+    make_ready(alloc, worker.room());
     let mut worker = worker;
-    let mut faults = faults;
     for _ in rt.forever() {
         match inbox.recv(rt) {
             Ok(Inbox::Frame(frame)) => worker = worker.receive(frame),
             Ok(Inbox::Hello(hello)) => worker = hear(rt, &desk, worker, hello),
             Ok(Inbox::Command(place)) => {
                 if let Some(command) = desk.commands.get(place) {
-                    worker = answer(rt, alloc, &desk, worker, &mut faults, command);
+                    worker = answer(rt, alloc, &desk, worker, command);
                 }
             }
             Ok(Inbox::Stop) | Err(_) => break,
         }
     }
-    Ended {
-        journal: worker.into_journal(),
-        faults,
-    }
+    worker.into_ended()
 }
 
 /// Hears in which incarnation another resource is. Where that is news of one from which it takes, it says in which it is itself.
@@ -78,13 +74,12 @@ fn answer<R: Wait, K: Keeper, G: Gate, P: OfPlant>(
     alloc: Global,
     desk: &Desk<'_, G, P>,
     worker: Worker<K>,
-    faults: &mut Vec<NodeFault>,
     command: &Command,
 ) -> Worker<K>
     requires { worker.plant ≡ P.plant }
     ensures { result ≡ worker }
 {
-    let (worker, outcome) = if worker.is_stopped() {
+    let (mut worker, outcome) = if worker.is_stopped() {
         (worker, Err(Cause::Stopped))
     } else if desk.gate.pass(command.resource, command.ticket).is_err() {
         (worker, Err(Cause::OutOfTurns))
@@ -92,10 +87,10 @@ fn answer<R: Wait, K: Keeper, G: Gate, P: OfPlant>(
         obey(rt, alloc, desk, worker, command)
     };
     if let Err(cause) = outcome {
-        note(faults, command.resource, command.ticket, cause);
+        worker.note(command.resource, command.ticket, cause);
     }
     if desk.gate.sent(command.resource, command.ticket).is_err() {
-        note(faults, command.resource, command.ticket, Cause::OutOfTurns);
+        worker.note(command.resource, command.ticket, Cause::OutOfTurns);
     }
     worker
 }
@@ -118,7 +113,7 @@ fn tell_restart<R: Wait, K: Keeper, G: Gate, P: OfPlant>(
     }
 }
 
-/// Sends an evaluation that was entered, also where its task's retained variables aren't kept. It answers the first of the two faults.
+/// Sends an evaluation that was entered, also where its task's retained variables aren't kept.
 fn send<R: Wait, G: Gate, P: OfPlant>(
     rt: &R,
     desk: &Desk<'_, G, P>,
@@ -128,7 +123,6 @@ fn send<R: Wait, G: Gate, P: OfPlant>(
         Some(frame) => post(rt, desk, frame),
         None => false,
     };
-    entered.kept?;
     if is_sent { Ok(()) } else { Err(Cause::NotSent) }
 }
 

@@ -1,10 +1,8 @@
 ghost use Rattle.std.specs.Prelude.{◌≡◌, All, IfOk, IfErr, map};
-ghost use Rattle.std.specs.declared.thread.PromisedHandle.{PromisedHandle};
 ghost use Rattle.node_reports.specs.Journals.{IsLawful};
 ghost use Rattle.node_reports.specs.RunFaults.{IsStartFault};
-ghost use Rattle.node.specs.declared.threads.ended.Ended.{Ended};
-ghost use Rattle.node.specs.declared.threads.lawful_for.LawfulFor.{LawfulFor};
-ghost use Rattle.node.specs.Steps.Working.{IsWorkerFor, IsPromisedFor, firsts_of_workers, openings_of_workers, opening_promised};
+ghost use Rattle.node.specs.Steps.Keeping.{IsLeftKept};
+ghost use Rattle.node.specs.Steps.Working.{IsWorkerFor, IsPromisedFor, firsts_of_workers, first_promised, openings_of_workers, opening_promised};
 
 use crate::gate::Gate;
 use crate::threads::desk::Desk;
@@ -16,18 +14,10 @@ use crate::threads::serving::serve;
 use crate::threads::worker::Worker;
 use crossbeam_channel::Receiver;
 use keepers::Keeper;
-use node_reports::{Command, NodeFault, RunFault};
+use node_reports::RunFault;
 use std::alloc::Global;
 use std::sync::Wait;
 use std::thread::{PromisedHandle, Scope, Threads};
-
-/// How many of the commands are a resource's.
-fn count_of(commands: &[Command], resource: usize) -> usize {
-    commands
-        .iter()
-        .filter(|command| command.resource == resource)
-        .count()
-}
 
 /// Starts the thread of one resource.
 fn start_one<'s, E, R: Threads + Wait + Sync, K: Keeper, G: Gate, P: OfPlant + Send + Sync>(
@@ -37,9 +27,8 @@ fn start_one<'s, E, R: Threads + Wait + Sync, K: Keeper, G: Gate, P: OfPlant + S
     desk: Desk<'s, G, P>,
     inbox: &'s Receiver<Inbox>,
     worker: Worker<K>,
-    faults: Vec<NodeFault>,
     max_number: u32,
-) -> Result<PromisedHandle<Ended, LawfulFor<'s>>, RunFault>
+) -> Result<PromisedHandle<Ended<K>, LawfulFor<'s>>, RunFault>
 where
     K: 's,
     P: 's,
@@ -57,12 +46,13 @@ where
         first: worker.first(),
         began: worker.began(),
     };
-    let served = move || -> Ended
+    let served = move || -> Ended<K>
         requires { worker.plant ≡ P.plant }
         ensures lawful { IsLawful worker.plant worker.firsts worker.max_number result.journal }
         ensures first { result.journal.first ≡ worker.first }
         ensures opening { result.journal.opening ≡ worker.opening }
-    { serve(rt, alloc, desk, inbox, worker, faults) };
+        ensures keeps { IsLeftKept K.last K.kept_gives worker.plant result }
+    { serve(rt, alloc, desk, inbox, worker) };
     match scope.spawn_with(promise, served) {
         Ok(handle) => Ok(handle),
         Err(_) => Err(RunFault::Spawn),
@@ -85,14 +75,14 @@ pub(crate) fn start_all<
     inboxes: &'s [Receiver<Inbox>],
     workers: Vec<Worker<K>>,
     max_number: u32,
-) -> Result<Vec<PromisedHandle<Ended, LawfulFor<'s>>>, RunFault>
+) -> Result<Vec<PromisedHandle<Ended<K>, LawfulFor<'s>>>, RunFault>
 where
     K: 's,
     P: 's,
     requires workers { All (IsWorkerFor desk.plant.now desk.firsts.now max_number) workers.items }
     requires plant { desk.plant.now ≡ P.plant }
     ensures promised { IfOk result (λ hs. All (λ h. IsPromisedFor desk.entry.plant.now desk.entry.firsts.now max_number h.promise) hs.items) }
-    ensures firsts { IfOk result (λ hs. map (λ (h : PromisedHandle Ended LawfulFor). h.promise.first) hs.items ≡ firsts_of_workers workers.items) }
+    ensures firsts { IfOk result (λ hs. map first_promised hs.items ≡ firsts_of_workers workers.items) }
     ensures openings { IfOk result (λ hs. map opening_promised hs.items ≡ openings_of_workers workers.items) }
     ensures fault { IfErr result IsStartFault }
 {
@@ -102,8 +92,7 @@ where
         let Some(inbox) = inboxes.get(resource) else {
             return Err(RunFault::Spawn);
         };
-        let faults = Vec::with_capacity(alloc, count_of(desk.commands, resource))?;
-        let handle = start_one(scope, rt, alloc, desk, inbox, worker, faults, max_number)?;
+        let handle = start_one(scope, rt, alloc, desk, inbox, worker, max_number)?;
         let Ok(()) = handles.push(handle) else {
             return Err(RunFault::Memory);
         };

@@ -1,6 +1,8 @@
+use crate::threads::ended::Ended;
 use crate::threads::entered::Entered;
 use crate::threads::entering::enter_pending;
 use crate::threads::hello::Hello;
+use crate::threads::noted::Noted;
 use crate::threads::of_plant::OfPlant;
 use crate::threads::plant_book::PlantBook;
 use crate::threads::raised::Raised;
@@ -8,14 +10,14 @@ use crate::threads::restarting::restart_station;
 use crate::threads::worker_state::WorkerState;
 use evaluation::{Frame, Inputs};
 use keepers::Keeper;
-use node_reports::{Cause, Journal, RunFault, Station};
+use node_reports::{Cause, RunFault, Station};
 use plant::Plant;
 use std::alloc::Global;
 use std::marker::Model;
 use std::snapshot::Snapshot;
 use std::sync::{Arc, Mutex, Wait};
 
-/// A resource in its thread: the keeper of its incarnation, and what it does until it is stopped.
+/// A resource in its thread: its keeper, what it does until it is stopped, and the faults of its commands. The keeper keeps what the resource leaves.
 #[derive(Drop)]
 pub(crate) struct Worker<K: Keeper> {
     plant: Arc<Plant>,
@@ -25,10 +27,12 @@ pub(crate) struct Worker<K: Keeper> {
     first: u32,
     keeper: K,
     state: WorkerState,
+    noted: Noted,
 }
 
 impl<K: Keeper> Model for Worker<K> {
     ghost use Rattle.std.specs.Prelude.{◌≡◌};
+    ghost use Rattle.node.specs.Steps.Keeping.{Keeps};
     ghost use Rattle.node.specs.Steps.States.{IsWorking, journal_of};
     ghost use Rattle.node.specs.Steps.Working.{WorkerValue};
 
@@ -37,17 +41,21 @@ impl<K: Keeper> Model for Worker<K> {
     ghost view = { λ w. record { plant = w.plant.value; firsts = w.firsts.items; max_number = w.max_number; first = w.first; opening = (journal_of w.state).opening } };
 
     ghost invariant = { λ w. IsWorking w.plant.value w.firsts.items w.max_number (K.last w.keeper) w.state
-        × ((journal_of w.state).first ≡ w.first) };
+        × ((journal_of w.state).first ≡ w.first)
+        × Keeps (K.last w.keeper) (K.kept_gives w.keeper) w.plant.value w.noted (journal_of w.state) };
 }
 
 ghost use Rattle.std.specs.Prelude.{◌≡◌, ◌<◌, IfOk, IfErr, length, slice_index};
 ghost use Rattle.node_reports.specs.declared.run_fault.RunFault.TheVariants.{Memory};
+ghost use Rattle.keepers.specs.Openings.{TellsOpening};
 ghost use Rattle.exchange_core.specs.CoreValue.{AreOpeningOf};
 ghost use Rattle.node_reports.specs.Journals.{IsLawful};
+ghost use Rattle.node.specs.Steps.Keeping.{IsLeftKept};
 ghost use Rattle.node.specs.Steps.States.{journal_of};
 
 impl<K: Keeper> Worker<K> {
-    /// A resource in its first incarnation, which its keeper has just raised, with what was kept of its tasks. `firsts` has the first incarnation of each resource.
+    /// A resource in its first incarnation, which its keeper has just raised, with what was kept of its tasks, and room for so many faults. `firsts` has the first incarnation of each resource.
+    #[tactic(auto, using(crate::proofs::Kept::keeps_fresh))]
     pub fn new(
         alloc: Global,
         plant: &Arc<Plant>,
@@ -55,11 +63,13 @@ impl<K: Keeper> Worker<K> {
         raised: Raised<K>,
         firsts: &[u32],
         max_number: u32,
+        room: usize,
     ) -> Result<Worker<K>, RunFault>
         requires many { length firsts.now ≡ length plant.now.value.resources }
         requires exists { resource < length firsts.now }
         requires raised { K.last raised.keeper ≡ slice_index firsts.now resource }
         requires opened { AreOpeningOf plant.now.value resource raised.opening }
+        requires told { TellsOpening (K.kept_gives raised.keeper) plant.now.value resource raised.opening }
         ensures fault { IfErr result (λ fault. fault ≡ Memory) }
         ensures made { IfOk result (λ w. w ≡ record { plant = plant.now.value; firsts = firsts.now; max_number = max_number; first = slice_index firsts.now resource; opening = raised.opening }) }
     {
@@ -76,6 +86,7 @@ impl<K: Keeper> Worker<K> {
             first: firsts[resource],
             keeper,
             state: WorkerState::Running(station),
+            noted: Noted::with_room(alloc, room)?,
         })
     }
 
@@ -93,6 +104,11 @@ impl<K: Keeper> Worker<K> {
         Snapshot::of(&self.state)
     }
 
+    /// For how many faults there is room.
+    pub fn room(&self) -> usize {
+        self.noted.room()
+    }
+
     /// Whether it obeys no more.
     pub fn is_stopped(&self) -> bool {
         match &self.state {
@@ -101,7 +117,16 @@ impl<K: Keeper> Worker<K> {
         }
     }
 
+    /// Notes a fault of a command, if it is the first one of its ticket.
+    #[tactic(auto, using(crate::proofs::Kept::keeps_more))]
+    pub fn note(&mut self, resource: usize, ticket: u64, cause: Cause)
+        ensures { self.new ≡ self.old }
+    {
+        self.noted.note(resource, ticket, cause);
+    }
+
     /// Receives an evaluation. Without memory it is lost, and once the resource is stopped too.
+    #[tactic(auto, using(crate::proofs::Kept::keeps_took))]
     pub fn receive(self, frame: Frame) -> Worker<K>
         ensures { result ≡ self }
     {
@@ -112,6 +137,7 @@ impl<K: Keeper> Worker<K> {
             first,
             keeper,
             state,
+            noted,
         } = self;
         let state = match state {
             WorkerState::Running(mut station) => {
@@ -127,10 +153,12 @@ impl<K: Keeper> Worker<K> {
             first,
             keeper,
             state,
+            noted,
         }
     }
 
     /// Hears in which incarnation another resource is, and answers whether that is news. Without memory it is lost, and once the resource is stopped too.
+    #[tactic(auto, using(crate::proofs::Kept::keeps_heard))]
     pub fn hear(self, hello: Hello) -> (Worker<K>, bool)
         ensures { result.0 ≡ self }
     {
@@ -141,6 +169,7 @@ impl<K: Keeper> Worker<K> {
             first,
             keeper,
             state,
+            noted,
         } = self;
         let (state, is_news) = match state {
             WorkerState::Running(mut station) => {
@@ -156,6 +185,7 @@ impl<K: Keeper> Worker<K> {
             first,
             keeper,
             state,
+            noted,
         };
         (worker, is_news)
     }
@@ -192,12 +222,15 @@ impl<K: Keeper> Worker<K> {
             first,
             mut keeper,
             state,
+            mut noted,
         } = self;
         let (state, answer) = match state {
             WorkerState::Stopped(journal) => (WorkerState::Stopped(journal), Err(Cause::Stopped)),
             WorkerState::Running(station) => {
                 match station.evaluate(alloc, ticket, task, dt, inputs) {
-                    Ok(pending) => enter_pending(rt, alloc, book, &mut keeper, pending),
+                    Ok(pending) => {
+                        enter_pending(rt, alloc, book, &mut keeper, &mut noted, pending)
+                    }
                     Err((station, fault)) => (
                         WorkerState::Running(station),
                         Err(Cause::from(fault)),
@@ -212,6 +245,7 @@ impl<K: Keeper> Worker<K> {
             first,
             keeper,
             state,
+            noted,
         };
         (worker, answer)
     }
@@ -227,6 +261,7 @@ impl<K: Keeper> Worker<K> {
             first,
             mut keeper,
             state,
+            noted,
         } = self;
         let (state, answer) = match state {
             WorkerState::Stopped(journal) => (WorkerState::Stopped(journal), Err(Cause::Stopped)),
@@ -239,27 +274,35 @@ impl<K: Keeper> Worker<K> {
             first,
             keeper,
             state,
+            noted,
         };
         (worker, answer)
     }
 
-    /// What the resource did.
-    pub fn into_journal(self) -> Journal
-        ensures lawful { IsLawful self.plant self.firsts self.max_number result }
-        ensures first { result.first ≡ self.first }
-        ensures opening { result.opening ≡ self.opening }
+    /// What the resource did, the faults that were noted, and the keeper, which keeps what was left.
+    pub fn into_ended(self) -> Ended<K>
+        ensures lawful { IsLawful self.plant self.firsts self.max_number result.journal }
+        ensures first { result.journal.first ≡ self.first }
+        ensures opening { result.journal.opening ≡ self.opening }
+        ensures keeps { IsLeftKept K.last K.kept_gives self.plant result }
     {
         let Worker {
             plant: _,
             firsts: _,
             max_number: _,
             first: _,
-            keeper: _,
+            keeper,
             state,
+            noted,
         } = self;
-        match state {
+        let journal = match state {
             WorkerState::Running(station) => station.into_journal(),
             WorkerState::Stopped(journal) => journal,
+        };
+        Ended {
+            journal,
+            noted,
+            keeper,
         }
     }
 }

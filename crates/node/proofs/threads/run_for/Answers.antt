@@ -12,6 +12,9 @@ use Rattle.node_reports.specs.RunFaults.{IsThreadsFault}
 use Rattle.node.proofs.Alls.{zip_long}
 use Rattle.node.proofs.Firsts.{begin_above, begin_as_raised, firsts_parted, openings_parted}
 use Rattle.node.proofs.Told.{open_as_told}
+use Rattle.node.specs.Raises.{OneMayRefuse}
+use Rattle.node.specs.Steps.Keeping.{IsLeftKept}
+use Rattle.node.proofs.Refused.{none_refused}
 use Rattle.node.proofs.Refusing.{raise_fault, start_fault}
 use Rattle.node.proofs.threads.run_for.Goals as goal
 
@@ -27,30 +30,30 @@ pub returns-clause-lawful : goal.returns-clause-lawful
 returns-clause-lawful g c =
     let plant = c.args.plant.now.value in
     let max_number = c.args.max_number in
-    let ended : List Ended = c.in_ok-ended.ended.items in
-    let journals : List Journal = c.in_ok-journals.journals.items in
+    let ended : List (Ended g.row.K.Denot) = c.in_ok-ended.ended.items in
+    let journals : List Journal = c.in_ok-journals.field-0.journals.items in
     let begun : c.as_slice-3.result.now ≡ firsts_of journals =
     c.as_slice-3.ensures.value ∙ sym c.as_slice.ensures.value ∙ sym c.in_ok-workers.ensures.firsts ∙ sym c.in_ok-ended.ensures.firsts ∙ sym (firsts_parted ended) ∙ sym (ap firsts_of c.in_ok-journals.ensures.journals) in
-    let of_plant = subst (λ (p : PlantValue). All (λ (e : Ended). IsLawful p c.as_slice-3.result.now max_number e.journal) ended) c.deref-3.ensures c.in_ok-ended.ensures.lawful in
-    let promised = subst (λ (firsts : List ℕ). All (λ (e : Ended). IsLawful plant firsts max_number e.journal) ended) begun of_plant in
-    subst (All (IsLawful plant (firsts_of journals) max_number)) (sym c.in_ok-journals.ensures.journals) (All-map (IsLawful plant (firsts_of journals) max_number) (λ (e : Ended). e.journal) ended promised)
+    let of_plant = subst (λ (p : PlantValue). All (λ (e : Ended g.row.K.Denot). IsLawful p c.as_slice-3.result.now max_number e.journal) ended) c.deref-3.ensures c.in_ok-ended.ensures.lawful in
+    let promised = subst (λ (firsts : List ℕ). All (λ (e : Ended g.row.K.Denot). IsLawful plant firsts max_number e.journal) ended) begun of_plant in
+    subst (All (IsLawful plant (firsts_of journals) max_number)) (sym c.in_ok-journals.ensures.journals) (All-map (IsLawful plant (firsts_of journals) max_number) (λ (e : Ended g.row.K.Denot). e.journal) ended promised)
 
 pub returns-clause-begun : goal.returns-clause-begun
 returns-clause-begun g c =
-    begin_above g.K.Keeper.last c.args.keepers.items c.in_ok-workers.workers.items c.in_ok-ended.ended.items c.in_ok-journals.journals.items
+    begin_above g.K.Keeper.last c.args.keepers.items c.in_ok-workers.workers.items c.in_ok-ended.ended.items c.in_ok-journals.field-0.journals.items
     (subst (AreAbove g.K.Keeper.last c.args.keepers.items) (sym (c.in_ok-workers.ensures.firsts ∙ c.as_slice.ensures.value)) c.in_ok-raised.ensures.above)
     c.in_ok-ended.ensures.firsts c.in_ok-journals.ensures.journals
 
 pub returns-clause-given : goal.returns-clause-given
 returns-clause-given g c =
-    begin_as_raised g.K.Keeper.raise_gives c.args.keepers.items c.in_ok-workers.workers.items c.in_ok-ended.ended.items c.in_ok-journals.journals.items
+    begin_as_raised g.K.Keeper.raise_gives c.args.keepers.items c.in_ok-workers.workers.items c.in_ok-ended.ended.items c.in_ok-journals.field-0.journals.items
     (subst (AreRaised g.K.Keeper.raise_gives c.args.keepers.items) (sym (c.in_ok-workers.ensures.firsts ∙ c.as_slice.ensures.value)) c.in_ok-raised.ensures.given)
     c.in_ok-ended.ensures.firsts c.in_ok-journals.ensures.journals
 
 pub returns-clause-opened : goal.returns-clause-opened
 returns-clause-opened g c =
     let told = subst (λ (p : PlantValue). AreTold g.K.Keeper.kept_gives p c.args.keepers.items (openings_of_raised c.in_ok-raised.raised.items)) c.deref.ensures c.in_ok-raised.ensures.told in
-    open_as_told g.K.Keeper.kept_gives c.args.plant.now.value c.args.keepers.items (openings_of_raised c.in_ok-raised.raised.items) c.in_ok-journals.journals.items told
+    open_as_told g.K.Keeper.kept_gives c.args.plant.now.value c.args.keepers.items (openings_of_raised c.in_ok-raised.raised.items) c.in_ok-journals.field-0.journals.items told
     (ap openings_of c.in_ok-journals.ensures.journals ∙ openings_parted c.in_ok-ended.ended.items ∙ c.in_ok-ended.ensures.openings ∙ c.in_ok-workers.ensures.openings)
 
 pub returns-in_err-raised-clause-fault : goal.returns-in_err-raised-clause-fault
@@ -59,7 +62,7 @@ returns-in_err-raised-clause-fault g c =
 
 pub returns-in_err-workers-clause-fault : goal.returns-in_err-workers-clause-fault
 returns-in_err-workers-clause-fault g c =
-    kept_fault c.in_err-workers.field-0.0 IsThreadsFault _ c.from_residual-in_err-workers.ensures.1 (raise_fault c.in_err-workers.field-0.0 c.in_err-workers.ensures.fault)
+    kept_fault c.in_err-workers.field-0.0 IsThreadsFault _ c.from_residual-in_err-workers.ensures.1 (start_fault c.in_err-workers.field-0.0 c.in_err-workers.ensures.fault)
 
 pub returns-in_err-ended-clause-fault : goal.returns-in_err-ended-clause-fault
 returns-in_err-ended-clause-fault g c =
@@ -68,3 +71,28 @@ returns-in_err-ended-clause-fault g c =
 pub returns-in_err-journals-clause-fault : goal.returns-in_err-journals-clause-fault
 returns-in_err-journals-clause-fault g c =
     kept_fault c.in_err-journals.field-0.0 IsThreadsFault _ c.from_residual-in_err-journals.ensures.1 (start_fault c.in_err-journals.field-0.0 c.in_err-journals.ensures.fault)
+
+pub returns-clause-kept : goal.returns-clause-kept
+returns-clause-kept g c =
+    let left = subst (λ (p : PlantValue). All (IsLeftKept g.K.Keeper.last g.K.Keeper.kept_gives p) c.in_ok-ended.ended.items) c.deref-3.ensures c.in_ok-ended.ensures.keeps in
+    c.in_ok-journals.ensures.keeps c.args.plant.now.value left
+
+pub returns-in_err-raised-clause-refused : goal.returns-in_err-raised-clause-refused
+returns-in_err-raised-clause-refused g c =
+    kept_fault c.in_err-raised.field-0.0 (OneMayRefuse g.K.Keeper.raise_gives g.K.Keeper.kept_gives c.args.plant.now.value c.args.keepers.items) _ c.from_residual.ensures.1
+    (subst (λ (p : PlantValue). OneMayRefuse g.K.Keeper.raise_gives g.K.Keeper.kept_gives p c.args.keepers.items c.in_err-raised.field-0.0) c.deref.ensures c.in_err-raised.ensures.refused)
+
+pub returns-in_err-workers-clause-refused : goal.returns-in_err-workers-clause-refused
+returns-in_err-workers-clause-refused g c =
+    kept_fault c.in_err-workers.field-0.0 (OneMayRefuse g.K.Keeper.raise_gives g.K.Keeper.kept_gives c.args.plant.now.value c.args.keepers.items) _ c.from_residual-in_err-workers.ensures.1
+    (none_refused c.in_err-workers.field-0.0 g.K.Keeper.raise_gives g.K.Keeper.kept_gives c.args.plant.now.value c.args.keepers.items c.in_err-workers.ensures.fault)
+
+pub returns-in_err-ended-clause-refused : goal.returns-in_err-ended-clause-refused
+returns-in_err-ended-clause-refused g c =
+    kept_fault c.in_err-ended.field-0.0 (OneMayRefuse g.K.Keeper.raise_gives g.K.Keeper.kept_gives c.args.plant.now.value c.args.keepers.items) _ c.from_residual-in_err-ended.ensures.1
+    (none_refused c.in_err-ended.field-0.0 g.K.Keeper.raise_gives g.K.Keeper.kept_gives c.args.plant.now.value c.args.keepers.items c.in_err-ended.ensures.fault)
+
+pub returns-in_err-journals-clause-refused : goal.returns-in_err-journals-clause-refused
+returns-in_err-journals-clause-refused g c =
+    kept_fault c.in_err-journals.field-0.0 (OneMayRefuse g.K.Keeper.raise_gives g.K.Keeper.kept_gives c.args.plant.now.value c.args.keepers.items) _ c.from_residual-in_err-journals.ensures.1
+    (none_refused c.in_err-journals.field-0.0 g.K.Keeper.raise_gives g.K.Keeper.kept_gives c.args.plant.now.value c.args.keepers.items c.in_err-journals.ensures.fault)

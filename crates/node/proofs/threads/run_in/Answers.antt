@@ -11,7 +11,7 @@ pub returns-in-Ok-join_promised-clause-firsts : goal.returns-in-Ok-join_promised
 returns-in-Ok-join_promised-clause-firsts g c =
     let joined = c.in-Ok-join_promised.ensures in
     let len = joined.len in
-    each_kept (λ (e : Ended). e.journal.first) (λ (h : PromisedHandle Ended LawfulFor). h.promise.first) c.in-Ok.handles.items c.in-Ok-join_promised.ended.items (omega arith)
+    each_kept (λ (e : Ended g.row.K.Denot). e.journal.first) (λ (h : PromisedHandle (Ended g.row.K.Denot) LawfulFor). h.promise.first) c.in-Ok.handles.items c.in-Ok-join_promised.ended.items (omega arith)
     (λ i d lt. let kept = (joined.each i d (omega arith)).1 in (kept.handle, kept.handle_is, kept.kept.1))
     ∙ c.in-Ok.ensures.firsts
 
@@ -19,6 +19,6 @@ pub returns-in-Ok-join_promised-clause-openings : goal.returns-in-Ok-join_promis
 returns-in-Ok-join_promised-clause-openings g c =
     let joined = c.in-Ok-join_promised.ensures in
     let len = joined.len in
-    each_kept (λ (e : Ended). e.journal.opening) opening_promised c.in-Ok.handles.items c.in-Ok-join_promised.ended.items (omega arith)
+    each_kept (λ (e : Ended g.row.K.Denot). e.journal.opening) opening_promised c.in-Ok.handles.items c.in-Ok-join_promised.ended.items (omega arith)
     (λ i d lt. let kept = (joined.each i d (omega arith)).1 in (kept.handle, kept.handle_is, kept.kept.2))
     ∙ c.in-Ok.ensures.openings

@@ -11,5 +11,5 @@ retained_text-requires g c = suits_many c.args.code.now c.values.result.now c.ar
 
 pub returns-clause-others : goal.returns-clause-others
 returns-clause-others g c =
-    stored_others (g.F.Folder.file c.args.self.now.folder) (g.F.Folder.file c.store.new.self.folder) (string_bytes c.args.self.now.resource) (string_bytes c.store.new.self.resource)
+    stored_others (g.F.Folder.replace_gives c.args.self.now.folder) (g.F.Folder.file c.args.self.now.folder) (g.F.Folder.file c.store.new.self.folder) (string_bytes c.args.self.now.resource) (string_bytes c.store.new.self.resource)
     (retained_text c.args.code.now c.args.retained.now) c.args.task c.store.result (omega arith) (search rules) (ap string_bytes c.store.ensures.resource)

@@ -1,4 +1,4 @@
--- What was kept of the tasks so far suits them and is what the keeper told, which is in the same incarnation, and tells no more than at first.
+-- What was kept of the tasks so far suits them and is what the keeper told, which is in the same incarnation, and tells the same as at first.
 use Rattle.std.proofs.Common.{◌≡◌}
 use Rattle.exchange_core.specs.Steps.Opened.{IsKeptOf}
 use Rattle.keepers.specs.Keepers.{TellsNoMore}
@@ -11,3 +11,4 @@ invariant-loop-task g l =
     × (g.K.Keeper.last l.keeper ≡ g.K.Keeper.last l.fn.keeper)
     × TellsOpening (g.K.Keeper.kept_gives l.fn.keeper) l.plant l.resource l.listed.items
     × TellsNoMore (g.K.Keeper.kept_gives l.fn.keeper) (g.K.Keeper.kept_gives l.keeper)
+    × TellsNoMore (g.K.Keeper.kept_gives l.keeper) (g.K.Keeper.kept_gives l.fn.keeper)

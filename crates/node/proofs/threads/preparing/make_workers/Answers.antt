@@ -23,14 +23,14 @@ loop-one-preserved g c =
     let counted : c.len-resource.result ≡ length (firsts_of_workers workers) =
     (let len = c.len-resource.ensures in let long = c.loop-one.workers.ok.0 in let mapped = length-map workers first_of in omega (arith, len, long, mapped)) in
     let next = next_first c.args.firsts.now (firsts_of_workers workers) rest last c.len-resource.result are counted in
-    let opened = subst (AreOpened c.args.plant.now.value (length workers)) rest_is was.2 in (
+    let opened = subst (AreOpened g.K.Keeper.kept_gives c.args.plant.now.value (length workers)) rest_is was.2 in (
       all_push (IsWorkerFor c.args.plant.now.value c.args.firsts.now c.args.max_number) _ c.in_ok-worker.worker _ c.in-Ok.ensures.items was.0
           (ap (λ (w : WorkerValue). w.plant) made, ap (λ (w : WorkerValue). w.firsts) made, ap (λ (w : WorkerValue). w.max_number) made),
       are
           ∙ ap (λ (n : ℕ). firsts_of_workers workers ++ n ∷ rest) (sym (ap first_of made ∙ next.1))
           ∙ sym (append_assoc (firsts_of_workers workers) (c.in_ok-worker.worker.first ∷ []) rest)
           ∙ ap (λ (ns : List ℕ). ns ++ rest) (sym (ap firsts_of_workers c.in-Ok.ensures.items ∙ map_push first_of workers c.in_ok-worker.worker)),
-      subst (λ (n : ℕ). AreOpened c.args.plant.now.value n (into_iter_items c.next.new.self))
+      subst (λ (n : ℕ). AreOpened g.K.Keeper.kept_gives c.args.plant.now.value n (into_iter_items c.next.new.self))
           (sym (ap length c.in-Ok.ensures.items ∙ length-append workers (c.in_ok-worker.worker ∷ []))) opened.1,
       was.3
           ∙ ap (λ rs. openings_of_workers workers ++ openings_of_raised rs) rest_is

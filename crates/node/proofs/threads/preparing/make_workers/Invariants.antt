@@ -9,5 +9,5 @@ abbrev pub invariant-loop-one : goal.invariant-loop-one
 invariant-loop-one g l =
     All (IsWorkerFor l.plant.value l.firsts l.max_number) (vec_items l.workers)
     × (l.firsts ≡ firsts_of_workers (vec_items l.workers) ++ lasts_of g.K.Keeper.last (into_iter_items l.one-iterator))
-    × AreOpened l.plant.value (length (vec_items l.workers)) (into_iter_items l.one-iterator)
+    × AreOpened g.K.Keeper.kept_gives l.plant.value (length (vec_items l.workers)) (into_iter_items l.one-iterator)
     × (openings_of_raised l.fn.raised.items ≡ openings_of_workers (vec_items l.workers) ++ openings_of_raised (into_iter_items l.one-iterator))

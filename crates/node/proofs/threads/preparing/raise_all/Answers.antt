@@ -3,11 +3,14 @@ use Rattle.std.proofs.Common.{arith, rules, ◌≡◌, ℕ, Ok, ◌<◌, ◌++�
 use Rattle.std.specs.List.{AllZip}
 use Rattle.std.specs.Vec.Iter.{into_iter_items}
 use Rattle.std.proofs.lemmas.List.{length-map, map_push}
+use Rattle.lists.proofs.Results.{kept_fault}
 use Rattle.lists.proofs.Zips.{zip_push}
 use Rattle.std_blocks.specs.declared.value.Value.{Value}
 use Rattle.node.specs.Steps.Working.{AreRaised, AreTold, openings_of_raised, lasts_of}
 use Rattle.node.proofs.Alls.{zip_long}
 use Rattle.node.proofs.Opened.{opened_push, lasts_push}
+use Rattle.node.specs.Raises.{OneMayRefuse}
+use Rattle.node.proofs.Refused.{one_refused}
 use Rattle.node.proofs.Told.{told_push}
 use Rattle.node.proofs.threads.preparing.raise_all.Goals as goal
 
@@ -36,7 +39,8 @@ loop-keeper-preserved g c =
           ∙ ap (λ (ns : List ℕ). ns ++ g.K.Keeper.last c.in_ok-one.one.keeper ∷ []) c.loop-keeper.invariant.1
           ∙ ap (λ (n : ℕ). old ++ n ∷ []) c.in_ok-one.ensures.raised
           ∙ sym firsts,
-      opened_push c.args.plant.now before c.in_ok-one.one c.push.new.self.items c.len-resource.result (search rules) c.in-Ok.ensures.items c.loop-keeper.invariant.2 c.in_ok-one.ensures.opened,
+      opened_push g.K.Keeper.kept_gives c.args.plant.now before c.in_ok-one.one c.push.new.self.items c.len-resource.result (search rules) c.in-Ok.ensures.items c.loop-keeper.invariant.2
+          (record { suits = c.in_ok-one.ensures.opened; told = c.in_ok-one.ensures.keeps }),
       (
         asked.0 ++ c.in-Some.keeper ∷ [],
         asked.1 ∙ ap (λ ks. asked.0 ++ ks) rest_is ∙ sym (append_assoc asked.0 (c.in-Some.keeper ∷ []) (into_iter_items c.next.new.self)),
@@ -46,3 +50,18 @@ loop-keeper-preserved g c =
             (sym (ap openings_of_raised c.in-Ok.ensures.items ∙ map_push (λ r. r.opening) before c.in_ok-one.one)) told,
       ),
     )
+
+-- it was this keeper that may have answered a fault
+pub returns-in_err-one-clause-refused : goal.returns-in_err-one-clause-refused
+returns-in_err-one-clause-refused g c =
+    let found = c.in_err-one.field-0.0 in
+    let asked = c.loop-keeper.invariant.3 in
+    let old : List ℕ = c.loop-keeper.firsts.items in
+    let before = c.loop-keeper.raised.items in
+    let rest_is : into_iter_items c.loop-keeper.keeper-iterator ≡ c.in-Some.keeper ∷ into_iter_items c.next.new.self = search rules in
+    let many : length before ≡ length asked.0 =
+    sym (length-map before (λ r. g.K.Keeper.last r.keeper)) ∙ ap length c.loop-keeper.invariant.1 ∙ zip_long (λ one first. g.K.Keeper.raise_gives one (Ok first)) asked.0 old asked.2 in
+    let counted : c.len-resource.result ≡ length before = (let len = c.len-resource.ensures in let long = c.loop-keeper.raised.ok.0 in omega (arith, len, long)) in
+    kept_fault found (OneMayRefuse g.K.Keeper.raise_gives g.K.Keeper.kept_gives c.args.plant.now c.args.keepers.items) _ c.from_residual.ensures.1
+    (one_refused found g.K.Keeper.raise_gives g.K.Keeper.kept_gives c.args.plant.now c.args.keepers.items asked.0 c.in-Some.keeper (into_iter_items c.next.new.self) c.len-resource.result
+    (asked.1 ∙ ap (λ ks. asked.0 ++ ks) rest_is) (counted ∙ many) c.in_err-one.ensures.refused)

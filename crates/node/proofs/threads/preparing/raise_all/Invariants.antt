@@ -10,6 +10,6 @@ invariant-loop-keeper g l =
     ((held : List ℕ) × (map g.K.Keeper.last l.fn.keepers.items ≡ held ++ map g.K.Keeper.last (into_iter_items l.keeper-iterator))
     × AllZip (λ (was first : ℕ). was < first) held (vec_items l.firsts))
     × (lasts_of g.K.Keeper.last (vec_items l.raised) ≡ vec_items l.firsts)
-    × AreOpened l.plant 0 (vec_items l.raised)
+    × AreOpened g.K.Keeper.kept_gives l.plant 0 (vec_items l.raised)
     × ((asked : List _) × (l.fn.keepers.items ≡ asked ++ into_iter_items l.keeper-iterator) × AreRaised g.K.Keeper.raise_gives asked (vec_items l.firsts)
     × AreTold g.K.Keeper.kept_gives l.plant asked (openings_of_raised (vec_items l.raised)))
