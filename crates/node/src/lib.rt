@@ -18,5 +18,5 @@ pub use node_reports::{
 };
 pub use out_of_turns::OutOfTurns;
 pub use paced_gate::PacedGate;
-pub use running::run_threads;
+pub use running::{run_threads, run_with_keepers};
 pub use threads::{Outcome, run_all};

@@ -266,6 +266,6 @@ fn a_keeper_that_tells_nothing_ends_the_run(rt: HostRuntime) {
     let mut keepers = Vec::new(alloc);
     must(&rt, keepers.push(ForgetfulKeeper::new()));
     assert!(rt; keepers.len() == plant.resources());
-    let ran = run_threads(&rt, alloc, plant, &[], keepers, &FreeGate, 1);
-    equal(&rt, "fault", &ran.err(), &Some(RunFault::Keeper));
+    let report = run_threads(&rt, alloc, plant, &[], keepers, &FreeGate, 1);
+    equal(&rt, "fault", &report.err(), &Some(RunFault::Keeper));
 }

@@ -93,9 +93,8 @@ pub fn run_on<R: Threads + Wait + Sync + Abort, K: Keeper, G: Gate>(
     assert!(rt; are_numbered(commands));
     assert!(rt; are_for_plant(&shared, commands));
     assert!(rt; keepers.len() == shared.resources());
-    let ran = run_threads(rt, alloc, shared, commands, keepers, gate, max_number);
-    let (report, _keepers) = must(rt, ran);
-    report
+    let report = run_threads(rt, alloc, shared, commands, keepers, gate, max_number);
+    must(rt, report)
 }
 
 /// The report of a run on the pair.

@@ -200,8 +200,8 @@ fn a_keeper_that_is_spent_ends_the_run(rt: HostRuntime) {
     let plant = pair(&rt, alloc);
     let keepers = keepers_of(&rt, alloc, 2, u32::MAX);
     assert!(rt; keepers.len() == plant.resources());
-    let ran = run_threads(&rt, alloc, plant, &[], keepers, &FreeGate, 1);
-    equal(&rt, "fault", &ran.err(), &Some(RunFault::Keeper));
+    let report = run_threads(&rt, alloc, plant, &[], keepers, &FreeGate, 1);
+    equal(&rt, "fault", &report.err(), &Some(RunFault::Keeper));
 }
 
 #[test]

@@ -47,7 +47,7 @@ pub fn run_text<R: Threads + Wait + Sync, K: Keeper, G: Gate, W: Write>(
 {
     let commands = planned_commands(alloc, &plant, until, &inputs)?;
     let shared = Arc::try_clone(&plant)?;
-    let (report, _keepers) = run_threads(rt, alloc, shared, &commands, keepers, gate, u32::MAX)?;
+    let report = run_threads(rt, alloc, shared, &commands, keepers, gate, u32::MAX)?;
     let texts = entry_texts(alloc, wanted, &plant, report.book.entries())?;
     let faulty = tell_report(alloc, plant, &report, writer)?;
     Ok(Ran { faulty, texts })

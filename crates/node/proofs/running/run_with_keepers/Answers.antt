@@ -9,7 +9,7 @@ use Rattle.node.specs.Raises.{BeginAsRaised, OneMayRefuse}
 use Rattle.node.proofs.Kept.{all_reported}
 use Rattle.node.proofs.Refused.{none_collected}
 use Rattle.node.proofs.Unreported.{threads_fault, collect_refused}
-use Rattle.node.proofs.running.run_threads.Goals as goal
+use Rattle.node.proofs.running.run_with_keepers.Goals as goal
 
 pub returns-in_err-book-clause-fault : goal.returns-in_err-book-clause-fault
 returns-in_err-book-clause-fault g c =
