@@ -1,15 +1,24 @@
 -- What is found for the words of the command line.
-use Rattle.std.proofs.Common.{◌≡◌, ℕ, ◌<◌, ◌==◌, Bool, true, false, bytes_eq, codes, List, [], ◌∷◌, Option, Some, None, option_map, map, unwrap_or, slice_index, refl, sym, ap, ap₂, ◌∙◌, subst, arith}
+use Rattle.std.proofs.Common.{◌≡◌, ℕ, ◌<◌, ◌==◌, Bool, true, false, bytes_eq, codes, List, [], ◌∷◌, Option, Some, None, Result, Ok, Err, IfErr, option_map, map, unwrap_or, slice_index, refl, sym, ap, ap₂, ◌∙◌, subst, arith}
 use Rattle.std.proofs.lemmas.Bool.{eqb-true}
 use Rattle.std.specs.Borrow.{Bor}
 use Rattle.std.specs.Option.{option_map_or}
+use Rattle.std.specs.Result.{IsErrAnd}
 use Rattle.std.specs.Char.{digit_value}
 use Rattle.std.specs.Str.Parse.{digits_value}
-use Rattle.clap.specs.Words.{App, AddsSubcommand, Row, app_of, with_subcommand, HasMatchesOf, rows_of, found_of, is_simple, subcommand_of, subcommand_name_of, subcommand_rows_of}
+use Rattle.clap.specs.Words.{App, AddsSubcommand, Row, app_of, with_subcommand, HasMatchesOf, rows_of, found_of, is_simple, subcommand_of, subcommand_name_of, subcommand_rows_of, first_of}
+use Rattle.clap.specs.Values.{kind_of}
+use Rattle.clap.specs.declared.error.Error.{Error}
+use Rattle.clap.specs.declared.error.kind.ErrorKind.TheVariants.{OutOfMemory}
 use Rattle.clap.specs.declared.builder.command.Command.{Command}
 use Rattle.clap.specs.declared.parser.matches.ArgMatches.{ArgMatches}
 use Rattle.clap.proofs.SimpleLemmas.{plain_fields}
-use Rattle.console.specs.CommandLine.{IsNumber, GivesNumber, plc_app}
+use Rattle.console.specs.declared.request.TextRequest.TheVariants.{Eval, Check, Plan}
+use Rattle.console.specs.declared.request.View.{View}
+use Rattle.console.specs.declared.request.Color.{Color}
+use Rattle.console.specs.declared.request.Request.{Request}
+use Rattle.console.specs.declared.request.Request.TheVariants.{Text as OfText, Verify, Sim, Run, Node, Explain, Audit}
+use Rattle.console.specs.CommandLine.{AsksFor, GivesColor, GivesNumber, GivesView, IsNumber, OnlyMemoryRefuses, is_given, plc_app}
 
 -- a plus is no digit
 pub plus_is_none : (text : List ℕ) → (slice_index text 0 == 43) ≡ true → IsNumber text → ⊥
@@ -38,6 +47,13 @@ no_flag r v w e f is = subst (λ (t : Option (List ℕ)). false ≡ option_map_o
 pub some_flag : (r : Option (Bor (List ℕ))) (v w : Option (List ℕ)) (text : Bor (List ℕ)) (b : Bool) → option_map (λ s. s.now) r ≡ v → v ≡ w → r ≡ Some text → b ≡ bytes_eq text.now (codes "true")
     → b ≡ option_map_or (λ text. bytes_eq text (codes "true")) w false
 some_flag r v w text b e f is same = subst (λ (t : Option (List ℕ)). b ≡ option_map_or (λ text. bytes_eq text (codes "true")) t false) (sym (ap (option_map (λ s. s.now)) is) ∙ e ∙ f) same
+
+-- what is no number gives none
+pub no_good_number : (otherwise : ℕ) (r : Option (Bor (List ℕ))) (v w : Option (List ℕ)) (text : Bor (List ℕ)) (error : Error) → option_map (λ s. s.now) r ≡ v → v ≡ w → r ≡ Some text → (IsNumber text.now → ⊥)
+    → OnlyMemoryRefuses (GivesNumber otherwise w) error
+no_good_number otherwise r v w text error e f is bad n gives =
+    let given : w ≡ Some text.now = sym (e ∙ f) ∙ ap (option_map (λ s. s.now)) is in
+    absurd (bad (subst (λ t. GivesNumber otherwise t n) given gives).0)
 
 -- a command with one more subcommand, which has no global argument
 pub one_more : (old sub new : Command) (a b : App) → AddsSubcommand old sub new → app_of old ≡ a → app_of sub ≡ b → b.top.is_plain ≡ true → app_of new ≡ with_subcommand a b.top
@@ -69,3 +85,122 @@ pub named_by : (command : Command) (words : List (List ℕ)) (m : ArgMatches) (r
     → HasMatchesOf (app_of command) words m → app_of command ≡ plc_app → Some (name.now, rows_of (found_of inner.now)) ≡ subcommand_of plc_app words
 named_by command words m r name inner is named found has app_is =
     sym (entered m r name inner is named found) ∙ (has (ap is_simple app_is)).1 ∙ ap (λ (a : App). subcommand_of a words) app_is
+
+-- texts that a test tells apart aren't equal
+unlike : (a b : List ℕ) → bytes_eq a a ≡ true → bytes_eq b a ≡ false → a ≡ b → ⊥
+unlike a b same other h = let bad : true ≡ false = sym same ∙ ap (λ t. bytes_eq t a) h ∙ other in let no : ⊥ = cc in no
+
+-- where memory was refused, so it is
+pub memory_refused : {T X : Type 0} (asks : X → Type 0) (r : Result T Error) → IsErrAnd r (λ e. kind_of e ≡ OutOfMemory) → IfErr r (OnlyMemoryRefuses asks)
+memory_refused asks (Ok x) is = tt
+memory_refused asks (Err e) is = λ x asked. is
+
+pub memory_refused_taken : {T X : Type 0} (P : Type 0) (asks : X → Type 0) (r : Result T Error) → IsErrAnd r (λ e. kind_of e ≡ OutOfMemory) → IfErr r (λ error. P → OnlyMemoryRefuses asks error)
+memory_refused_taken P asks (Ok x) is = tt
+memory_refused_taken P asks (Err e) is = λ taken x asked. is
+
+-- what a name asks for is what the words ask for
+pub refused_named : {T : Type 0} (r : Result T Error) (a b : Option (List ℕ × List Row)) (P : Type 0) → a ≡ b → IfErr r (OnlyMemoryRefuses (AsksFor a)) → IfErr r (λ error. P → OnlyMemoryRefuses (AsksFor b) error)
+refused_named (Ok x) a b P same refused = tt
+refused_named (Err e) a b P same refused = λ taken. subst (λ found. OnlyMemoryRefuses (AsksFor found) e) same refused
+
+-- where only memory refuses a part of what is asked for, it alone refuses all
+pub part_refused : {X Y : Type 0} (asks : X → Type 0) (gives : Y → Type 0) (e : Error) → ((x : X) → asks x → (y : Y) × gives y) → OnlyMemoryRefuses gives e → OnlyMemoryRefuses asks e
+part_refused asks gives e part refused x asked = let found = part x asked in refused found.0 found.1
+
+-- what `eval` gives by its options
+pub eval_parts : (found : List Row) (r : Request) → AsksFor (Some (codes "eval", found)) r
+    → (n : ℕ) × (v : View) × (c : Color) × GivesNumber 0 (first_of (codes "dt") found) n × GivesView (is_given (codes "show") found) (is_given (codes "chart") found) v × GivesColor (first_of (codes "color") found) c
+eval_parts found (OfText (Eval drawing dt view color files words)) asked = (dt, view, color, asked.1.1, asked.1.2, asked.1.3)
+eval_parts found (OfText (Check plant)) asked = absurd (unlike (codes "eval") (codes "check") refl refl asked.0)
+eval_parts found (OfText (Plan plant until)) asked = absurd (unlike (codes "eval") (codes "plan") refl refl asked.0)
+eval_parts found (Verify verify) asked = absurd (unlike (codes "eval") (codes "verify") refl refl asked.0)
+eval_parts found (Sim sim) asked = absurd (unlike (codes "eval") (codes "sim") refl refl asked.0)
+eval_parts found (Run run) asked = absurd (unlike (codes "eval") (codes "run") refl refl asked.0)
+eval_parts found (Node node) asked = absurd (unlike (codes "eval") (codes "node") refl refl asked.0)
+eval_parts found (Explain kind) asked = absurd (unlike (codes "eval") (codes "explain") refl refl asked.0)
+eval_parts found (Audit audit) asked = absurd (unlike (codes "eval") (codes "audit") refl refl asked.0)
+
+-- what `verify` gives by its options
+pub verify_parts : (found : List Row) (r : Request) → AsksFor (Some (codes "verify", found)) r
+    → (n : ℕ) × (m : ℕ) × GivesNumber 0 (first_of (codes "dt") found) n × GivesNumber 1000000 (first_of (codes "most-states") found) m
+verify_parts found (OfText (Eval drawing dt view color files words)) asked = absurd (unlike (codes "verify") (codes "eval") refl refl asked.0)
+verify_parts found (OfText (Check plant)) asked = absurd (unlike (codes "verify") (codes "check") refl refl asked.0)
+verify_parts found (OfText (Plan plant until)) asked = absurd (unlike (codes "verify") (codes "plan") refl refl asked.0)
+verify_parts found (Verify verify) asked = (verify.dt, verify.most_states, asked.1.2, asked.1.3)
+verify_parts found (Sim sim) asked = absurd (unlike (codes "verify") (codes "sim") refl refl asked.0)
+verify_parts found (Run run) asked = absurd (unlike (codes "verify") (codes "run") refl refl asked.0)
+verify_parts found (Node node) asked = absurd (unlike (codes "verify") (codes "node") refl refl asked.0)
+verify_parts found (Explain kind) asked = absurd (unlike (codes "verify") (codes "explain") refl refl asked.0)
+verify_parts found (Audit audit) asked = absurd (unlike (codes "verify") (codes "audit") refl refl asked.0)
+
+-- what `plan` gives by its options
+pub plan_parts : (found : List Row) (r : Request) → AsksFor (Some (codes "plan", found)) r
+    → (n : ℕ) × GivesNumber 0 (first_of (codes "until") found) n
+plan_parts found (OfText (Eval drawing dt view color files words)) asked = absurd (unlike (codes "plan") (codes "eval") refl refl asked.0)
+plan_parts found (OfText (Check plant)) asked = absurd (unlike (codes "plan") (codes "check") refl refl asked.0)
+plan_parts found (OfText (Plan plant until)) asked = (until, asked.1.1)
+plan_parts found (Verify verify) asked = absurd (unlike (codes "plan") (codes "verify") refl refl asked.0)
+plan_parts found (Sim sim) asked = absurd (unlike (codes "plan") (codes "sim") refl refl asked.0)
+plan_parts found (Run run) asked = absurd (unlike (codes "plan") (codes "run") refl refl asked.0)
+plan_parts found (Node node) asked = absurd (unlike (codes "plan") (codes "node") refl refl asked.0)
+plan_parts found (Explain kind) asked = absurd (unlike (codes "plan") (codes "explain") refl refl asked.0)
+plan_parts found (Audit audit) asked = absurd (unlike (codes "plan") (codes "audit") refl refl asked.0)
+
+-- what `sim` gives by its options
+pub sim_parts : (found : List Row) (r : Request) → AsksFor (Some (codes "sim", found)) r
+    → (n : ℕ) × GivesNumber 4294967295 (first_of (codes "max-number") found) n
+sim_parts found (OfText (Eval drawing dt view color files words)) asked = absurd (unlike (codes "sim") (codes "eval") refl refl asked.0)
+sim_parts found (OfText (Check plant)) asked = absurd (unlike (codes "sim") (codes "check") refl refl asked.0)
+sim_parts found (OfText (Plan plant until)) asked = absurd (unlike (codes "sim") (codes "plan") refl refl asked.0)
+sim_parts found (Verify verify) asked = absurd (unlike (codes "sim") (codes "verify") refl refl asked.0)
+sim_parts found (Sim sim) asked = (sim.max_number, asked.1.2)
+sim_parts found (Run run) asked = absurd (unlike (codes "sim") (codes "run") refl refl asked.0)
+sim_parts found (Node node) asked = absurd (unlike (codes "sim") (codes "node") refl refl asked.0)
+sim_parts found (Explain kind) asked = absurd (unlike (codes "sim") (codes "explain") refl refl asked.0)
+sim_parts found (Audit audit) asked = absurd (unlike (codes "sim") (codes "audit") refl refl asked.0)
+
+-- what `run` gives by its options
+pub run_parts : (found : List Row) (r : Request) → AsksFor (Some (codes "run", found)) r
+    → (n : ℕ) × GivesNumber 0 (first_of (codes "until") found) n
+run_parts found (OfText (Eval drawing dt view color files words)) asked = absurd (unlike (codes "run") (codes "eval") refl refl asked.0)
+run_parts found (OfText (Check plant)) asked = absurd (unlike (codes "run") (codes "check") refl refl asked.0)
+run_parts found (OfText (Plan plant until)) asked = absurd (unlike (codes "run") (codes "plan") refl refl asked.0)
+run_parts found (Verify verify) asked = absurd (unlike (codes "run") (codes "verify") refl refl asked.0)
+run_parts found (Sim sim) asked = absurd (unlike (codes "run") (codes "sim") refl refl asked.0)
+run_parts found (Run run) asked = (run.until, asked.1.1)
+run_parts found (Node node) asked = absurd (unlike (codes "run") (codes "node") refl refl asked.0)
+run_parts found (Explain kind) asked = absurd (unlike (codes "run") (codes "explain") refl refl asked.0)
+run_parts found (Audit audit) asked = absurd (unlike (codes "run") (codes "audit") refl refl asked.0)
+
+-- a name of none of the nine asks for nothing
+pub no_command : (name : List ℕ) (found : List Row) (r : Request)
+    → (name ≡ codes "eval" → ⊥)
+    → (name ≡ codes "check" → ⊥)
+    → (name ≡ codes "plan" → ⊥)
+    → (name ≡ codes "verify" → ⊥)
+    → (name ≡ codes "sim" → ⊥)
+    → (name ≡ codes "run" → ⊥)
+    → (name ≡ codes "node" → ⊥)
+    → (name ≡ codes "explain" → ⊥)
+    → (name ≡ codes "audit" → ⊥) → AsksFor (Some (name, found)) r → ⊥
+no_command name found (OfText (Eval drawing dt view color files words)) no_eval no_check no_plan no_verify no_sim no_run no_node no_explain no_audit asked = no_eval asked.0
+no_command name found (OfText (Check plant)) no_eval no_check no_plan no_verify no_sim no_run no_node no_explain no_audit asked = no_check asked.0
+no_command name found (OfText (Plan plant until)) no_eval no_check no_plan no_verify no_sim no_run no_node no_explain no_audit asked = no_plan asked.0
+no_command name found (Verify verify) no_eval no_check no_plan no_verify no_sim no_run no_node no_explain no_audit asked = no_verify asked.0
+no_command name found (Sim sim) no_eval no_check no_plan no_verify no_sim no_run no_node no_explain no_audit asked = no_sim asked.0
+no_command name found (Run run) no_eval no_check no_plan no_verify no_sim no_run no_node no_explain no_audit asked = no_run asked.0
+no_command name found (Node node) no_eval no_check no_plan no_verify no_sim no_run no_node no_explain no_audit asked = no_node asked.0
+no_command name found (Explain kind) no_eval no_check no_plan no_verify no_sim no_run no_node no_explain no_audit asked = no_explain asked.0
+no_command name found (Audit audit) no_eval no_check no_plan no_verify no_sim no_run no_node no_explain no_audit asked = no_audit asked.0
+
+-- the words name no subcommand
+pub none_named : (command : Command) (words : List (List ℕ)) (m : ArgMatches) (r : Option (Bor (List ℕ) × Bor ArgMatches)) → r ≡ None
+    → option_map (λ p. rows_of (found_of p.1.now)) r ≡ option_map (λ p. p.1) (subcommand_rows_of m)
+    → HasMatchesOf (app_of command) words m → app_of command ≡ plc_app → subcommand_of plc_app words ≡ None
+none_named command words m r is found has app_is =
+    sym (ap (λ (a : App). subcommand_of a words) app_is) ∙ sym (has (ap is_simple app_is)).1 ∙ nothing (subcommand_rows_of m) (sym (ap (option_map (λ p. rows_of (found_of p.1.now))) is) ∙ found)
+  where
+    nothing : (o : Option (List ℕ × List Row)) → None ≡ option_map (λ p. p.1) o → o ≡ None
+    nothing None e = refl
+    nothing (Some x) e = cc

@@ -3,6 +3,9 @@ use Rattle.std.specs.Prelude.{◌≡◌, ℕ, ◌^◌, ◌<◌, ◌⊎◌, List,
 use Rattle.std.specs.Option.{option_map, option_map_or}
 use Rattle.std.specs.Str.Parse.{IsNumeral, digits_value}
 use Rattle.clap.specs.Lexer.{usize_max}
+use Rattle.clap.specs.Values.{kind_of}
+use Rattle.clap.specs.declared.error.Error.{Error}
+use Rattle.clap.specs.declared.error.kind.ErrorKind.TheVariants.{OutOfMemory}
 use Rattle.clap.specs.Words.{App, Row, Rule, Text, new_app, new_rule, with_rule, with_subcommand, first_of, all_of}
 use Rattle.clap.specs.declared.builder.action.ArgAction.TheVariants.{Set, Append, SetTrue}
 use Rattle.console.specs.declared.request.TextRequest.{TextRequest}
@@ -236,130 +239,58 @@ AsksFiles found files =
     (option_map (λ f. f.now) files.vcd ≡ first_of (codes "vcd") found)
     × (option_map (λ f. f.now) files.svg ≡ first_of (codes "svg") found)
 
-abbrev pub AsksEval : List Row → Request → Type 0
-AsksEval found (OfText (Eval drawing dt view color files words)) =
+-- the subcommand that asks for it
+abbrev pub command_of : Request → Text
+command_of (OfText (Eval drawing dt view color files words)) = codes "eval"
+command_of (OfText (Check plant)) = codes "check"
+command_of (OfText (Plan plant until)) = codes "plan"
+command_of (Verify verify) = codes "verify"
+command_of (Sim sim) = codes "sim"
+command_of (Run run) = codes "run"
+command_of (Node node) = codes "node"
+command_of (Explain kind) = codes "explain"
+command_of (Audit audit) = codes "audit"
+
+-- what was found for its options gives what it asks for
+abbrev pub Asks : List Row → Request → Type 0
+Asks found (OfText (Eval drawing dt view color files words)) =
     (drawing.now ≡ given_word (codes "DRAWING") found) × GivesNumber 0 (first_of (codes "dt") found) dt
     × GivesView (is_given (codes "show") found) (is_given (codes "chart") found) view
     × GivesColor (first_of (codes "color") found) color
     × AsksFiles found files × (map (λ w. w.now) words.items ≡ words_given found)
-AsksEval found (OfText (Check plant)) = ⊥
-AsksEval found (OfText (Plan plant until)) = ⊥
-AsksEval found (Verify verify) = ⊥
-AsksEval found (Sim sim) = ⊥
-AsksEval found (Run run) = ⊥
-AsksEval found (Node node) = ⊥
-AsksEval found (Explain kind) = ⊥
-AsksEval found (Audit audit) = ⊥
-
-abbrev pub AsksVerify : List Row → Request → Type 0
-AsksVerify found (OfText text) = ⊥
-AsksVerify found (Verify verify) =
+Asks found (OfText (Check plant)) = plant.now ≡ given_word (codes "PLANT") found
+Asks found (OfText (Plan plant until)) =
+    (plant.now ≡ given_word (codes "PLANT") found) × GivesNumber 0 (first_of (codes "until") found) until
+Asks found (Verify verify) =
     (verify.drawing.now ≡ given_word (codes "DRAWING") found)
     × (map (λ w. w.now) verify.claims.items ≡ claims_given found)
     × GivesNumber 0 (first_of (codes "dt") found) verify.dt
     × GivesNumber 1000000 (first_of (codes "most-states") found) verify.most_states
     × (map (λ w. w.now) verify.words.items ≡ words_given found)
-AsksVerify found (Sim sim) = ⊥
-AsksVerify found (Run run) = ⊥
-AsksVerify found (Node node) = ⊥
-AsksVerify found (Explain kind) = ⊥
-AsksVerify found (Audit audit) = ⊥
-
-abbrev pub AsksCheck : List Row → Request → Type 0
-AsksCheck found (OfText (Eval drawing dt view color files words)) = ⊥
-AsksCheck found (OfText (Check plant)) = plant.now ≡ given_word (codes "PLANT") found
-AsksCheck found (OfText (Plan plant until)) = ⊥
-AsksCheck found (Verify verify) = ⊥
-AsksCheck found (Sim sim) = ⊥
-AsksCheck found (Run run) = ⊥
-AsksCheck found (Node node) = ⊥
-AsksCheck found (Explain kind) = ⊥
-AsksCheck found (Audit audit) = ⊥
-
-abbrev pub AsksPlan : List Row → Request → Type 0
-AsksPlan found (OfText (Eval drawing dt view color files words)) = ⊥
-AsksPlan found (OfText (Check plant)) = ⊥
-AsksPlan found (OfText (Plan plant until)) =
-    (plant.now ≡ given_word (codes "PLANT") found) × GivesNumber 0 (first_of (codes "until") found) until
-AsksPlan found (Verify verify) = ⊥
-AsksPlan found (Sim sim) = ⊥
-AsksPlan found (Run run) = ⊥
-AsksPlan found (Node node) = ⊥
-AsksPlan found (Explain kind) = ⊥
-AsksPlan found (Audit audit) = ⊥
-
-abbrev pub AsksSim : List Row → Request → Type 0
-AsksSim found (OfText (Eval drawing dt view color files words)) = ⊥
-AsksSim found (OfText (Check plant)) = ⊥
-AsksSim found (OfText (Plan plant until)) = ⊥
-AsksSim found (Verify verify) = ⊥
-AsksSim found (Sim sim) =
+Asks found (Sim sim) =
     (sim.plant.now ≡ given_word (codes "PLANT") found) × (sim.schedule.now ≡ given_word (codes "SCHEDULE") found)
     × GivesNumber 4294967295 (first_of (codes "max-number") found) sim.max_number × AsksFiles found sim.files
-AsksSim found (Run run) = ⊥
-AsksSim found (Node node) = ⊥
-AsksSim found (Explain kind) = ⊥
-AsksSim found (Audit audit) = ⊥
-
-abbrev pub AsksRun : List Row → Request → Type 0
-AsksRun found (OfText (Eval drawing dt view color files words)) = ⊥
-AsksRun found (OfText (Check plant)) = ⊥
-AsksRun found (OfText (Plan plant until)) = ⊥
-AsksRun found (Verify verify) = ⊥
-AsksRun found (Sim sim) = ⊥
-AsksRun found (Run run) =
+Asks found (Run run) =
     (run.plant.now ≡ given_word (codes "PLANT") found) × GivesNumber 0 (first_of (codes "until") found) run.until
     × (option_map (λ d. d.now) run.state ≡ first_of (codes "state") found)
     × (run.paced ≡ is_given (codes "paced") found) × AsksFiles found run.files × (map (λ w. w.now) run.words.items ≡ words_given found)
-AsksRun found (Node node) = ⊥
-AsksRun found (Explain kind) = ⊥
-AsksRun found (Audit audit) = ⊥
-
-abbrev pub AsksNode : List Row → Request → Type 0
-AsksNode found (OfText text) = ⊥
-AsksNode found (Verify verify) = ⊥
-AsksNode found (Sim sim) = ⊥
-AsksNode found (Run run) = ⊥
-AsksNode found (Node node) =
+Asks found (Node node) =
     (node.plant.now ≡ given_word (codes "PLANT") found) × (node.resource.now ≡ given_word (codes "RESOURCE") found)
     × (option_map (λ d. d.now) node.state ≡ first_of (codes "state") found)
     × (option_map (λ f. f.now) node.journal ≡ first_of (codes "journal") found)
-AsksNode found (Explain kind) = ⊥
-AsksNode found (Audit audit) = ⊥
-
-abbrev pub AsksExplain : List Row → Request → Type 0
-AsksExplain found (OfText text) = ⊥
-AsksExplain found (Verify verify) = ⊥
-AsksExplain found (Sim sim) = ⊥
-AsksExplain found (Run run) = ⊥
-AsksExplain found (Node node) = ⊥
-AsksExplain found (Explain kind) = option_map (λ k. k.now) kind ≡ first_of (codes "KIND") found
-AsksExplain found (Audit audit) = ⊥
-
-abbrev pub AsksAudit : List Row → Request → Type 0
-AsksAudit found (OfText text) = ⊥
-AsksAudit found (Verify verify) = ⊥
-AsksAudit found (Sim sim) = ⊥
-AsksAudit found (Run run) = ⊥
-AsksAudit found (Node node) = ⊥
-AsksAudit found (Explain kind) = ⊥
-AsksAudit found (Audit audit) =
+Asks found (Explain kind) = option_map (λ k. k.now) kind ≡ first_of (codes "KIND") found
+Asks found (Audit audit) =
     (audit.plant.now ≡ given_word (codes "PLANT") found)
     × (map (λ w. w.now) audit.journals.items ≡ journals_given found)
 
 -- the request is what the subcommand asks for, with what was found for its options
 abbrev pub AsksFor : Option (Text × List Row) → Request → Type 0
 AsksFor None request = ⊥
-AsksFor (Some (name, found)) request =
-    ((name ≡ codes "eval") × AsksEval found request)
-    ⊎ (((name ≡ codes "verify") × AsksVerify found request)
-    ⊎ (((name ≡ codes "check") × AsksCheck found request)
-    ⊎ (((name ≡ codes "plan") × AsksPlan found request)
-    ⊎ (((name ≡ codes "sim") × AsksSim found request)
-    ⊎ (((name ≡ codes "run") × AsksRun found request)
-    ⊎ (((name ≡ codes "node") × AsksNode found request)
-    ⊎ (((name ≡ codes "audit") × AsksAudit found request)
-    ⊎ ((name ≡ codes "explain") × AsksExplain found request))))))))
+AsksFor (Some (name, found)) request = (name ≡ command_of request) × Asks found request
+
+-- Words that ask for something are refused only for want of memory: `asks` is what they ask for.
+abbrev pub OnlyMemoryRefuses : {X : Type 0} → (X → Type 0) → Error → Type 0
+OnlyMemoryRefuses {X} asks error = (x : X) → asks x → kind_of error ≡ OutOfMemory
 
 -- the file that is to be read
 abbrev pub file_of : TextRequest → List ℕ

@@ -6,4 +6,6 @@ pub mod Statuses
 pub mod Giving
 pub mod Verifying
 pub mod TracedRun
+pub mod ShellWord
+pub mod Endings
 pub mod Steps

@@ -1,7 +1,7 @@
 -- The statuses with which the program ends.
 use Rattle.std.specs.Prelude.{ℕ}
 use Rattle.verifying.specs.declared.verify_fault.VerifyFault.{VerifyFault}
-use Rattle.verifying.specs.declared.verify_fault.VerifyFault.TheVariants.{Command, Claim, Held, TooManyInputs}
+use Rattle.verifying.specs.declared.verify_fault.VerifyFault.TheVariants.{Command, Claim, Held, TooManyInputs, NoTime}
 use Rattle.verifying.specs.declared.summary.Summary.{Summary}
 use Rattle.verifying.specs.declared.summary.Summary.TheVariants.{AllHold, OneFails, OneUndecided}
 use Rattle.console.specs.declared.command_fault.CommandFault.{CommandFault}
@@ -28,13 +28,14 @@ status_of_fault Write = 3
 status_of_fault (Run fault) = 3
 status_of_fault Memory = 3
 
--- after a fault of a question about a drawing it is that of a command's fault, and 2 if a claim or a word is refused or
--- too many inputs are free
+-- after a fault of a question about a drawing it is that of a command's fault, and 2 if a claim or a word is refused, too
+-- many inputs are free, or time is wanting
 abbrev pub status_of_question : VerifyFault → ℕ
 status_of_question (Command fault) = status_of_fault (command_fault fault)
 status_of_question (Claim fault) = 2
 status_of_question (Held fault) = 2
 status_of_question (TooManyInputs free) = 2
+status_of_question NoTime = 2
 
 -- after a fault of words for field inputs it is 2 if they are refused, and 3 for want of memory
 abbrev pub status_of_inputs : InputFault → ℕ

@@ -1,4 +1,4 @@
-ghost use Rattle.std.specs.Prelude.{◌≡◌};
+ghost use Rattle.console.specs.Endings.{EndsWith};
 
 use traces::TraceTexts;
 
@@ -12,7 +12,7 @@ pub struct Answered {
 impl Answered {
     /// A status, and no texts.
     pub fn with(status: u8) -> Answered
-        ensures { result.status ≡ status }
+        ensures { EndsWith status result }
     {
         Answered {
             status,

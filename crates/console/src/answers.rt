@@ -1,5 +1,6 @@
 ghost use Rattle.std.specs.Prelude.{◌≡◌, IfOk, IfErr};
 ghost use Rattle.console.specs.Answers.{AreWantedFor, HasNoTrace, WritesAnswer, ExplainsAnswer, form_of, is_colored};
+ghost use Rattle.console.specs.Endings.{EndsAfter, EndsText, status_of_difference};
 
 use crate::answered::Answered;
 use crate::command_fault::CommandFault;
@@ -7,13 +8,13 @@ use crate::faults::{print_difference, print_failure, print_fault};
 use crate::files::file_text;
 use crate::request::{Color, TextRequest, TraceFiles, View};
 use crate::shown::Shown;
-use crate::status::WORD_REFUSED;
+use crate::status::{DONE, WORD_REFUSED};
 use guidance::{explain, kinds};
 use std::alloc::Global;
 use std::io;
 use std::io::Write;
 use std::rt::{Clock, Files};
-use text_commands::{Form, TextCommandFault, Traced, check, eval_traced, plan_text};
+use text_commands::{Difference, Form, TextCommandFault, Traced, check, eval_traced, plan_text};
 use text_lines::{OnTerminal, ToldLines, write_text};
 use traces::{TraceTexts, Wanted};
 
@@ -102,6 +103,37 @@ pub fn obey<W: Write>(
     }
 }
 
+/// Tells what isn't as the words expect, if there is such a thing; the status.
+fn tell_difference<R: Eprint>(rt: &R, file: &str, difference: Option<Difference>) -> io::Result<u8>
+    ensures { IfOk result (λ status. status ≡ status_of_difference difference) }
+{
+    match difference {
+        None => Ok(DONE),
+        Some(difference) => print_difference(rt, file, &difference),
+    }
+}
+
+/// Tells how a command of one text ended; the status, and the texts for the files of a trace.
+fn tell_text<R: Eprint + AllocGlobal>(
+    rt: &R,
+    request: &TextRequest<'_>,
+    text: &str,
+    obeyed: Result<Traced, TextCommandFault>,
+) -> io::Result<Answered>
+    ensures { IfOk result (EndsAfter obeyed) }
+{
+    match obeyed {
+        Ok(Traced { difference, texts }) => {
+            let status = tell_difference(rt, request.file(), difference)?;
+            Ok(Answered { status, texts })
+        }
+        Err(fault) => {
+            let status = print_fault(rt, request.file(), text, request.words(), fault.into())?;
+            Ok(Answered::with(status))
+        }
+    }
+}
+
 /// Reads a file, and writes what is asked for of its text; the status, and the texts for the files of a trace. `terminal` is
 /// whether standard output is one, and `told` whether it is told on standard error how many lines went out.
 pub fn answer_text<R: Files + Clock + Print + Eprint + AllocGlobal>(
@@ -109,28 +141,17 @@ pub fn answer_text<R: Files + Clock + Print + Eprint + AllocGlobal>(
     terminal: bool,
     told: bool,
     request: &TextRequest<'_>,
-) -> io::Result<Answered> {
-    let file = request.file();
-    let text = match file_text(rt, file)? {
+) -> io::Result<Answered>
+    ensures { IfOk result (EndsText terminal request.now) }
+{
+    let text = match file_text(rt, request.file())? {
         Ok(text) => text,
         Err(status) => return Ok(Answered::with(status)),
     };
     let mut writer = ToldLines::new(io::writer(rt), OnTerminal::new(rt, told));
     let obeyed = obey(rt.alloc(), terminal, request, text.as_str(), &mut writer);
     writer.end();
-    match obeyed {
-        Ok(Traced { difference, texts }) => {
-            let status = match difference {
-                None => 0,
-                Some(difference) => print_difference(rt, file, &difference)?,
-            };
-            Ok(Answered { status, texts })
-        }
-        Err(fault) => {
-            let status = print_fault(rt, file, text.as_str(), request.words(), fault.into())?;
-            Ok(Answered::with(status))
-        }
-    }
+    tell_text(rt, request, text.as_str(), obeyed)
 }
 
 /// Writes a text; the status.

@@ -1,8 +1,9 @@
-ghost use Rattle.std.specs.Prelude.{◌≡◌, IfOk, MatchOption, Some, map, string_bytes};
+ghost use Rattle.std.specs.Prelude.{◌≡◌, IfOk, IfErr, MatchOption, Some, codes, map, string_bytes, true};
 ghost use Rattle.std.specs.Option.{option_map};
 ghost use Rattle.std.specs.Str.Parse.{digits_value};
 ghost use Rattle.clap.specs.Words.{rows_of, found_of, first_of, subcommand_of};
-ghost use Rattle.console.specs.CommandLine.{plc_app, IsNumber, GivesNumber, AsksEval, AsksVerify, AsksPlan, AsksSim, AsksRun, AsksNode, AsksAudit, AsksFiles, AsksFor, given_word, words_given, claims_given, journals_given, is_given, GivesView, GivesColor};
+ghost use Rattle.clap.specs.Takes.{takes};
+ghost use Rattle.console.specs.CommandLine.{plc_app, IsNumber, GivesNumber, AsksFiles, AsksFor, OnlyMemoryRefuses, given_word, words_given, claims_given, journals_given, is_given, GivesView, GivesColor};
 
 use crate::commands::commands;
 use crate::request::{
@@ -37,7 +38,9 @@ fn number_of<'a>(
     otherwise: u32,
     refusal: &'static str,
 ) -> Result<u32, Error>
-    ensures { IfOk result (GivesNumber otherwise (first_of id.now (rows_of (found_of matches.now)))) }
+    ensures ok { IfOk result (GivesNumber otherwise (first_of id.now (rows_of (found_of matches.now)))) }
+    ensures refused { IfErr result
+        (OnlyMemoryRefuses (GivesNumber otherwise (first_of id.now (rows_of (found_of matches.now))))) }
 {
     match matches.get_str(id) {
         None => Ok(otherwise),
@@ -114,7 +117,8 @@ fn journals_given<'a>(alloc: Global, matches: &ArgMatches<'a>) -> Result<Vec<&'a
 
 /// What is written of the scans, by the flags that were given.
 fn view_of<'a>(command: &mut Command<'a>, show: bool, chart: bool) -> Result<View, Error>
-    ensures { IfOk result (GivesView show chart) }
+    ensures ok { IfOk result (GivesView show chart) }
+    ensures refused { IfErr result (OnlyMemoryRefuses (GivesView show chart)) }
 {
     match (show, chart) {
         (false, false) => Ok(View::Rows),
@@ -131,7 +135,8 @@ fn view_of<'a>(command: &mut Command<'a>, show: bool, chart: bool) -> Result<Vie
 
 /// When there is color, by the word behind `--color`.
 fn color_of<'a>(command: &mut Command<'a>, word: Option<&'a str>) -> Result<Color, Error>
-    ensures { IfOk result (GivesColor (option_map (λ w. w.now) word.entry)) }
+    ensures ok { IfOk result (GivesColor (option_map (λ w. w.now) word.entry)) }
+    ensures refused { IfErr result (OnlyMemoryRefuses (GivesColor (option_map (λ w. w.now) word.entry))) }
 {
     match word {
         None | Some("auto") => Ok(Color::Auto),
@@ -151,7 +156,8 @@ fn eval_request<'a>(
     command: &mut Command<'a>,
     inner: &ArgMatches<'a>,
 ) -> Result<Request<'a>, Error>
-    ensures { IfOk result (AsksEval (rows_of (found_of inner.now))) }
+    ensures ok { IfOk result (AsksFor (Some (codes "eval", rows_of (found_of inner.now)))) }
+    ensures refused { IfErr result (OnlyMemoryRefuses (AsksFor (Some (codes "eval", rows_of (found_of inner.now))))) }
 {
     Ok(Request::Text(TextRequest::Eval {
         drawing: given_word(inner, "DRAWING"),
@@ -168,7 +174,8 @@ fn verify_request<'a>(
     command: &mut Command<'a>,
     inner: &ArgMatches<'a>,
 ) -> Result<Request<'a>, Error>
-    ensures { IfOk result (AsksVerify (rows_of (found_of inner.now))) }
+    ensures ok { IfOk result (AsksFor (Some (codes "verify", rows_of (found_of inner.now)))) }
+    ensures refused { IfErr result (OnlyMemoryRefuses (AsksFor (Some (codes "verify", rows_of (found_of inner.now))))) }
 {
     Ok(Request::Verify(VerifyRequest {
         drawing: given_word(inner, "DRAWING"),
@@ -186,7 +193,8 @@ fn verify_request<'a>(
 }
 
 fn plan_request<'a>(command: &mut Command<'a>, inner: &ArgMatches<'a>) -> Result<Request<'a>, Error>
-    ensures { IfOk result (AsksPlan (rows_of (found_of inner.now))) }
+    ensures ok { IfOk result (AsksFor (Some (codes "plan", rows_of (found_of inner.now)))) }
+    ensures refused { IfErr result (OnlyMemoryRefuses (AsksFor (Some (codes "plan", rows_of (found_of inner.now))))) }
 {
     Ok(Request::Text(TextRequest::Plan {
         plant: given_word(inner, "PLANT"),
@@ -195,7 +203,8 @@ fn plan_request<'a>(command: &mut Command<'a>, inner: &ArgMatches<'a>) -> Result
 }
 
 fn sim_request<'a>(command: &mut Command<'a>, inner: &ArgMatches<'a>) -> Result<Request<'a>, Error>
-    ensures { IfOk result (AsksSim (rows_of (found_of inner.now))) }
+    ensures ok { IfOk result (AsksFor (Some (codes "sim", rows_of (found_of inner.now)))) }
+    ensures refused { IfErr result (OnlyMemoryRefuses (AsksFor (Some (codes "sim", rows_of (found_of inner.now))))) }
 {
     Ok(Request::Sim(SimRequest {
         plant: given_word(inner, "PLANT"),
@@ -216,7 +225,8 @@ fn run_request<'a>(
     command: &mut Command<'a>,
     inner: &ArgMatches<'a>,
 ) -> Result<Request<'a>, Error>
-    ensures { IfOk result (AsksRun (rows_of (found_of inner.now))) }
+    ensures ok { IfOk result (AsksFor (Some (codes "run", rows_of (found_of inner.now)))) }
+    ensures refused { IfErr result (OnlyMemoryRefuses (AsksFor (Some (codes "run", rows_of (found_of inner.now))))) }
 {
     Ok(Request::Run(RunRequest {
         plant: given_word(inner, "PLANT"),
@@ -229,7 +239,7 @@ fn run_request<'a>(
 }
 
 fn node_request<'a>(inner: &ArgMatches<'a>) -> Request<'a>
-    ensures { AsksNode (rows_of (found_of inner.now)) result }
+    ensures { AsksFor (Some (codes "node", rows_of (found_of inner.now))) result }
 {
     Request::Node(NodeRequest {
         plant: given_word(inner, "PLANT"),
@@ -240,7 +250,8 @@ fn node_request<'a>(inner: &ArgMatches<'a>) -> Request<'a>
 }
 
 fn audit_request<'a>(alloc: Global, inner: &ArgMatches<'a>) -> Result<Request<'a>, Error>
-    ensures { IfOk result (AsksAudit (rows_of (found_of inner.now))) }
+    ensures ok { IfOk result (AsksFor (Some (codes "audit", rows_of (found_of inner.now)))) }
+    ensures refused { IfErr result (OnlyMemoryRefuses (AsksFor (Some (codes "audit", rows_of (found_of inner.now))))) }
 {
     Ok(Request::Audit(AuditRequest {
         plant: given_word(inner, "PLANT"),
@@ -255,7 +266,8 @@ fn request_of<'a>(
     name: &str,
     inner: &ArgMatches<'a>,
 ) -> Result<Request<'a>, Error>
-    ensures { IfOk result (AsksFor (Some (name.now, rows_of (found_of inner.now)))) }
+    ensures ok { IfOk result (AsksFor (Some (name.now, rows_of (found_of inner.now)))) }
+    ensures refused { IfErr result (OnlyMemoryRefuses (AsksFor (Some (name.now, rows_of (found_of inner.now))))) }
 {
     match name {
         "eval" => eval_request(alloc, command, inner),
@@ -273,9 +285,12 @@ fn request_of<'a>(
     }
 }
 
-/// Reads the words, of which the first is the program's own name.
+/// Reads the words, of which the first is the program's own name. Words that the commands take, and that ask for something,
+/// are refused only for want of memory.
 pub fn read_words<'a>(alloc: Global, words: &'a [String]) -> Result<Request<'a>, Error>
-    ensures { IfOk result (AsksFor (subcommand_of plc_app (map (λ word. string_bytes word) words.now))) }
+    ensures ok { IfOk result (AsksFor (subcommand_of plc_app (map (λ word. string_bytes word) words.now))) }
+    ensures refused { IfErr result (λ error. takes plc_app (map (λ word. string_bytes word) words.now) ≡ true
+        → OnlyMemoryRefuses (AsksFor (subcommand_of plc_app (map (λ word. string_bytes word) words.now))) error) }
 {
     let mut command = commands(alloc)?;
     let matches = command.try_get_matches_from_mut(words)?;

@@ -1,6 +1,7 @@
-ghost use Rattle.std.specs.Prelude.{IfOk, IfErr};
+ghost use Rattle.std.specs.Prelude.{◌≡◌, IfOk, IfErr, List, ℕ, MatchResult};
 ghost use Rattle.plant.specs.PlantText.{IsPlantText};
 ghost use Rattle.text_commands.specs.CheckText.{GivesNoPlant};
+ghost use Rattle.console.specs.Endings.{IsNoPlantStatus, status_of_unread};
 
 use crate::faults::print_fault;
 use crate::shown::Shown;
@@ -16,7 +17,9 @@ use text_commands::{TextCommandFault, read_plant};
 pub(crate) const STANDARD_INPUT: &str = "-";
 
 /// Tells that no file stands behind `-`; the status.
-fn print_no_file<R: Eprint>(rt: &R) -> io::Result<u8> {
+fn print_no_file<R: Eprint>(rt: &R) -> io::Result<u8>
+    ensures { IfOk result (λ status. status ≡ 2) }
+{
     eprintln!(rt;
         "plc: -: only a schedule is read from standard input; a file of this name is ./-"
     )?;
@@ -24,7 +27,9 @@ fn print_no_file<R: Eprint>(rt: &R) -> io::Result<u8> {
 }
 
 /// Tells why a file can't be read; the status.
-fn print_unread<R: Eprint>(rt: &R, file: &str, error: &io::Error) -> io::Result<u8> {
+fn print_unread<R: Eprint>(rt: &R, file: &str, error: &io::Error) -> io::Result<u8>
+    ensures { IfOk result (λ status. status ≡ 3) }
+{
     let file = Shown(file);
     eprintln!(rt; "plc: {file}: {error}")?;
     Ok(FAILED)
@@ -34,7 +39,9 @@ fn print_unread<R: Eprint>(rt: &R, file: &str, error: &io::Error) -> io::Result<
 pub(crate) fn file_text<R: Files + Eprint + AllocGlobal>(
     rt: &R,
     file: &str,
-) -> io::Result<Result<String, u8>> {
+) -> io::Result<Result<String, u8>>
+    ensures { IfOk result (λ read. IfErr read (λ status. status ≡ status_of_unread file.now)) }
+{
     if file == STANDARD_INPUT {
         return Ok(Err(print_no_file(rt)?));
     }
@@ -48,7 +55,9 @@ pub(crate) fn file_text<R: Files + Eprint + AllocGlobal>(
 pub fn file_bytes<R: Files + Eprint + AllocGlobal>(
     rt: &R,
     file: &str,
-) -> io::Result<Result<Vec<u8>, u8>> {
+) -> io::Result<Result<Vec<u8>, u8>>
+    ensures { IfOk result (λ read. IfErr read (λ status. status ≡ status_of_unread file.now)) }
+{
     if file == STANDARD_INPUT {
         return Ok(Err(print_no_file(rt)?));
     }
@@ -71,7 +80,11 @@ fn shared_plant(alloc: Global, text: &str) -> Result<Arc<Plant>, TextCommandFaul
 pub fn file_plant<R: Files + Eprint + AllocGlobal>(
     rt: &R,
     file: &str,
-) -> io::Result<Result<Arc<Plant>, u8>> {
+) -> io::Result<Result<Arc<Plant>, u8>>
+    ensures { IfOk result (λ read. MatchResult read
+        (λ plant. (text : List ℕ) × IsPlantText text plant.value)
+        (IsNoPlantStatus file.now)) }
+{
     let text = match file_text(rt, file)? {
         Ok(text) => text,
         Err(status) => return Ok(Err(status)),

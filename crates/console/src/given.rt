@@ -1,8 +1,12 @@
+ghost use Rattle.std.specs.Prelude.{◌≡◌, ◌⊎◌, IfOk};
+ghost use Rattle.clap.specs.Values.{kind_of};
+ghost use Rattle.console.specs.Endings.{status_of_words};
+
 use crate::command_fault::CommandFault;
 use crate::faults::print_failure;
 use crate::help::FIRST_STEPS;
-use crate::status::{FAILED, WORD_REFUSED};
-use std::io::ErrorKind;
+use crate::status::{DONE, FAILED, WORD_REFUSED};
+use clap::error::ErrorKind;
 use std::rt::Env;
 use std::{env, io};
 
@@ -12,28 +16,40 @@ pub fn given_words<R: Env + AllocGlobal>(rt: &R) -> io::Result<Vec<String>> {
 }
 
 /// Tells why the words can't be read; the status.
-pub fn print_given_fault<R: Eprint>(rt: &R, error: &io::Error) -> io::Result<u8> {
+pub fn print_given_fault<R: Eprint>(rt: &R, error: &io::Error) -> io::Result<u8>
+    ensures { IfOk result (λ status. (status ≡ 2) ⊎ (status ≡ 3)) }
+{
     eprintln!(rt; "plc: the words can't be read: {error}")?;
     Ok(match error.kind() {
-        ErrorKind::OutOfMemory => FAILED,
+        io::ErrorKind::OutOfMemory => FAILED,
         _ => WORD_REFUSED,
     })
 }
 
-/// Tells what is wrong with the words, or what is asked of `--help`; the status.
-pub fn print_usage<R: Print + Eprint>(rt: &R, error: &clap::Error) -> io::Result<u8> {
-    if error.kind() == clap::error::ErrorKind::OutOfMemory {
+/// The status after words that ask for nothing.
+fn status_of_words(kind: ErrorKind) -> u8
+    ensures { result ≡ status_of_words kind }
+{
+    match kind {
+        ErrorKind::DisplayHelp | ErrorKind::DisplayVersion => DONE,
+        ErrorKind::OutOfMemory => FAILED,
+        _ => WORD_REFUSED,
+    }
+}
+
+/// Tells what is wrong with the words, or what is asked of `--help`; the status. It is 3 where that can't be told.
+pub fn print_usage<R: Print + Eprint>(rt: &R, error: &clap::Error) -> io::Result<u8>
+    ensures { IfOk result (λ status. (status ≡ status_of_words (kind_of error.now)) ⊎ (status ≡ 3)) }
+{
+    let kind = error.kind();
+    if kind == ErrorKind::OutOfMemory {
         return print_failure(rt, CommandFault::Memory);
     }
     if error.print(rt).is_err() {
         return print_failure(rt, CommandFault::Write);
     }
-    if error.kind() == clap::error::ErrorKind::MissingSubcommand {
+    if kind == ErrorKind::MissingSubcommand {
         eprintln!(rt; "\n{FIRST_STEPS}")?;
     }
-    Ok(if error.exit_code() == 0 {
-        0
-    } else {
-        WORD_REFUSED
-    })
+    Ok(status_of_words(kind))
 }

@@ -56,8 +56,8 @@ pub const VERIFY_HELP: &str = "\
 Each --never NAME claims that the BOOL variable NAME is never TRUE after a scan, whatever the inputs do and however long
 the drawing runs. The inputs are the BOOL variables that no coil and no output pin stores: each has any value in each scan,
 unless a word NAME=BIT holds it at 0 or 1. At most 20 may be free. A claim is a rung: draw a coil that turns ON where what
-must not happen has happened. Each scan comes --dt MS after the one before; without --dt no timer ever runs, so give the
-time of your scans wherever there are timers.
+must not happen has happened. Each scan comes --dt MS after the one before; a drawing with a timer (TON, TOF, TP) needs it,
+above 0.
 
 A line is written for each claim, in the order given:
 
@@ -66,10 +66,16 @@ A line is written for each claim, in the order given:
              of at most 1,000 scans and with an input, the words with which plc eval makes it
   UNDECIDED  more than N states were met, and the claim is broken in no run of so many scans or fewer
 
+and last, if there is any of that, `given` with what all depend on: --dt, the inputs that are held, and each INT and TIME
+that is 0 since nothing stores it.
+
 Example:
 
   $ plc verify examples/hoist.ladder --never CLASH
   HOLDS CLASH is never on: 3 states, 24 scans
+  $ plc verify examples/press.ladder --dt 100 --never TIED_DOWN
+  HOLDS TIED_DOWN is never on: 24 states, 96 scans
+  given dt 100 ms
 
 The exit status is 0 if all claims hold; 4 if one fails; 5 if none fails and one is undecided; 1 if the text of the drawing
 is refused, with FILE:LINE:COLUMN: Kind on standard error; 2 if a word is refused; 3 if the file can't be read, the output

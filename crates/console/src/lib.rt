@@ -16,6 +16,7 @@ mod node_prepared;
 mod prepared;
 mod request;
 mod schedules;
+mod shell_word;
 mod shown;
 mod status;
 mod verify_answer;

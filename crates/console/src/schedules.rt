@@ -1,8 +1,9 @@
-ghost use Rattle.std.specs.Prelude.{IfOk, IfErr};
+ghost use Rattle.std.specs.Prelude.{◌⊎◌, IfOk, IfErr};
 ghost use Rattle.world.specs.Simulated.{EndsEarly};
 ghost use Rattle.world.specs.LiveRun.{EndsLiveRun};
 ghost use Rattle.console.specs.TracedRun.{WritesTracedRun, WritesTracedLines};
 ghost use Rattle.console.specs.Steps.Ending.{AreEndTexts};
+ghost use Rattle.console.specs.Endings.{AreLinesDone, EndsAfterLines, EndsAfterSchedule, EndsSim, EndsWith, IsScheduleDone};
 
 use crate::answered::Answered;
 use crate::answers::wanted_for;
@@ -10,6 +11,7 @@ use crate::command_fault::CommandFault;
 use crate::faults::{print_failure, print_live_fault, print_sim_fault};
 use crate::files::{STANDARD_INPUT, file_plant, file_text};
 use crate::request::SimRequest;
+use crate::status::DONE;
 use plant::Plant;
 use std::alloc::{AllocError, Global};
 use std::io;
@@ -53,6 +55,27 @@ pub fn obey_schedule<W: Write>(
     Ok(texts)
 }
 
+/// Tells how a schedule ended; the status, and the texts for the files of its trace.
+fn tell_schedule<R: Eprint + AllocGlobal>(
+    rt: &R,
+    request: &SimRequest<'_>,
+    schedule: &str,
+    obeyed: Result<TraceTexts, SimFault>,
+) -> io::Result<Answered>
+    ensures { IfOk result (EndsAfterSchedule obeyed) }
+{
+    match obeyed {
+        Ok(texts) => Ok(Answered {
+            status: DONE,
+            texts,
+        }),
+        Err(fault) => {
+            let status = print_sim_fault(rt, request.schedule, schedule, fault)?;
+            Ok(Answered::with(status))
+        }
+    }
+}
+
 /// Writes what each event of a schedule does; the status, and the texts for the files of its trace.
 fn write_schedule<R: Clock + Print + Eprint + AllocGlobal>(
     rt: &R,
@@ -60,17 +83,13 @@ fn write_schedule<R: Clock + Print + Eprint + AllocGlobal>(
     request: &SimRequest<'_>,
     plant: Arc<Plant>,
     schedule: &str,
-) -> io::Result<Answered> {
+) -> io::Result<Answered>
+    ensures { IfOk result (IsScheduleDone plant.value request.now) }
+{
     let mut writer = ToldLines::new(io::writer(rt), OnTerminal::new(rt, told));
     let obeyed = obey_schedule(rt.alloc(), request, plant, schedule, &mut writer);
     writer.end();
-    match obeyed {
-        Ok(texts) => Ok(Answered { status: 0, texts }),
-        Err(fault) => {
-            let status = print_sim_fault(rt, request.schedule, schedule, fault)?;
-            Ok(Answered::with(status))
-        }
-    }
+    tell_schedule(rt, request, schedule, obeyed)
 }
 
 /// Writes what each event of a schedule does to the plant, as the words ask for it, before it reads the next line;
@@ -97,31 +116,50 @@ pub fn obey_lines<R: Read, W: Write>(
     Ok(texts)
 }
 
+/// Tells how the lines of standard input ended, of which this one was read last; the status, and the texts for the files of
+/// the trace.
+fn tell_lines<R: Eprint + AllocGlobal>(
+    rt: &R,
+    request: &SimRequest<'_>,
+    line: &[u8],
+    obeyed: Result<TraceTexts, LiveFault>,
+) -> io::Result<Answered>
+    ensures { IfOk result (EndsAfterLines obeyed) }
+{
+    match obeyed {
+        Ok(texts) => Ok(Answered {
+            status: DONE,
+            texts,
+        }),
+        Err(fault) => {
+            let status = print_live_fault(rt, request.schedule, line, fault)?;
+            Ok(Answered::with(status))
+        }
+    }
+}
+
 /// Writes what each event does that comes on standard input; the status, and the texts for the files of its trace.
 fn write_lines<R: Input + Print + Eprint + AllocGlobal>(
     rt: &R,
     request: &SimRequest<'_>,
     plant: Arc<Plant>,
-) -> io::Result<Answered> {
+) -> io::Result<Answered>
+    ensures { IfOk result (λ answered. EndsWith 3 answered ⊎ AreLinesDone plant.value request.now answered) }
+{
     let Ok(mut input) = BufReader::new(rt.alloc(), rt.reader()) else {
         return Ok(Answered::with(print_failure(rt, CommandFault::Memory)?));
     };
     let mut writer = io::writer(rt);
     let mut line = Vec::new(rt.alloc());
-    match obey_lines(
+    let obeyed = obey_lines(
         rt.alloc(),
         request,
         plant,
         &mut line,
         &mut input,
         &mut writer,
-    ) {
-        Ok(texts) => Ok(Answered { status: 0, texts }),
-        Err(fault) => {
-            let status = print_live_fault(rt, request.schedule, &line, fault)?;
-            Ok(Answered::with(status))
-        }
-    }
+    );
+    tell_lines(rt, request, &line, obeyed)
 }
 
 /// Reads the file of a plant and then that of a schedule, or standard input line by line where that is `-`, and writes
@@ -131,7 +169,9 @@ pub fn answer_schedule<R: Files + Clock + Input + Print + Eprint + AllocGlobal>(
     rt: &R,
     told: bool,
     request: &SimRequest<'_>,
-) -> io::Result<Answered> {
+) -> io::Result<Answered>
+    ensures { IfOk result (EndsSim request.now) }
+{
     let plant = match file_plant(rt, request.plant)? {
         Ok(plant) => plant,
         Err(status) => return Ok(Answered::with(status)),

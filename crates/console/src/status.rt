@@ -8,6 +8,9 @@ pub(crate) const WORD_REFUSED: u8 = 2;
 /// in them, or memory is refused.
 pub const FAILED: u8 = 3;
 
+/// The status after all was done, help and the version among it.
+pub(crate) const DONE: u8 = 0;
+
 /// The status after a variable isn't what a word expects.
 pub(crate) const DIFFERS: u8 = 4;
 

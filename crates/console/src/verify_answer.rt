@@ -2,13 +2,14 @@ ghost use Rattle.std.specs.Prelude.{◌≡◌, IfOk, IfErr};
 ghost use Rattle.verifying.specs.VerifyText.{ExplainsAnswer, WritesAnswer};
 ghost use Rattle.console.specs.Statuses.{status_of, status_of_question};
 ghost use Rattle.console.specs.Verifying.{asked_question};
+ghost use Rattle.console.specs.Endings.{EndsVerify, status_of_verdicts};
 
 use crate::command_fault::CommandFault;
 use crate::faults::{print_failure, print_fault, print_fault_of_word};
 use crate::files::file_text;
 use crate::request::VerifyRequest;
-use crate::shown::Shown;
-use crate::status::{CLAIM_FAILS, UNDECIDED, WORD_REFUSED};
+use crate::shell_word::shell_word;
+use crate::status::{CLAIM_FAILS, DONE, UNDECIDED, WORD_REFUSED};
 use std::alloc::Global;
 use std::io;
 use std::io::Write;
@@ -16,8 +17,8 @@ use std::rt::{Clock, Files};
 use text_lines::{OnTerminal, Progress};
 use verifying::{ClaimFaultKind, Question, Summary, VerifyFault, verify_text};
 
-/// Writes what is true of the claims about the drawing in the text. The file is what stands for it before the words for
-/// `plc eval`. How far the search is is told meanwhile.
+/// Writes what is true of the claims about the drawing in the text. The file is the word that stands for it before the words
+/// for `plc eval`. How far the search is is told meanwhile.
 pub fn obey_verify<W: Write, P: Progress>(
     alloc: Global,
     request: &VerifyRequest<'_>,
@@ -44,7 +45,7 @@ fn status_of(summary: Summary) -> u8
     ensures { result ≡ status_of summary }
 {
     match summary {
-        Summary::AllHold => 0,
+        Summary::AllHold => DONE,
         Summary::OneFails => CLAIM_FAILS,
         Summary::OneUndecided => UNDECIDED,
     }
@@ -70,10 +71,25 @@ fn print_verify_fault<R: Eprint + AllocGlobal>(
         VerifyFault::Held(fault) => {
             print_fault_of_word(rt, text, &request.words, fault.number, false, fault)
         }
-        VerifyFault::TooManyInputs(_) => {
+        VerifyFault::TooManyInputs(_) | VerifyFault::NoTime => {
             eprintln!(rt; "plc: {fault}")?;
             Ok(WORD_REFUSED)
         }
+    }
+}
+
+/// Tells why there is no answer, if there is none; the status.
+fn tell_verdicts<R: Eprint + AllocGlobal>(
+    rt: &R,
+    request: &VerifyRequest<'_>,
+    text: &str,
+    answered: Result<Summary, VerifyFault>,
+) -> io::Result<u8>
+    ensures { IfOk result (λ status. status ≡ status_of_verdicts answered) }
+{
+    match answered {
+        Ok(summary) => Ok(status_of(summary)),
+        Err(fault) => print_verify_fault(rt, request, text, fault),
     }
 }
 
@@ -83,13 +99,14 @@ pub fn answer_verify<R: Files + Clock + Print + Eprint + AllocGlobal>(
     rt: &R,
     told: bool,
     request: &VerifyRequest<'_>,
-) -> io::Result<u8> {
+) -> io::Result<u8>
+    ensures { IfOk result (EndsVerify request.now) }
+{
     let text = match file_text(rt, request.drawing)? {
         Ok(text) => text,
         Err(status) => return Ok(status),
     };
-    let shown = Shown(request.drawing);
-    let Ok(file) = format!(in rt.alloc(); "{shown}") else {
+    let Ok(file) = shell_word(rt.alloc(), request.drawing) else {
         return print_failure(rt, CommandFault::Memory);
     };
     let mut writer = io::writer(rt);
@@ -103,8 +120,5 @@ pub fn answer_verify<R: Files + Clock + Print + Eprint + AllocGlobal>(
         &mut progress,
     );
     progress.end();
-    match answered {
-        Ok(summary) => Ok(status_of(summary)),
-        Err(fault) => print_verify_fault(rt, request, text.as_str(), fault),
-    }
+    tell_verdicts(rt, request, text.as_str(), answered)
 }

@@ -1,3 +1,4 @@
 pub mod RunText
 pub mod AuditCommand
 pub mod NodeCommand
+pub mod Files

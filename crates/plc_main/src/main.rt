@@ -7,20 +7,23 @@ mod run_command;
 mod told_run;
 mod trace_files;
 
-ghost use Rattle.std.specs.Prelude.{◌≡◌, All, length, map, string_bytes, vec_len, IfOk, IfErr};
+ghost use Rattle.std.specs.Prelude.{◌≡◌, ◌&&◌, All, length, map, not, string_bytes, vec_len, IfOk, IfErr};
 ghost use Rattle.evaluation.specs.InputTexts.{IsRead};
 ghost use Rattle.text_lines.specs.LineParts.{resource_text};
 ghost use Rattle.text_commands.specs.Rows.{texts};
 ghost use Rattle.console.specs.FieldWords.{one_text_of};
 ghost use Rattle.plc_main.specs.AuditCommand.{AreNamed};
 ghost use Rattle.plc_main.specs.RunText.{WritesAskedRun, ExplainsRun};
+ghost use Rattle.plc_main.specs.Files.{EndsRequest, EndsWords};
+ghost use Rattle.console.specs.declared.request.Request.TheVariants as asked;
 
 use audit::JournalFile;
 use audit_command::audit_text;
 use console::{
-    Answered, AuditRequest, CommandFault, FAILED, Prepared, Request, RunRequest, answer_kind,
-    answer_kinds, answer_schedule, answer_text, answer_verify, file_bytes, file_plant, given_words,
-    prepare, print_failure, print_fault, print_given_fault, print_usage, read_words, wanted_for,
+    Answered, AuditRequest, CommandFault, FAILED, Prepared, Request, RunRequest, SimRequest,
+    TextRequest, answer_kind, answer_kinds, answer_schedule, answer_text, answer_verify,
+    file_bytes, file_plant, given_words, prepare, print_failure, print_fault, print_given_fault,
+    print_usage, read_words, wanted_for,
 };
 use keepers::{
     BadLine, FileKeeper, FolderLock, Keeper, KeeperFault, LockFault, MemoryKeeper, SystemFolder,
@@ -39,7 +42,7 @@ use std::sync::{Arc, Mutex, Wait};
 use std::thread::Threads;
 use text_lines::{OnTerminal, resource_name};
 use told_run::{ToldGate, UntoldWriter};
-use trace_files::write_files;
+use trace_files::{SystemFiles, TextFiles, write_files};
 
 /// How often a paced command looks, at most, whether the one before it is done.
 const TURNS: u64 = 10_000_000;
@@ -371,6 +374,107 @@ fn answer_audit<R: Files + Print + Eprint + AllocGlobal>(
     }
 }
 
+/// Which of the standard streams are terminals.
+#[derive(Clone, Copy)]
+struct Terminals {
+    output: bool,
+    errors: bool,
+}
+
+impl Terminals {
+    /// Whether it is told on standard error how far the lines on standard output are.
+    fn tells_lines(self) -> bool
+        ensures { result ≡ (self.errors && not self.output) }
+    {
+        self.errors && !self.output
+    }
+}
+
+/// Obeys a command of one text, and writes the files of its trace; the status.
+fn obey_text<R: Files + Clock + Print + Eprint + AllocGlobal, F: TextFiles>(
+    rt: &R,
+    terminals: Terminals,
+    request: &TextRequest<'_>,
+    to: &mut F,
+) -> io::Result<u8>
+    ensures { IfOk result
+        (EndsRequest terminals.output (asked.Text request.now) (F.came to.old) (F.came to.new)) }
+{
+    let answered = answer_text(rt, terminals.output, terminals.tells_lines(), request)?;
+    write_files(to, request.files(), answered)
+}
+
+/// Does a schedule, and writes the files of its trace; the status.
+fn obey_sim<R: Files + Clock + Input + Print + Eprint + AllocGlobal, F: TextFiles>(
+    rt: &R,
+    terminals: Terminals,
+    request: &SimRequest<'_>,
+    to: &mut F,
+) -> io::Result<u8>
+    ensures { IfOk result
+        (EndsRequest terminals.output (asked.Sim request.now) (F.came to.old) (F.came to.new)) }
+{
+    let answered = answer_schedule(rt, terminals.tells_lines(), request)?;
+    write_files(to, request.files, answered)
+}
+
+/// Runs a plant, and writes the files of its trace; the status.
+fn obey_threads<
+    R: Files + Clock + Print + Eprint + AllocGlobal + Threads + Wait + Sync,
+    F: TextFiles,
+>(
+    rt: &R,
+    host: &HostRuntime,
+    terminals: Terminals,
+    request: &RunRequest<'_>,
+    to: &mut F,
+) -> io::Result<u8>
+    ensures { IfOk result
+        (EndsRequest terminals.output (asked.Run request.now) (F.came to.old) (F.came to.new)) }
+{
+    let answered = answer_run(rt, host, terminals.errors, request)?;
+    write_files(to, request.files, answered)
+}
+
+/// Obeys a request; the status.
+fn obey_request<
+    R: Files + Clock + Input + Print + Eprint + AllocGlobal + Threads + Wait + Sync,
+    F: TextFiles,
+>(
+    rt: &R,
+    host: &HostRuntime,
+    terminals: Terminals,
+    request: &Request<'_>,
+    to: &mut F,
+) -> io::Result<u8>
+    ensures { IfOk result (EndsRequest terminals.output request.now (F.came to.old) (F.came to.new)) }
+{
+    match request {
+        Request::Text(request) => obey_text(rt, terminals, request, to),
+        Request::Verify(request) => answer_verify(rt, terminals.errors, request),
+        Request::Sim(request) => obey_sim(rt, terminals, request, to),
+        Request::Run(request) => obey_threads(rt, host, terminals, request, to),
+        Request::Node(request) => answer_node(rt, host, request),
+        Request::Audit(request) => answer_audit(rt, request),
+        Request::Explain(Some(kind)) => answer_kind(rt, kind),
+        Request::Explain(None) => answer_kinds(rt),
+    }
+}
+
+/// Reads the words of the command line, and obeys them; the status.
+fn answer_words<
+    R: Files + Clock + Input + Print + Eprint + AllocGlobal + Threads + Wait + Sync,
+    F: TextFiles,
+>(rt: &R, host: &HostRuntime, terminals: Terminals, words: &[String], to: &mut F) -> io::Result<u8>
+    ensures { IfOk result (EndsWords terminals.output (map (λ word. string_bytes word) words.now) (F.came to.old) (F.came to.new)) }
+{
+    match read_words(rt.alloc(), words) {
+        Ok(request) => obey_request(rt, host, terminals, &request, to),
+        Err(error) => print_usage(rt, &error),
+    }
+}
+
+/// Reads what it is asked, and obeys; the status.
 fn answer<R: Env + Files + Clock + Input + Print + Eprint + AllocGlobal + Threads + Wait + Sync>(
     rt: &R,
     host: &HostRuntime,
@@ -379,28 +483,17 @@ fn answer<R: Env + Files + Clock + Input + Print + Eprint + AllocGlobal + Thread
         Ok(given) => given,
         Err(error) => return print_given_fault(rt, &error),
     };
-    let shown = host.stdout().is_terminal();
-    let told = host.stderr().is_terminal();
-    match read_words(rt.alloc(), given.as_slice()) {
-        Ok(Request::Text(request)) => {
-            let answered = answer_text(rt, shown, told && !shown, &request)?;
-            write_files(rt, host, request.files(), answered)
-        }
-        Ok(Request::Verify(request)) => answer_verify(rt, told, &request),
-        Ok(Request::Sim(request)) => {
-            let answered = answer_schedule(rt, told && !shown, &request)?;
-            write_files(rt, host, request.files, answered)
-        }
-        Ok(Request::Run(request)) => {
-            let answered = answer_run(rt, host, told, &request)?;
-            write_files(rt, host, request.files, answered)
-        }
-        Ok(Request::Node(request)) => answer_node(rt, host, &request),
-        Ok(Request::Audit(request)) => answer_audit(rt, &request),
-        Ok(Request::Explain(Some(kind))) => answer_kind(rt, kind),
-        Ok(Request::Explain(None)) => answer_kinds(rt),
-        Err(error) => print_usage(rt, &error),
-    }
+    let terminals = Terminals {
+        output: host.stdout().is_terminal(),
+        errors: host.stderr().is_terminal(),
+    };
+    answer_words(
+        rt,
+        host,
+        terminals,
+        given.as_slice(),
+        &mut SystemFiles { rt, host },
+    )
 }
 
 fn main(rt: HostRuntime) -> ExitCode {

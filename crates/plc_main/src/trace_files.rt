@@ -1,12 +1,25 @@
 //! The files of a trace.
 
-ghost use Rattle.std.specs.Prelude.{◌++◌, codes};
+ghost use Rattle.std.specs.Prelude.{◌≡◌, ◌++◌, [], ◌∷◌, IfOk, List, None, Option, codes, string_bytes};
+ghost use Rattle.std.specs.Option.{option_map};
 ghost use Rattle.keepers.specs.KnownFiles.{IsReplacing};
+ghost use Rattle.plc_main.specs.Files.{EndsFiles, FileText, due, files_due, with_files};
 
 use console::{Answered, FAILED, TraceFiles};
 use keepers::{Folder, FolderFault, SystemFolder};
 use std::alloc::Global;
 use std::io;
+use traces::TraceTexts;
+
+/// What takes texts as whole files.
+pub trait TextFiles {
+    /// The paths and texts that came so far, where that is known. Of the system's nothing is known.
+    ghost came: { Self → Option (List FileText) };
+
+    /// Puts a text in the place of what the file of this path holds; whether it went well.
+    fn put(&mut self, path: &str, text: &str) -> io::Result<bool>
+        ensures { IfOk result (λ put. came self.new ≡ with_files (came self.old) ((path.now, text.now) ∷ [])) };
+}
 
 /// Puts a text in the place of what a file of a folder holds, by way of a file beside it.
 fn keep_text<F: Folder>(
@@ -38,34 +51,62 @@ fn store(host: &HostRuntime, path: &str, text: &str) -> Result<(), FolderFault> 
     keep_text(host.alloc(), &mut folder, name, text)
 }
 
-/// Writes a text, if there is one and a file for it; whether all went well.
-fn write_text<R: Eprint>(
-    rt: &R,
-    host: &HostRuntime,
-    file: Option<&str>,
-    text: Option<String>,
-) -> io::Result<bool> {
-    let (Some(file), Some(text)) = (file, text) else {
-        return Ok(true);
-    };
-    match store(host, file, text.as_str()) {
-        Ok(()) => Ok(true),
-        Err(_) => {
-            eprintln!(rt; "plc: {file}: the file can't be written")?;
-            Ok(false)
+/// The files of the system; what can't be written is told on standard error.
+#[derive(Drop)]
+pub struct SystemFiles<'a, R> {
+    pub rt: &'a R,
+    pub host: &'a HostRuntime,
+}
+
+impl<R: Eprint> TextFiles for SystemFiles<'_, R> {
+    ghost came = { λ _. None };
+
+    fn put(&mut self, path: &str, text: &str) -> io::Result<bool> {
+        match store(self.host, path, text) {
+            Ok(()) => Ok(true),
+            Err(_) => {
+                eprintln!(self.rt; "plc: {path}: the file can't be written")?;
+                Ok(false)
+            }
         }
     }
 }
 
+/// Puts a text, if there is one and a file for it; whether all went well.
+fn put_text<F: TextFiles>(to: &mut F, file: Option<&str>, text: Option<String>) -> io::Result<bool>
+    ensures { IfOk result (λ put. F.came to.new ≡ with_files (F.came to.old) (due file.entry (option_map (λ t. string_bytes t) text))) }
+{
+    let Some(file) = file else {
+        return Ok(true);
+    };
+    match text {
+        Some(text) => to.put(file, text.as_str()),
+        None => Ok(true),
+    }
+}
+
+/// Puts the texts of a trace; whether all went well.
+fn put_texts<F: TextFiles>(to: &mut F, files: TraceFiles<'_>, texts: TraceTexts) -> io::Result<bool>
+    ensures { IfOk result (λ put. F.came to.new ≡ with_files (F.came to.old) (files_due files.entry texts)) }
+{
+    let TraceTexts { dump, diagram } = texts;
+    let is_dumped = put_text(to, files.vcd, dump)?;
+    let is_drawn = put_text(to, files.svg, diagram)?;
+    Ok(is_dumped && is_drawn)
+}
+
 /// Writes the files of a trace; the status.
-pub fn write_files<R: Eprint>(
-    rt: &R,
-    host: &HostRuntime,
+pub fn write_files<F: TextFiles>(
+    to: &mut F,
     files: TraceFiles<'_>,
     answered: Answered,
-) -> io::Result<u8> {
+) -> io::Result<u8>
+    ensures { IfOk result (EndsFiles files.entry answered (F.came to.old) (F.came to.new)) }
+{
     let Answered { status, texts } = answered;
-    let dump = write_text(rt, host, files.vcd, texts.dump)?;
-    let diagram = write_text(rt, host, files.svg, texts.diagram)?;
-    Ok(if dump && diagram { status } else { FAILED })
+    Ok(if put_texts(to, files, texts)? {
+        status
+    } else {
+        FAILED
+    })
 }

@@ -8,6 +8,7 @@ use Rattle.std.proofs.lemmas.Option.{slice_get-get_or, slice_get_within}
 use Rattle.std.proofs.KnownBytes.{Keeps-refl}
 use Rattle.lists.proofs.Zips.{zip_back, zip_length}
 use Rattle.verifying.proofs.SetInputs.{declared_bool}
+use Rattle.verifying.proofs.Premising.{constants_of}
 use Rattle.network.specs.Links.{Diagram}
 use Rattle.declared_names.specs.declared.declarations.Declaration.{Declaration}
 use Rattle.text_commands.specs.EvalText.{IsLadderOfDrawing}
@@ -24,17 +25,18 @@ use Rattle.verifying.specs.Runs.{HasInputs, IsBoolAt, Leads, SetupValue}
 use Rattle.verifying.specs.Verdicts.{AreVerdicts, IsVerdict}
 use Rattle.verifying.specs.Inputs.{AreFree, AreInputs, IsInput}
 use Rattle.verifying.specs.Stores.{stored_places}
+use Rattle.verifying.specs.Premises.{HasTimer, IsTimed}
 use Rattle.verifying.specs.Questions.{HoldsInput, HoldsNoInput, IsClaim, IsNoClaim, QuestionValue}
 use Rattle.verifying.specs.VerifyText.{ExplainsAnswer}
 use Rattle.verifying.specs.Steps.Adding.{AreWholeRows, FitsSetup}
 use Rattle.verifying.specs.Steps.Asking.{AreHeldBy, IsAsked, IsPrepared, RefusesAsking, RefusesFree, RefusesHolding, RefusesPreparing}
-use Rattle.verifying.specs.Steps.Marks.{AreMarksOf, AreUnmarked, ClaimsRead, ClaimsRefused, HeldRead, HeldRefused, HoldsOf, HoldsNoneOf, IsClaimOf, IsNoClaimOf}
+use Rattle.verifying.specs.Steps.Marks.{AreConstantsOf, AreMarksOf, AreUnmarked, ClaimsRead, ClaimsRefused, HeldRead, HeldRefused, HoldsOf, HoldsNoneOf, IsClaimOf, IsNoClaimOf}
 use Rattle.verifying.specs.declared.verify_fault.ClaimFaultKind.{ClaimFaultKind}
 use Rattle.verifying.specs.declared.verify_fault.ClaimFaultKind.TheVariants.{NoVariable, NeverStored}
 use Rattle.verifying.specs.declared.verify_fault.HeldFaultKind.{HeldFaultKind}
 use Rattle.verifying.specs.declared.verify_fault.HeldFaultKind.TheVariants.{NotOneDigit, NoInput}
 use Rattle.verifying.specs.declared.verify_fault.VerifyFault.{VerifyFault}
-use Rattle.verifying.specs.declared.verify_fault.VerifyFault.TheVariants.{Command, Claim, Held, TooManyInputs}
+use Rattle.verifying.specs.declared.verify_fault.VerifyFault.TheVariants.{Command, Claim, Held, TooManyInputs, NoTime}
 
 -- the marks are those of a ladder
 abbrev pub AreLadderMarks : List Declaration → List Diagram → List Bool → Type 0
@@ -102,6 +104,7 @@ held_refused drawing q ds networks marks rows (Command Write) ladder are read re
 held_refused drawing q ds networks marks rows (Command Memory) ladder are read refused = tt
 held_refused drawing q ds networks marks rows (Claim fault) ladder are read refused = absurd refused
 held_refused drawing q ds networks marks rows (TooManyInputs count) ladder are read refused = absurd refused
+held_refused drawing q ds networks marks rows NoTime ladder are read refused = absurd refused
 held_refused drawing q ds networks marks rows (Held fault) ladder are read refused =
     let partner = zip_back (IsRow ds) q.words rows read.each fault.number refused.row refused.at in
     record {
@@ -127,6 +130,7 @@ claims_refused drawing q ds networks marks held (Command Write) ladder are by re
 claims_refused drawing q ds networks marks held (Command Memory) ladder are by refused = tt
 claims_refused drawing q ds networks marks held (Held fault) ladder are by refused = absurd refused
 claims_refused drawing q ds networks marks held (TooManyInputs count) ladder are by refused = absurd refused
+claims_refused drawing q ds networks marks held NoTime ladder are by refused = absurd refused
 claims_refused drawing q ds networks marks held (Claim fault) ladder are by refused = record {
   declarations = ds;
   networks = networks;
@@ -172,6 +176,7 @@ settings_refused ds marks words rows (Err (Command Memory)) read refused = tt
 settings_refused ds marks words rows (Err (Claim fault)) read refused = absurd refused
 settings_refused ds marks words rows (Err (Held fault)) read refused = record { rows = rows; read = read; first = refused }
 settings_refused ds marks words rows (Err (TooManyInputs count)) read refused = absurd refused
+settings_refused ds marks words rows (Err NoTime) read refused = absurd refused
 
 pub rows_refused : (ds : List Declaration) (marks : List Bool) (words : List (List ℕ)) (fault : TextCommandFault) → RefusesRows ds words fault → RefusesHolding ds marks words (Command fault)
 rows_refused ds marks words (Text fault) refused = absurd refused
@@ -188,6 +193,7 @@ holding_refused drawing q ds networks marks (Command Memory) ladder are refused 
 holding_refused drawing q ds networks marks (Claim fault) ladder are refused = absurd refused
 holding_refused drawing q ds networks marks (Held fault) ladder are refused = held_refused drawing q ds networks marks refused.rows (Held fault) ladder are refused.read refused.first
 holding_refused drawing q ds networks marks (TooManyInputs count) ladder are refused = absurd refused
+holding_refused drawing q ds networks marks NoTime ladder are refused = absurd refused
 
 free_refused : (drawing : List ℕ) (q : QuestionValue) (ds : List Declaration) (networks : List Diagram) (marks : List Bool) (held : List Setting) (places : List ℕ) (fault : VerifyFault) → IsLadderOfDrawing drawing ds networks
     → AreLadderMarks ds networks marks → AreHeldBy ds marks q.words held → ClaimsRead ds marks q.claims places → RefusesFree ds marks held fault → RefusesPreparing drawing q fault
@@ -197,6 +203,7 @@ free_refused drawing q ds networks marks held places (Command Write) ladder are 
 free_refused drawing q ds networks marks held places (Command Memory) ladder are by claimed refused = tt
 free_refused drawing q ds networks marks held places (Claim fault) ladder are by claimed refused = absurd refused
 free_refused drawing q ds networks marks held places (Held fault) ladder are by claimed refused = absurd refused
+free_refused drawing q ds networks marks held places NoTime ladder are by claimed refused = absurd refused
 free_refused drawing q ds networks marks held places (TooManyInputs count) ladder are by claimed refused = record {
   declarations = ds;
   networks = networks;
@@ -250,9 +257,10 @@ pub asked_has_inputs : (ds : List Declaration) (networks : List Diagram) (marks 
     → HasInputs ds free held
 asked_has_inputs ds networks marks q claims free held are asked = has_inputs ds networks free held (asked_inputs ds networks marks q claims free held are asked)
 
-pub asked_prepared : (drawing : List ℕ) (q : QuestionValue) (l : LadderValue) (marks : List Bool) (claims free : List ℕ) (held : List Setting) → IsLadderOfDrawing drawing l.declarations l.networks
-    → AreLadderMarks l.declarations l.networks marks → IsAsked l.declarations marks q claims free held → IsPrepared drawing q (record { ladder = l; dt = q.dt; free = free; held = held }) claims
-asked_prepared drawing q l marks claims free held ladder are asked = record {
+pub asked_prepared : (drawing : List ℕ) (q : QuestionValue) (l : LadderValue) (marks : List Bool) (claims free constants : List ℕ) (held : List Setting) → IsLadderOfDrawing drawing l.declarations l.networks
+    → AreLadderMarks l.declarations l.networks marks → IsAsked l.declarations marks q claims free held → IsTimed l.declarations q.dt → AreConstantsOf l.declarations marks (length l.declarations) constants
+    → IsPrepared drawing q (record { ladder = l; dt = q.dt; free = free; held = held }) claims constants
+asked_prepared drawing q l marks claims free constants held ladder are asked timed found = record {
   is = record {
     ladder = ladder;
     dt = refl;
@@ -262,7 +270,28 @@ asked_prepared drawing q l marks claims free held ladder are asked = record {
     inputs = asked_inputs l.declarations l.networks marks q claims free held are asked;
   };
   claims = claims_of l.declarations l.networks marks q.claims claims are asked.claimed;
+  timed = timed;
+  are_constants = constants_of l.declarations l.networks marks constants are found;
 }
+
+-- a timer stands still where no time passes
+pub time_refused : (drawing : List ℕ) (q : QuestionValue) (l : LadderValue) (marks : List Bool) (claims free : List ℕ) (held : List Setting) (fault : VerifyFault) → IsLadderOfDrawing drawing l.declarations l.networks
+    → AreLadderMarks l.declarations l.networks marks → IsAsked l.declarations marks q claims free held → (fault ≡ NoTime) × (q.dt ≡ 0) × HasTimer l.declarations → RefusesPreparing drawing q fault
+time_refused drawing q l marks claims free held fault ladder are asked (none, still, timer) = subst (RefusesPreparing drawing q) (sym none) (record {
+  setup = record { ladder = l; dt = q.dt; free = free; held = held };
+  is = record {
+    ladder = ladder;
+    dt = refl;
+    rows = asked.by.rows;
+    read = asked.by.read;
+    held = held_of l.declarations l.networks marks q.words asked.by.rows held are asked.by.read.each asked.by.each;
+    inputs = asked_inputs l.declarations l.networks marks q claims free held are asked;
+  };
+  places = claims;
+  claims = claims_of l.declarations l.networks marks q.claims claims are asked.claimed;
+  still = still;
+  timer = timer;
+})
 
 -- each row of a run has a value for each free input
 whole_more : (u : SetupValue) (row : List Bool) (rows : List (List Bool)) → length row ≡ length u.free → AreWholeRows u rows
@@ -299,3 +328,4 @@ preparing_explained drawing q old (Command Memory) refused = Keeps-refl old
 preparing_explained drawing q old (Claim fault) refused = (refused, Keeps-refl old)
 preparing_explained drawing q old (Held fault) refused = (refused, Keeps-refl old)
 preparing_explained drawing q old (TooManyInputs count) refused = (refused, Keeps-refl old)
+preparing_explained drawing q old NoTime refused = (refused, Keeps-refl old)

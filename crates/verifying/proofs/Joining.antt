@@ -1,6 +1,14 @@
 -- A text that was written in parts.
 use Rattle.std.proofs.Common.{◌≡◌, ℕ, ◌++◌, List, ap, ◌∙◌, append_assoc}
 
+pub three_parts : (t a b c t1 t2 t3 : List ℕ) → t1 ≡ t ++ a → t2 ≡ t1 ++ b → t3 ≡ t2 ++ c → t3 ≡ t ++ (a ++ b ++ c)
+three_parts t a b c t1 t2 t3 p q r =
+    let whole : t3 ≡ ((t ++ a) ++ b) ++ c = r ∙ ap (λ x. x ++ c) (q ∙ ap (λ x. x ++ b) p) in
+    whole ∙ group t a b c
+  where
+    group : (t a b c : List ℕ) → ((t ++ a) ++ b) ++ c ≡ t ++ (a ++ b ++ c)
+    group t a b c = simp append_assoc
+
 pub four_parts : (t a b c d t1 t2 t3 t4 : List ℕ) → t1 ≡ t ++ a → t2 ≡ t1 ++ b → t3 ≡ t2 ++ c → t4 ≡ t3 ++ d → t4 ≡ t ++ (a ++ b ++ c ++ d)
 four_parts t a b c d t1 t2 t3 t4 p q r s =
     let whole : t4 ≡ (((t ++ a) ++ b) ++ c) ++ d = s ∙ ap (λ x. x ++ d) (r ∙ ap (λ x. x ++ c) (q ∙ ap (λ x. x ++ b) p)) in

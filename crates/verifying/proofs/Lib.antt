@@ -10,6 +10,7 @@ pub mod Counting
 pub mod Chaining
 pub mod Storing
 pub mod Marking
+pub mod Premising
 pub mod Reading
 pub mod Wording
 pub mod Telling

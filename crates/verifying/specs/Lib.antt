@@ -6,6 +6,7 @@ pub mod Stores
 pub mod Inputs
 pub mod Questions
 pub mod VerdictLines
+pub mod Premises
 pub mod Summaries
 pub mod VerifyText
 pub mod Giving

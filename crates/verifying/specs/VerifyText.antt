@@ -1,5 +1,5 @@
 -- What `plc verify` writes.
-use Rattle.std.specs.Prelude.{◌≡◌, ℕ, ◌<◌, List, All, Option, length}
+use Rattle.std.specs.Prelude.{◌≡◌, ℕ, ◌<◌, ◌++◌, List, All, Option, length}
 use Rattle.std.specs.List.{AllZip}
 use Rattle.std.specs.Io.KnownBytes.{Appends, Keeps}
 use Rattle.network.specs.Links.{Diagram}
@@ -16,12 +16,13 @@ use Rattle.verifying.specs.Counts.{AreCounts}
 use Rattle.verifying.specs.Inputs.{AreFree, AreInputs}
 use Rattle.verifying.specs.Questions.{IsClaim, IsFirstClaimFault, HoldsInput, IsFirstHeldFault, QuestionValue}
 use Rattle.verifying.specs.VerdictLines.{AreTexts}
+use Rattle.verifying.specs.Premises.{AreConstants, HasTimer, IsTimed, premise_line, premises}
 use Rattle.verifying.specs.declared.verify_fault.ClaimFault.{ClaimFault}
 use Rattle.verifying.specs.declared.verify_fault.HeldFault.{HeldFault}
 use Rattle.verifying.specs.declared.summary.Summary.{Summary}
 use Rattle.verifying.specs.Summaries.{IsSummary}
 use Rattle.verifying.specs.declared.verify_fault.VerifyFault.{VerifyFault}
-use Rattle.verifying.specs.declared.verify_fault.VerifyFault.TheVariants.{Command, Claim, Held, TooManyInputs}
+use Rattle.verifying.specs.declared.verify_fault.VerifyFault.TheVariants.{Command, Claim, Held, TooManyInputs, NoTime}
 
 -- The ladder of the drawing with its inputs: those that the words hold, and all others free.
 pub record IsSetup (drawing : List ℕ) (q : QuestionValue) (u : SetupValue) : Type 0 where
@@ -33,7 +34,8 @@ pub record IsSetup (drawing : List ℕ) (q : QuestionValue) (u : SetupValue) : T
   pub inputs : AreInputs u.ladder.declarations u.ladder.networks u.free u.held
 
 -- A text that answers the question: the ladder with its inputs, the claims at their places, a verdict for each that is
--- proved of all runs, with the numbers of states and scans, and the text of all that.
+-- proved of all runs, with the numbers of states and scans, and the text of all that; and behind it a line of what the
+-- answers depend on. Where there is a timer, time passes.
 pub record IsAnswer (drawing : List ℕ) (q : QuestionValue) (text : List ℕ) : Type 0 where
   pub setup : SetupValue
   pub is : IsSetup drawing q setup
@@ -44,7 +46,12 @@ pub record IsAnswer (drawing : List ℕ) (q : QuestionValue) (text : List ℕ) :
   pub scans : ℕ
   pub proved : AreVerdicts setup q.most_states scans places verdicts
   pub counts : All (AreCounts setup q.most_states states scans) verdicts
-  pub texts : AreTexts setup q.file states scans q.claims verdicts text
+  pub lines : List ℕ
+  pub texts : AreTexts setup q.file states scans q.claims verdicts lines
+  pub timed : IsTimed setup.ladder.declarations q.dt
+  pub constants : List ℕ
+  pub are_constants : AreConstants setup.ladder.declarations setup.ladder.networks constants
+  pub whole : text ≡ lines ++ premise_line (premises setup constants)
 
 -- such a text was written, and this is its summary
 pub record WritesAnswer (drawing : List ℕ) (q : QuestionValue) (old new : Option (List ℕ)) (summary : Summary) : Type 0 where
@@ -95,6 +102,15 @@ pub record HasManyInputs (drawing : List ℕ) (q : QuestionValue) (count : ℕ) 
   pub many : 20 < length free
   pub count_is : count ≡ length free
 
+-- the words hold inputs of the drawing's ladder, the names are claims of it, and it has a timer, but no time passes
+pub record LacksTime (drawing : List ℕ) (q : QuestionValue) : Type 0 where
+  pub setup : SetupValue
+  pub is : IsSetup drawing q setup
+  pub places : List ℕ
+  pub claims : AllZip (IsClaim setup.ladder.declarations setup.ladder.networks) q.claims places
+  pub still : q.dt ≡ 0
+  pub timer : HasTimer setup.ladder.declarations
+
 -- Why there was a fault, and what was written before: nothing, but where the output failed.
 abbrev pub ExplainsAnswer : List ℕ → QuestionValue → Option (List ℕ) → Option (List ℕ) → VerifyFault → Type 0
 ExplainsAnswer drawing q old new (Command (Text fault)) = RefusesDrawing drawing fault × Keeps old new
@@ -104,3 +120,4 @@ ExplainsAnswer drawing q old new (Command Memory) = Keeps old new
 ExplainsAnswer drawing q old new (Claim fault) = RefusesClaims drawing q fault × Keeps old new
 ExplainsAnswer drawing q old new (Held fault) = RefusesHeld drawing q fault × Keeps old new
 ExplainsAnswer drawing q old new (TooManyInputs count) = HasManyInputs drawing q count × Keeps old new
+ExplainsAnswer drawing q old new NoTime = LacksTime drawing q × Keeps old new

@@ -8,6 +8,7 @@ mod fault_from;
 mod held;
 mod inputs;
 mod kept;
+mod premises;
 mod question;
 mod row;
 mod run_lines;

@@ -11,6 +11,7 @@ ghost use Rattle.verifying.specs.Steps.Asking.{AreFew, AreHeldBy, IsAsked, IsPre
 use crate::claims::read_claims;
 use crate::held::read_settings;
 use crate::inputs::{marks_of, unmarked_places};
+use crate::premises::{check_time, constant_places, push_premise_line};
 use crate::question::Question;
 use crate::search::verify;
 use crate::setup::{Setting, Setup};
@@ -102,19 +103,29 @@ fn read_question(
     Ok(Asked { claims, free, held })
 }
 
-/// The ladder of a drawing with its inputs, and the places of the claims.
-fn prepare(
-    alloc: Global,
-    drawing: &str,
-    question: &Question<'_>,
-) -> Result<(Setup, Vec<usize>), VerifyFault>
-    ensures ok { IfOk result (λ r. IsPrepared drawing.now (question_of question.now) r.0 r.1.items) }
+/// The ladder of a drawing with its inputs, the places of the claims, and the constants.
+#[derive(Drop)]
+struct Prepared {
+    setup: Setup,
+    claims: Vec<usize>,
+    constants: Vec<usize>,
+}
+
+/// Reads a drawing and what is asked of it.
+fn prepare(alloc: Global, drawing: &str, question: &Question<'_>) -> Result<Prepared, VerifyFault>
+    ensures ok { IfOk result (λ p. IsPrepared drawing.now (question_of question.now) p.setup p.claims.items p.constants.items) }
     ensures err { IfErr result (RefusesPreparing drawing.now (question_of question.now)) }
 {
     let (ladder, marks) = read_marked(alloc, drawing)?;
     let asked = read_question(alloc, ladder.declarations(), &marks, question)?;
+    check_time(ladder.declarations(), question.dt)?;
+    let constants = constant_places(alloc, ladder.declarations(), &marks)?;
     let setup = Setup::new(ladder, question.dt, asked.free, asked.held);
-    Ok((setup, asked.claims))
+    Ok(Prepared {
+        setup,
+        claims: asked.claims,
+        constants,
+    })
 }
 
 /// The text of the verdicts on the claims about a drawing, and what comes of all.
@@ -127,17 +138,25 @@ fn answer_text<P: Progress>(
     ensures ok { IfOk result (λ r. IsToldAnswer drawing.now (question_of question.now) (string_bytes r.0) r.1) }
     ensures err { IfErr result (RefusesPreparing drawing.now (question_of question.now)) }
 {
-    let (setup, claims) = prepare(alloc, drawing, question)?;
-    let outcome = verify(alloc, &setup, &claims, question.most_states, progress)?;
-    let text = verdict_texts(alloc, &setup, question.file, question.claims, &outcome)?;
+    let prepared = prepare(alloc, drawing, question)?;
+    let setup = &prepared.setup;
+    let outcome = verify(
+        alloc,
+        setup,
+        &prepared.claims,
+        question.most_states,
+        progress,
+    )?;
+    let mut text = verdict_texts(alloc, setup, question.file, question.claims, &outcome)?;
+    push_premise_line(alloc, &mut text, setup, &prepared.constants)?;
     Ok((text, summary_of(&outcome.verdicts)))
 }
 
 /// Tells of each claim about a drawing whether it holds, whatever the free inputs do, and what comes of all. How far the
 /// search is is told meanwhile.
 ///
-/// `Command(Text)`, `Command(Word)`, `Command(Memory)`, `Claim`, `Held` and `TooManyInputs` come before anything is
-/// written. After `Command(Write)` what went out is a prefix, and not all.
+/// `Command(Text)`, `Command(Word)`, `Command(Memory)`, `Claim`, `Held`, `TooManyInputs` and `NoTime` come before anything
+/// is written. After `Command(Write)` what went out is a prefix, and not all.
 pub fn verify_text<W: Write, P: Progress>(
     alloc: Global,
     drawing: &str,

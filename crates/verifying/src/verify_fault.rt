@@ -54,4 +54,7 @@ pub enum VerifyFault {
     /// So many inputs are free, more than 20.
     #[error("{0} inputs are free, and at most 20 may be: hold some by words NAME=BIT")]
     TooManyInputs(usize),
+    /// The drawing has a timer, and no time passes from scan to scan.
+    #[error("the drawing has a timer, which runs only if time passes: give the time from scan to scan by --dt MS")]
+    NoTime,
 }

@@ -35,7 +35,7 @@ def claims(chance):
             break
     stored, inputs = names
     given = ["verify", "it.ladder", "--most-states", str(chance.choice([0, 1, 5, 40, 200]))]
-    given += ["--dt", str(chance.choice([0, 1, 10, 25, 1000]))] * (chance.random() < 0.8)
+    given += ["--dt", str(chance.choice([0, 1, 1, 10, 10, 25, 1000, 1000]))] * (chance.random() < 0.9)
     for name in chance.sample(stored, min(len(stored), chance.randint(1, 3))):
         given += ["--never", cased(chance, name)]
     held = chance.sample(inputs, max(0, len(inputs) - chance.randint(0, MOST_FREE)))

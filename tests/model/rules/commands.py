@@ -18,7 +18,7 @@ from .run import Run, do_in_turns, lines_of_run
 from .scan import Ladder, State
 from .schedule import MOST_U32, events_of
 from .traces import Track, diagram, dump
-from .verify import MOST_INPUTS, Search, line_of, stored_names, verdict_lines
+from .verify import MOST_INPUTS, TIMERS, Search, line_of, premises, stored_names, verdict_lines
 
 REFUSED_TEXT, REFUSED_WORDS, NO_FILE, DIFFERS, UNDECIDED = 1, 2, 3, 4, 5
 CLAIM_FAILS = DIFFERS
@@ -287,7 +287,8 @@ def verify(write, files, paths, options, more):
     claims = [words.fold(it) for it in options["--never"]]
     free = [it for it in bits if it not in stored and it not in rows]
     is_held = not expected and all(len(digits) == 1 and name not in stored for name, digits in rows.items())
-    if not is_held or not set(claims) <= stored & set(bits) or len(free) > MOST_INPUTS:
+    is_timed = options.get("--dt", 0) or not any(it.role == "Instance" and it.kind in TIMERS for it in ladder.declarations)
+    if not is_held or not set(claims) <= stored & set(bits) or len(free) > MOST_INPUTS or not is_timed:
         raise Refused(REFUSED_WORDS)
     held = {name: digits == "1" for name, digits in rows.items()}
     found = Search(ladder, options.get("--dt", 0), free, held, claims, options.get("--most-states", 1_000_000))
@@ -295,6 +296,8 @@ def verify(write, files, paths, options, more):
     for name in options["--never"]:
         for line in verdict_lines(found, name, paths[0]):
             write(line)
+    if given := premises(found, stored):
+        write("given " + ", ".join(given))
     if found.runs:
         raise Refused(CLAIM_FAILS)
     if found.depth is not None:

@@ -35,6 +35,15 @@ PROGRAM I WITH K : P;
 END_RESOURCE
 END_CONFIGURATION
 """
+# A program type and a task for the examples that are parts of a plant.
+COUNT = """PROGRAM COUNT
+VAR_INPUT UP : BOOL; END_VAR
+VAR_OUTPUT Y : BOOL; END_VAR
+|  UP     Y
++--| |---( )
+END_PROGRAM
+"""
+TASK = "RESOURCE R1 ON NODE\nTASK FAST(INTERVAL := T#10ms, PRIORITY := 1);\n"
 # What happens: where its kinds are met, and the table of a guide that tells them.
 OCCASIONS = {
     "in a REFUSED line of plc sim": ("SCHEDULE.md", "When an event is refused"),
@@ -118,19 +127,35 @@ def try_kind(where, kind, place):
         part = part[1:-1] if part.startswith("(") else part
         if f"\n{part}\n" not in guide and f"{part}." not in guide:
             told.append(f"{kind} {where}: docs/{name} doesn't say: {part}")
-    if "drawing" in where and not found[2].startswith("  ("):
-        try_example(kind, without_indent(found[2]), place, 1)
-        try_example(kind, without_indent(found[3]), place, 0)
+    if not found[2].startswith("  ("):
+        try_example(where, kind, without_indent(found[2]), place, 1)
+        try_example(where, kind, without_indent(found[3]), place, 0)
 
 
-def try_example(kind, text, place, status):
-    is_plant = text.startswith("PROGRAM")
+def whole_of(text):
+    """The plant that an example is part of; a drawing or a schedule as it is."""
+    if text.startswith("RESOURCE"):
+        return f"{COUNT}CONFIGURATION C\n{text}\nEND_CONFIGURATION\n"
+    if text.startswith("PROGRAM") and " WITH " in text:
+        return f"{COUNT}CONFIGURATION C\n{TASK}{text}\nEND_RESOURCE\nEND_CONFIGURATION\n"
+    if text.startswith("PROGRAM"):
+        body = "" if "END_PROGRAM" in text else "\n+-\nEND_PROGRAM"
+        return text + body + CONFIGURATION
+    return text
+
+
+def try_example(where, kind, text, place, status):
+    """What stands under Refused is refused with just this kind, and what stands under Mended is read."""
+    whole = whole_of(text)
     with open(os.path.join(place, "example"), "w", encoding="utf-8") as file:
-        file.write(text + CONFIGURATION if is_plant else text)
-    ran = run("./plc check example" if is_plant else "./plc eval example", place)
+        file.write(whole)
+    command = "check example" if whole != text else "sim examples/pair.plant example" if "schedule" in where else "eval example"
+    ran = run(f"./plc {command}", place)
     first = ran.stdout.partition("\n")[0]
-    if ran.returncode != status or (status and not first.endswith(f" {kind}")):
-        told.append(f"{kind}: its example is answered by {ran.returncode} {first}:\n{text}")
+    inner = r"( \w+)?" if where == "in a plant" else ""
+    behind = r"(\w+ )?" if "drawing" in where and whole != text else ""
+    if ran.returncode != status or (status and not re.fullmatch(rf"example:[\d:]+ {behind}{kind}{inner}", first)):
+        told.append(f"{kind} {where}: its example is answered by {ran.returncode} {first}:\n{text}")
 
 
 def rows_of(name, title):

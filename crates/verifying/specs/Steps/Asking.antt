@@ -9,12 +9,13 @@ use Rattle.verifying.specs.declared.setup.Setting.{Setting}
 use Rattle.verifying.specs.Runs.{SetupValue}
 use Rattle.verifying.specs.Questions.{IsClaim, QuestionValue}
 use Rattle.verifying.specs.Summaries.{IsSummary}
-use Rattle.verifying.specs.VerifyText.{HasManyInputs, IsAnswer, IsSetup, RefusesClaims, RefusesHeld}
+use Rattle.verifying.specs.Premises.{AreConstants, IsTimed}
+use Rattle.verifying.specs.VerifyText.{HasManyInputs, IsAnswer, IsSetup, LacksTime, RefusesClaims, RefusesHeld}
 use Rattle.verifying.specs.Steps.Marks.{AreUnmarked, ClaimsRead, ClaimsRefused, HeldRead, IsHeldFaultOf}
 use Rattle.verifying.specs.declared.summary.Summary.{Summary}
 use Rattle.verifying.specs.declared.verify_fault.HeldFault.{HeldFault}
 use Rattle.verifying.specs.declared.verify_fault.VerifyFault.{VerifyFault}
-use Rattle.verifying.specs.declared.verify_fault.VerifyFault.TheVariants.{Command, Claim, Held, TooManyInputs}
+use Rattle.verifying.specs.declared.verify_fault.VerifyFault.TheVariants.{Command, Claim, Held, TooManyInputs, NoTime}
 
 -- the inputs that words hold, where the marks tell what is stored
 pub record AreHeldBy (ds : List Declaration) (marks : List Bool) (words : List (List ℕ)) (held : List Setting) : Type 0 where
@@ -36,6 +37,7 @@ RefusesHolding ds marks words (Command Memory) = Unit {0}
 RefusesHolding ds marks words (Claim fault) = ⊥
 RefusesHolding ds marks words (Held fault) = IsHeldFaultIn ds marks words fault
 RefusesHolding ds marks words (TooManyInputs count) = ⊥
+RefusesHolding ds marks words NoTime = ⊥
 
 -- the free inputs, 20 at most
 abbrev pub AreFew : List Declaration → List Bool → List Setting → List ℕ → Type 0
@@ -56,6 +58,7 @@ RefusesFree ds marks held (Command Memory) = Unit {0}
 RefusesFree ds marks held (Claim fault) = ⊥
 RefusesFree ds marks held (Held fault) = ⊥
 RefusesFree ds marks held (TooManyInputs count) = AreMany ds marks held count
+RefusesFree ds marks held NoTime = ⊥
 
 -- the words hold inputs, and this is why the names are no claims
 pub record RefusesClaimsOf (ds : List Declaration) (marks : List Bool) (q : QuestionValue) (fault : VerifyFault) : Type 0 where
@@ -81,10 +84,12 @@ pub record IsAsked (ds : List Declaration) (marks : List Bool) (q : QuestionValu
 abbrev pub RefusesAsking : List Declaration → List Bool → QuestionValue → VerifyFault → Type 0
 RefusesAsking ds marks q fault = RefusesHolding ds marks q.words fault ⊎ (RefusesClaimsOf ds marks q fault ⊎ RefusesFreeOf ds marks q fault)
 
--- the ladder with its inputs, and the places of the claims
-pub record IsPrepared (drawing : List ℕ) (q : QuestionValue) (u : SetupValue) (places : List ℕ) : Type 0 where
+-- the ladder with its inputs, the places of the claims, and the constants
+pub record IsPrepared (drawing : List ℕ) (q : QuestionValue) (u : SetupValue) (places constants : List ℕ) : Type 0 where
   pub is : IsSetup drawing q u
   pub claims : AllZip (IsClaim u.ladder.declarations u.ladder.networks) q.claims places
+  pub timed : IsTimed u.ladder.declarations q.dt
+  pub are_constants : AreConstants u.ladder.declarations u.ladder.networks constants
 
 -- why there is none
 abbrev pub RefusesPreparing : List ℕ → QuestionValue → VerifyFault → Type 0
@@ -95,6 +100,7 @@ RefusesPreparing drawing q (Command Memory) = Unit {0}
 RefusesPreparing drawing q (Claim fault) = RefusesClaims drawing q fault
 RefusesPreparing drawing q (Held fault) = RefusesHeld drawing q fault
 RefusesPreparing drawing q (TooManyInputs count) = HasManyInputs drawing q count
+RefusesPreparing drawing q NoTime = LacksTime drawing q
 
 -- the text of an answer, and its summary
 pub record IsToldAnswer (drawing : List ℕ) (q : QuestionValue) (text : List ℕ) (summary : Summary) : Type 0 where

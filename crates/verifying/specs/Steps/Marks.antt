@@ -4,6 +4,7 @@ use Rattle.std.specs.List.{AllPairs, AllZip}
 use Rattle.declared_names.specs.declared.declarations.Declaration.{Declaration}
 use Rattle.verifying.specs.declared.setup.Setting.{Setting}
 use Rattle.verifying.specs.Runs.{IsBoolAt}
+use Rattle.verifying.specs.Premises.{IsNumberAt}
 use Rattle.text_commands.specs.Rows.{RowValue}
 use Rattle.text_commands.specs.declared.text_command_fault.TextCommandFault.TheVariants.{Text, Word, Write, Memory}
 use Rattle.verifying.specs.Inputs.{IsHeld}
@@ -15,7 +16,7 @@ use Rattle.verifying.specs.declared.verify_fault.HeldFault.{HeldFault}
 use Rattle.verifying.specs.declared.verify_fault.HeldFaultKind.{HeldFaultKind}
 use Rattle.verifying.specs.declared.verify_fault.HeldFaultKind.TheVariants.{NotOneDigit, NoInput}
 use Rattle.verifying.specs.declared.verify_fault.VerifyFault.{VerifyFault}
-use Rattle.verifying.specs.declared.verify_fault.VerifyFault.TheVariants.{Command, Claim, Held, TooManyInputs}
+use Rattle.verifying.specs.declared.verify_fault.VerifyFault.TheVariants.{Command, Claim, Held, TooManyInputs, NoTime}
 
 -- the name at a place is marked
 abbrev pub IsMarked : List Bool → ℕ → Type 0
@@ -36,6 +37,16 @@ pub record IsUnmarked (ds : List Declaration) (marks : List Bool) (held : List S
 pub record AreUnmarked (ds : List Declaration) (marks : List Bool) (held : List Setting) (count : ℕ) (free : List ℕ) : Type 0 where
   pub each : (place : ℕ) → Contains free place ↔ (IsUnmarked ds marks held place × (place < count))
   pub ascending : AllPairs ◌<◌ free
+
+-- an INT or TIME variable that isn't marked
+pub record IsConstantOf (ds : List Declaration) (marks : List Bool) (place : ℕ) : Type 0 where
+  pub number : IsNumberAt ds place
+  pub unmarked : IsMarked marks place → ⊥
+
+-- those before a place, in order
+pub record AreConstantsOf (ds : List Declaration) (marks : List Bool) (count : ℕ) (constants : List ℕ) : Type 0 where
+  pub each : (place : ℕ) → Contains constants place ↔ (IsConstantOf ds marks place × (place < count))
+  pub ascending : AllPairs ◌<◌ constants
 
 -- a claim, where the marks tell what is stored
 pub record IsClaimOf (ds : List Declaration) (marks : List Bool) (name : List ℕ) (place : ℕ) : Type 0 where
@@ -65,6 +76,7 @@ ClaimsRefused ds marks names (Command Memory) = Unit {0}
 ClaimsRefused ds marks names (Claim fault) = IsClaimFaultOf ds marks names fault
 ClaimsRefused ds marks names (Held fault) = ⊥
 ClaimsRefused ds marks names (TooManyInputs count) = ⊥
+ClaimsRefused ds marks names NoTime = ⊥
 
 -- a row holds an input, where the marks tell what is stored
 pub record HoldsOf (marks : List Bool) (row : RowValue) (s : Setting) : Type 0 where
@@ -94,3 +106,4 @@ HeldRefused marks rows (Command Memory) = Unit {0}
 HeldRefused marks rows (Claim fault) = ⊥
 HeldRefused marks rows (Held fault) = IsHeldFaultOf marks rows fault
 HeldRefused marks rows (TooManyInputs count) = ⊥
+HeldRefused marks rows NoTime = ⊥

@@ -1,10 +1,14 @@
 use Rattle.clap.specs.Words.{found_of}
 use Rattle.clap.proofs.WalkLemmas.{first_value-rows}
-use Rattle.console.proofs.Matching.{no_number, one_number}
+use Rattle.console.proofs.Matching.{no_good_number, no_number, one_number}
 use Rattle.console.proofs.command_words.number_of.Goals as goal
 
-pub returns-in-None : goal.returns-in-None
-returns-in-None c = no_number c.args.otherwise c.get_str.result _ _ c.get_str.ensures (first_value-rows (found_of c.args.matches.now) c.args.id.now) c.in-None.is
+pub returns-in-None-clause-ok : goal.returns-in-None-clause-ok
+returns-in-None-clause-ok c = no_number c.args.otherwise c.get_str.result _ _ c.get_str.ensures (first_value-rows (found_of c.args.matches.now) c.args.id.now) c.in-None.is
 
-pub returns-in-Some-number : goal.returns-in-Some-number
-returns-in-Some-number c = one_number c.args.otherwise c.get_str.result _ _ c.in-Some.text c.in-Some-number.n c.get_str.ensures (first_value-rows (found_of c.args.matches.now) c.args.id.now) c.in-Some.is c.in-Some-number.ensures
+pub returns-in-Some-number-clause-ok : goal.returns-in-Some-number-clause-ok
+returns-in-Some-number-clause-ok c = one_number c.args.otherwise c.get_str.result _ _ c.in-Some.text c.in-Some-number.n c.get_str.ensures (first_value-rows (found_of c.args.matches.now) c.args.id.now) c.in-Some.is c.in-Some-number.ensures
+
+pub returns-in_ok-error-in-None-number-clause-refused : goal.returns-in_ok-error-in-None-number-clause-refused
+returns-in_ok-error-in-None-number-clause-refused c =
+    no_good_number c.args.otherwise c.get_str.result _ _ c.in-Some.text c.in_ok-error-in-None-number.field-0 c.get_str.ensures (first_value-rows (found_of c.args.matches.now) c.args.id.now) c.in-Some.is c.in-None-number.ensures

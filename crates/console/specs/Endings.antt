@@ -1,0 +1,157 @@
+-- How commands end: with which status, and with which texts for the files of a trace. What stood in a file no contract can
+-- say, so that is some text.
+use Rattle.std.specs.Prelude.{◌≡◌, ◌⊎◌, ℕ, if◌then◌else◌, List, Bool, bytes_eq, codes, Option, Some, None, Result, Ok, Err, MatchResult}
+use Rattle.clap.specs.declared.error.kind.ErrorKind.{ErrorKind}
+use Rattle.clap.specs.declared.error.kind.ErrorKind.TheVariants as words
+use Rattle.plant.specs.PlantValue.{PlantValue}
+use Rattle.plant.specs.PlantText.{IsPlantText}
+use Rattle.text_commands.specs.CheckText.{GivesNoPlant}
+use Rattle.text_commands.specs.declared.difference.Difference.{Difference}
+use Rattle.text_commands.specs.declared.text_command_fault.TextCommandFault.{TextCommandFault}
+use Rattle.text_commands.specs.declared.traced.Traced.{Traced}
+use Rattle.traces.specs.declared.texts.TraceTexts.{TraceTexts}
+use Rattle.verifying.specs.VerifyText.{ExplainsAnswer as ExplainsVerdicts, WritesAnswer as WritesVerdicts}
+use Rattle.verifying.specs.declared.summary.Summary.{Summary}
+use Rattle.verifying.specs.declared.verify_fault.VerifyFault.{VerifyFault}
+use Rattle.world.specs.Simulated.{EndsEarly}
+use Rattle.world.specs.LiveRun.{EndsLiveRun}
+use Rattle.world.specs.declared.sim_fault.SimFault.{SimFault}
+use Rattle.world.specs.declared.live_fault.LiveFault.{LiveFault}
+use Rattle.console.specs.declared.answered.Answered.{Answered}
+use Rattle.console.specs.declared.request.SimRequest.{SimRequest}
+use Rattle.console.specs.declared.request.TextRequest.{TextRequest}
+use Rattle.console.specs.declared.request.VerifyRequest.{VerifyRequest}
+use Rattle.console.specs.Answers.{WritesAnswer, ExplainsAnswer}
+use Rattle.console.specs.CommandLine.{file_of}
+use Rattle.console.specs.Giving.{command_fault}
+use Rattle.console.specs.ShellWord.{shell_word}
+use Rattle.console.specs.Statuses.{status_of, status_of_fault, status_of_question, status_of_schedule, status_of_lines}
+use Rattle.console.specs.TracedRun.{WritesTracedRun, WritesTracedLines}
+use Rattle.console.specs.Verifying.{asked_question}
+
+-- after words that ask for nothing it is 0 where help or the version was asked for, 3 for want of memory, and else 2
+abbrev pub status_of_words : ErrorKind → ℕ
+status_of_words words.InvalidValue = 2
+status_of_words words.UnknownArgument = 2
+status_of_words words.InvalidSubcommand = 2
+status_of_words words.NoEquals = 2
+status_of_words words.ValueValidation = 2
+status_of_words words.TooManyValues = 2
+status_of_words words.TooFewValues = 2
+status_of_words words.WrongNumberOfValues = 2
+status_of_words words.ArgumentConflict = 2
+status_of_words words.MissingRequiredArgument = 2
+status_of_words words.MissingSubcommand = 2
+status_of_words words.DisplayHelp = 0
+status_of_words words.DisplayHelpOnMissingArgumentOrSubcommand = 2
+status_of_words words.DisplayVersion = 0
+status_of_words words.Io = 2
+status_of_words words.Format = 2
+status_of_words words.OutOfMemory = 3
+
+-- after a file wasn't read it is 2 for `-`, which names no file, and else 3
+abbrev pub status_of_unread : List ℕ → ℕ
+status_of_unread file = if bytes_eq file (codes "-") then 2 else 3
+
+-- it is 4 after a difference from what the words expect, and else 0
+abbrev pub status_of_difference : Option Difference → ℕ
+status_of_difference None = 0
+status_of_difference (Some difference) = 4
+
+-- no texts for the files of a trace
+pub record HasNoTexts (texts : TraceTexts) : Type 0 where
+  pub dump : texts.dump ≡ None
+  pub diagram : texts.diagram ≡ None
+
+-- it ended before anything was done, with this status
+pub record EndsWith (status : ℕ) (answered : Answered) : Type 0 where
+  pub status_is : answered.status ≡ status
+  pub none : HasNoTexts answered.texts
+
+-- how a command of one text ends, by what came of it
+abbrev pub EndsAfter : Result Traced TextCommandFault → Answered → Type 0
+EndsAfter (Ok traced) answered =
+    (answered.status ≡ status_of_difference traced.difference) × (answered.texts ≡ traced.texts)
+EndsAfter (Err fault) answered = EndsWith (status_of_fault (command_fault fault)) answered
+
+-- what was asked for was written of the text of the file, or why it wasn't; and so it ended
+pub record IsObeyed (terminal : Bool) (request : TextRequest) (answered : Answered) : Type 0 where
+  pub text : List ℕ
+  pub old : Option (List ℕ)
+  pub new : Option (List ℕ)
+  pub obeyed : Result Traced TextCommandFault
+  pub is : MatchResult obeyed (WritesAnswer terminal request text old new) (ExplainsAnswer terminal request text old new)
+  pub ended : EndsAfter obeyed answered
+
+-- how a command of one text ends
+abbrev pub EndsText : Bool → TextRequest → Answered → Type 0
+EndsText terminal request answered =
+    EndsWith (status_of_unread (file_of request)) answered ⊎ IsObeyed terminal request answered
+
+-- the status of `plc verify`, by what came of it
+abbrev pub status_of_verdicts : Result Summary VerifyFault → ℕ
+status_of_verdicts (Ok summary) = status_of summary
+status_of_verdicts (Err fault) = status_of_question fault
+
+-- the claims about the text of the file were answered, or why they weren't; and so it ended
+pub record IsVerified (request : VerifyRequest) (status : ℕ) : Type 0 where
+  pub text : List ℕ
+  pub old : Option (List ℕ)
+  pub new : Option (List ℕ)
+  pub answered : Result Summary VerifyFault
+  pub is : let question = asked_question (shell_word request.drawing.now) request in
+      MatchResult answered (WritesVerdicts text question old new) (ExplainsVerdicts text question old new)
+  pub ended : status ≡ status_of_verdicts answered
+
+-- how `plc verify` ends; 3 is also for want of memory before
+abbrev pub EndsVerify : VerifyRequest → ℕ → Type 0
+EndsVerify request status = (status ≡ status_of_unread request.drawing.now) ⊎ ((status ≡ 3) ⊎ IsVerified request status)
+
+-- why there is no plant in a file
+abbrev pub IsNoPlantStatus : List ℕ → ℕ → Type 0
+IsNoPlantStatus file status = (status ≡ status_of_unread file)
+    ⊎ ((text : List ℕ) × (fault : TextCommandFault) × GivesNoPlant text fault × (status ≡ status_of_fault (command_fault fault)))
+
+-- how a schedule ends, by what came of it
+abbrev pub EndsAfterSchedule : Result TraceTexts SimFault → Answered → Type 0
+EndsAfterSchedule (Ok texts) answered = (answered.status ≡ 0) × (answered.texts ≡ texts)
+EndsAfterSchedule (Err fault) answered = EndsWith (status_of_schedule fault) answered
+
+abbrev pub EndsAfterLines : Result TraceTexts LiveFault → Answered → Type 0
+EndsAfterLines (Ok texts) answered = (answered.status ≡ 0) × (answered.texts ≡ texts)
+EndsAfterLines (Err fault) answered = EndsWith (status_of_lines fault) answered
+
+-- the schedule of a file was done with the plant, or why it wasn't; and so it ended
+pub record IsScheduleDone (plant : PlantValue) (request : SimRequest) (answered : Answered) : Type 0 where
+  pub schedule : List ℕ
+  pub old : Option (List ℕ)
+  pub new : Option (List ℕ)
+  pub obeyed : Result TraceTexts SimFault
+  pub is : MatchResult obeyed (WritesTracedRun plant request schedule old new)
+      (EndsEarly plant request.max_number schedule old new)
+  pub ended : EndsAfterSchedule obeyed answered
+
+-- the same of the lines of standard input
+pub record AreLinesDone (plant : PlantValue) (request : SimRequest) (answered : Answered) : Type 0 where
+  pub given : Option (List ℕ)
+  pub left : Option (List ℕ)
+  pub line : List ℕ
+  pub old : Option (List ℕ)
+  pub new : Option (List ℕ)
+  pub obeyed : Result TraceTexts LiveFault
+  pub is : MatchResult obeyed (WritesTracedLines plant request given left old new)
+      (EndsLiveRun plant request.max_number given left line old new)
+  pub ended : EndsAfterLines obeyed answered
+
+-- the plant of a file, and what was done with it
+pub record IsSimulated (request : SimRequest) (answered : Answered) : Type 0 where
+  pub text : List ℕ
+  pub plant : PlantValue
+  pub read : IsPlantText text plant
+  pub done : EndsWith (status_of_unread request.schedule.now) answered
+      ⊎ (IsScheduleDone plant request answered ⊎ (EndsWith 3 answered ⊎ AreLinesDone plant request answered))
+
+-- how `plc sim` ends
+abbrev pub EndsSim : SimRequest → Answered → Type 0
+EndsSim request answered =
+    (HasNoTexts answered.texts × IsNoPlantStatus request.plant.now answered.status) ⊎ IsSimulated request answered

@@ -1,0 +1,70 @@
+-- The files of a trace that are due, and how the program ends.
+use Rattle.std.specs.Prelude.{◌≡◌, ◌⊎◌, ℕ, ◌++◌, List, [], ◌∷◌, Bool, true, Option, Some, None, string_bytes}
+use Rattle.std.specs.Option.{option_map}
+use Rattle.std.specs.Borrow.{Bor}
+use Rattle.clap.specs.Words.{Text, subcommand_of}
+use Rattle.clap.specs.Takes.{takes}
+use Rattle.clap.specs.Values.{kind_of}
+use Rattle.clap.specs.declared.error.Error.{Error}
+use Rattle.traces.specs.declared.texts.TraceTexts.{TraceTexts}
+use Rattle.console.specs.declared.answered.Answered.{Answered}
+use Rattle.console.specs.declared.request.Request.{Request}
+use Rattle.console.specs.declared.request.Request.TheVariants.{Text as OfText, Verify, Sim, Run, Node, Explain, Audit}
+use Rattle.console.specs.declared.request.TextRequest.{TextRequest}
+use Rattle.console.specs.declared.request.TraceFiles.{TraceFiles}
+use Rattle.console.specs.CommandLine.{AsksFor, OnlyMemoryRefuses, files_in, plc_app}
+use Rattle.console.specs.Endings.{EndsSim, EndsText, EndsVerify, status_of_words}
+
+-- a file's path, and the text for it
+abbrev pub FileText : Type 0
+FileText = List ℕ × List ℕ
+
+-- a file is due where it is asked for and there is a text for it
+abbrev pub due : Option (Bor (List ℕ)) → Option (List ℕ) → List FileText
+due None text = []
+due (Some file) None = []
+due (Some file) (Some text) = (file.now, text) ∷ []
+
+-- the dump, and then the diagram
+abbrev pub files_due : TraceFiles → TraceTexts → List FileText
+files_due files texts = due files.vcd (option_map (λ t. string_bytes t) texts.dump)
+    ++ due files.svg (option_map (λ t. string_bytes t) texts.diagram)
+
+-- what came, where that is known, and these behind it
+abbrev pub with_files : Option (List FileText) → List FileText → Option (List FileText)
+with_files came files = option_map (λ before. before ++ files) came
+
+-- the files that are due of the answer came; its status is that of the program, or 3 where one can't be written
+pub record EndsFiles (files : TraceFiles) (answered : Answered) (old new : Option (List FileText)) (status : ℕ) : Type 0 where
+  pub came : new ≡ with_files old (files_due files answered.texts)
+  pub status_is : (status ≡ answered.status) ⊎ (status ≡ 3)
+
+-- how the program ends for what was asked of it
+abbrev pub EndsRequest : Bool → Request → Option (List FileText) → Option (List FileText) → ℕ → Type 0
+EndsRequest terminal (OfText request) old new status =
+    (answered : Answered) × EndsText terminal request answered × EndsFiles (files_in request) answered old new status
+EndsRequest terminal (Verify request) old new status = EndsVerify request status × (new ≡ old)
+EndsRequest terminal (Sim request) old new status =
+    (answered : Answered) × EndsSim request answered × EndsFiles request.files answered old new status
+EndsRequest terminal (Run request) old new status =
+    (answered : Answered) × EndsFiles request.files answered old new status
+EndsRequest terminal (Node request) old new status = new ≡ old
+EndsRequest terminal (Explain kind) old new status = new ≡ old
+EndsRequest terminal (Audit request) old new status = new ≡ old
+
+-- the words ask for this
+pub record IsRequested (terminal : Bool) (words : List Text) (old new : Option (List FileText)) (status : ℕ) : Type 0 where
+  pub request : Request
+  pub asked : AsksFor (subcommand_of plc_app words) request
+  pub ended : EndsRequest terminal request old new status
+
+-- the words ask for nothing, or memory was refused; 3 is also where that can't be told
+pub record IsRefused (words : List Text) (old new : Option (List FileText)) (status : ℕ) : Type 0 where
+  pub error : Error
+  pub only : takes plc_app words ≡ true → OnlyMemoryRefuses (AsksFor (subcommand_of plc_app words)) error
+  pub status_is : (status ≡ status_of_words (kind_of error)) ⊎ (status ≡ 3)
+  pub none : new ≡ old
+
+-- how the program ends for the words of its command line
+abbrev pub EndsWords : Bool → List Text → Option (List FileText) → Option (List FileText) → ℕ → Type 0
+EndsWords terminal words old new status = IsRequested terminal words old new status ⊎ IsRefused words old new status
