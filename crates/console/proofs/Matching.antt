@@ -17,7 +17,7 @@ use Rattle.console.specs.declared.request.TextRequest.TheVariants.{Eval, Check, 
 use Rattle.console.specs.declared.request.View.{View}
 use Rattle.console.specs.declared.request.Color.{Color}
 use Rattle.console.specs.declared.request.Request.{Request}
-use Rattle.console.specs.declared.request.Request.TheVariants.{Text as OfText, Verify, Sim, Run, Node, Explain, Audit}
+use Rattle.console.specs.declared.request.Request.TheVariants.{Text as OfText, Verify, Sim, Run, Node, Explain, Audit, Page}
 use Rattle.console.specs.CommandLine.{AsksFor, GivesColor, GivesNumber, GivesView, IsNumber, OnlyMemoryRefuses, is_given, plc_app}
 
 -- a plus is no digit
@@ -120,6 +120,7 @@ eval_parts found (Run run) asked = absurd (unlike (codes "eval") (codes "run") r
 eval_parts found (Node node) asked = absurd (unlike (codes "eval") (codes "node") refl refl asked.0)
 eval_parts found (Explain kind) asked = absurd (unlike (codes "eval") (codes "explain") refl refl asked.0)
 eval_parts found (Audit audit) asked = absurd (unlike (codes "eval") (codes "audit") refl refl asked.0)
+eval_parts found (Page file) asked = absurd (unlike (codes "eval") (codes "page") refl refl asked.0)
 
 -- what `verify` gives by its options
 pub verify_parts : (found : List Row) (r : Request) → AsksFor (Some (codes "verify", found)) r
@@ -133,6 +134,7 @@ verify_parts found (Run run) asked = absurd (unlike (codes "verify") (codes "run
 verify_parts found (Node node) asked = absurd (unlike (codes "verify") (codes "node") refl refl asked.0)
 verify_parts found (Explain kind) asked = absurd (unlike (codes "verify") (codes "explain") refl refl asked.0)
 verify_parts found (Audit audit) asked = absurd (unlike (codes "verify") (codes "audit") refl refl asked.0)
+verify_parts found (Page file) asked = absurd (unlike (codes "verify") (codes "page") refl refl asked.0)
 
 -- what `plan` gives by its options
 pub plan_parts : (found : List Row) (r : Request) → AsksFor (Some (codes "plan", found)) r
@@ -146,6 +148,7 @@ plan_parts found (Run run) asked = absurd (unlike (codes "plan") (codes "run") r
 plan_parts found (Node node) asked = absurd (unlike (codes "plan") (codes "node") refl refl asked.0)
 plan_parts found (Explain kind) asked = absurd (unlike (codes "plan") (codes "explain") refl refl asked.0)
 plan_parts found (Audit audit) asked = absurd (unlike (codes "plan") (codes "audit") refl refl asked.0)
+plan_parts found (Page file) asked = absurd (unlike (codes "plan") (codes "page") refl refl asked.0)
 
 -- what `sim` gives by its options
 pub sim_parts : (found : List Row) (r : Request) → AsksFor (Some (codes "sim", found)) r
@@ -159,6 +162,7 @@ sim_parts found (Run run) asked = absurd (unlike (codes "sim") (codes "run") ref
 sim_parts found (Node node) asked = absurd (unlike (codes "sim") (codes "node") refl refl asked.0)
 sim_parts found (Explain kind) asked = absurd (unlike (codes "sim") (codes "explain") refl refl asked.0)
 sim_parts found (Audit audit) asked = absurd (unlike (codes "sim") (codes "audit") refl refl asked.0)
+sim_parts found (Page file) asked = absurd (unlike (codes "sim") (codes "page") refl refl asked.0)
 
 -- what `run` gives by its options
 pub run_parts : (found : List Row) (r : Request) → AsksFor (Some (codes "run", found)) r
@@ -172,8 +176,9 @@ run_parts found (Run run) asked = (run.until, asked.1.1)
 run_parts found (Node node) asked = absurd (unlike (codes "run") (codes "node") refl refl asked.0)
 run_parts found (Explain kind) asked = absurd (unlike (codes "run") (codes "explain") refl refl asked.0)
 run_parts found (Audit audit) asked = absurd (unlike (codes "run") (codes "audit") refl refl asked.0)
+run_parts found (Page file) asked = absurd (unlike (codes "run") (codes "page") refl refl asked.0)
 
--- a name of none of the nine asks for nothing
+-- a name of none of the ten asks for nothing
 pub no_command : (name : List ℕ) (found : List Row) (r : Request)
     → (name ≡ codes "eval" → ⊥)
     → (name ≡ codes "check" → ⊥)
@@ -183,16 +188,18 @@ pub no_command : (name : List ℕ) (found : List Row) (r : Request)
     → (name ≡ codes "run" → ⊥)
     → (name ≡ codes "node" → ⊥)
     → (name ≡ codes "explain" → ⊥)
-    → (name ≡ codes "audit" → ⊥) → AsksFor (Some (name, found)) r → ⊥
-no_command name found (OfText (Eval drawing dt view color files words)) no_eval no_check no_plan no_verify no_sim no_run no_node no_explain no_audit asked = no_eval asked.0
-no_command name found (OfText (Check plant)) no_eval no_check no_plan no_verify no_sim no_run no_node no_explain no_audit asked = no_check asked.0
-no_command name found (OfText (Plan plant until)) no_eval no_check no_plan no_verify no_sim no_run no_node no_explain no_audit asked = no_plan asked.0
-no_command name found (Verify verify) no_eval no_check no_plan no_verify no_sim no_run no_node no_explain no_audit asked = no_verify asked.0
-no_command name found (Sim sim) no_eval no_check no_plan no_verify no_sim no_run no_node no_explain no_audit asked = no_sim asked.0
-no_command name found (Run run) no_eval no_check no_plan no_verify no_sim no_run no_node no_explain no_audit asked = no_run asked.0
-no_command name found (Node node) no_eval no_check no_plan no_verify no_sim no_run no_node no_explain no_audit asked = no_node asked.0
-no_command name found (Explain kind) no_eval no_check no_plan no_verify no_sim no_run no_node no_explain no_audit asked = no_explain asked.0
-no_command name found (Audit audit) no_eval no_check no_plan no_verify no_sim no_run no_node no_explain no_audit asked = no_audit asked.0
+    → (name ≡ codes "audit" → ⊥)
+    → (name ≡ codes "page" → ⊥) → AsksFor (Some (name, found)) r → ⊥
+no_command name found (OfText (Eval drawing dt view color files words)) no_eval no_check no_plan no_verify no_sim no_run no_node no_explain no_audit no_page asked = no_eval asked.0
+no_command name found (OfText (Check plant)) no_eval no_check no_plan no_verify no_sim no_run no_node no_explain no_audit no_page asked = no_check asked.0
+no_command name found (OfText (Plan plant until)) no_eval no_check no_plan no_verify no_sim no_run no_node no_explain no_audit no_page asked = no_plan asked.0
+no_command name found (Verify verify) no_eval no_check no_plan no_verify no_sim no_run no_node no_explain no_audit no_page asked = no_verify asked.0
+no_command name found (Sim sim) no_eval no_check no_plan no_verify no_sim no_run no_node no_explain no_audit no_page asked = no_sim asked.0
+no_command name found (Run run) no_eval no_check no_plan no_verify no_sim no_run no_node no_explain no_audit no_page asked = no_run asked.0
+no_command name found (Node node) no_eval no_check no_plan no_verify no_sim no_run no_node no_explain no_audit no_page asked = no_node asked.0
+no_command name found (Explain kind) no_eval no_check no_plan no_verify no_sim no_run no_node no_explain no_audit no_page asked = no_explain asked.0
+no_command name found (Audit audit) no_eval no_check no_plan no_verify no_sim no_run no_node no_explain no_audit no_page asked = no_audit asked.0
+no_command name found (Page file) no_eval no_check no_plan no_verify no_sim no_run no_node no_explain no_audit no_page asked = no_page asked.0
 
 -- the words name no subcommand
 pub none_named : (command : Command) (words : List (List ℕ)) (m : ArgMatches) (r : Option (Bor (List ℕ) × Bor ArgMatches)) → r ≡ None

@@ -16,7 +16,7 @@ use Rattle.console.specs.declared.request.Color.{Color}
 use Rattle.console.specs.declared.request.Color.TheVariants.{Always, Auto, Never}
 use Rattle.console.specs.declared.request.TraceFiles.{TraceFiles}
 use Rattle.console.specs.declared.request.Request.{Request}
-use Rattle.console.specs.declared.request.Request.TheVariants.{Text as OfText, Verify, Sim, Run, Node, Explain, Audit}
+use Rattle.console.specs.declared.request.Request.TheVariants.{Text as OfText, Verify, Sim, Run, Node, Explain, Audit, Page}
 
 -- a word that must be given
 abbrev pub needed_word : Text → Rule
@@ -31,6 +31,9 @@ drawing_rule = needed_word (codes "DRAWING")
 
 abbrev pub plant_rule : Rule
 plant_rule = needed_word (codes "PLANT")
+
+abbrev pub file_rule : Rule
+file_rule = needed_word (codes "FILE")
 
 -- a word that may be left out
 abbrev pub kind_rule : Rule
@@ -167,6 +170,10 @@ journals_rule = record (new_rule (codes "JOURNAL")) {
 abbrev pub audit_app : App
 audit_app = with_rule (with_rule (new_app (codes "audit")) plant_rule) journals_rule
 
+-- `page FILE`
+abbrev pub page_app : App
+page_app = with_rule (new_app (codes "page")) file_rule
+
 -- `explain [KIND]`
 abbrev pub explain_app : App
 explain_app = with_rule (new_app (codes "explain")) kind_rule
@@ -186,11 +193,12 @@ text_app =
     with_subcommand (with_subcommand (with_subcommand (with_subcommand plc eval_app.top) verify_app.top) check_app.top)
     plan_app.top
 
--- `plc`, and one of the nine
+-- `plc`, and one of the ten
 abbrev pub plc_app : App
 plc_app =
     let run = with_subcommand (with_subcommand text_app sim_app.top) run_app.top in
-    with_subcommand (with_subcommand (with_subcommand run node_app.top) audit_app.top) explain_app.top
+    let audit = with_subcommand (with_subcommand run node_app.top) audit_app.top in
+    with_subcommand (with_subcommand audit page_app.top) explain_app.top
 
 -- digits alone are a number of 32 bits
 abbrev pub IsNumber : List ℕ → Type 0
@@ -248,6 +256,7 @@ command_of (Verify verify) = codes "verify"
 command_of (Sim sim) = codes "sim"
 command_of (Run run) = codes "run"
 command_of (Node node) = codes "node"
+command_of (Page file) = codes "page"
 command_of (Explain kind) = codes "explain"
 command_of (Audit audit) = codes "audit"
 
@@ -278,6 +287,7 @@ Asks found (Node node) =
     (node.plant.now ≡ given_word (codes "PLANT") found) × (node.resource.now ≡ given_word (codes "RESOURCE") found)
     × (option_map (λ d. d.now) node.state ≡ first_of (codes "state") found)
     × (option_map (λ f. f.now) node.journal ≡ first_of (codes "journal") found)
+Asks found (Page file) = file.now ≡ given_word (codes "FILE") found
 Asks found (Explain kind) = option_map (λ k. k.now) kind ≡ first_of (codes "KIND") found
 Asks found (Audit audit) =
     (audit.plant.now ≡ given_word (codes "PLANT") found)

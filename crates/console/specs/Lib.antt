@@ -8,4 +8,5 @@ pub mod Verifying
 pub mod TracedRun
 pub mod ShellWord
 pub mod Endings
+pub mod PageAnswer
 pub mod Steps

@@ -280,6 +280,7 @@ fn request_of<'a>(
         "run" => run_request(alloc, command, inner),
         "node" => Ok(node_request(inner)),
         "audit" => audit_request(alloc, inner),
+        "page" => Ok(Request::Page(given_word(inner, "FILE"))),
         "explain" => Ok(Request::Explain(word_of(inner, "KIND"))),
         _ => Err(command.error(ErrorKind::MissingSubcommand, "a command is missing")?),
     }

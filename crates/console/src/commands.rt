@@ -1,10 +1,10 @@
 ghost use Rattle.std.specs.Prelude.{◌≡◌, false, IfOk, codes};
 ghost use Rattle.clap.specs.Words.{app_of, new_app, rule_of};
-ghost use Rattle.console.specs.CommandLine.{needed_word, option_of, flag_of, words_rule, plant_rule, until_rule, state_rule, journal_rule, paced_rule, show_rule, chart_rule, color_rule, vcd_rule, svg_rule, traced, kind_rule, never_rule, journals_rule, shown_app, eval_app, verify_app, check_app, plan_app, limited_app, sim_app, paced_app, run_app, node_app, explain_app, audit_app, versioned, commanded, plc_app, text_app};
+ghost use Rattle.console.specs.CommandLine.{needed_word, option_of, flag_of, words_rule, plant_rule, file_rule, until_rule, state_rule, journal_rule, paced_rule, show_rule, chart_rule, color_rule, vcd_rule, svg_rule, traced, kind_rule, never_rule, journals_rule, shown_app, eval_app, verify_app, check_app, plan_app, limited_app, sim_app, paced_app, run_app, node_app, explain_app, audit_app, page_app, versioned, commanded, plc_app, text_app};
 
 use crate::help::{
-    AUDIT_HELP, CHECK_HELP, EVAL_HELP, EXPLAIN_HELP, FIRST_STEPS, NODE_HELP, PLAN_HELP, RUN_HELP,
-    SIM_HELP, VERIFY_HELP,
+    AUDIT_HELP, CHECK_HELP, EVAL_HELP, EXPLAIN_HELP, FIRST_STEPS, NODE_HELP, PAGE_HELP, PLAN_HELP,
+    RUN_HELP, SIM_HELP, VERIFY_HELP,
 };
 use crate::version::VERSION;
 use clap::{Arg, ArgAction, Command};
@@ -50,6 +50,17 @@ fn plant_arg<'a>(alloc: Global) -> Arg<'a>
     ensures local { result.global ≡ false }
 {
     needed_arg(alloc, "PLANT", "The file of the plant")
+}
+
+fn file_arg<'a>(alloc: Global) -> Arg<'a>
+    ensures rule { rule_of result ≡ file_rule }
+    ensures local { result.global ≡ false }
+{
+    needed_arg(
+        alloc,
+        "FILE",
+        "The file of the text, or - for standard input",
+    )
 }
 
 fn until_arg<'a>(alloc: Global) -> Arg<'a>
@@ -358,6 +369,15 @@ fn audit_command<'a>(alloc: Global) -> Result<Command<'a>, AllocError>
         .arg(journals_arg(alloc))
 }
 
+fn page_command<'a>(alloc: Global) -> Result<Command<'a>, AllocError>
+    ensures { IfOk result (λ c. app_of c ≡ page_app) }
+{
+    Command::new(alloc, "page")
+        .about("Makes of what plc writes, or of a drawing, a page that draws it")
+        .after_help(PAGE_HELP)
+        .arg(file_arg(alloc))
+}
+
 fn explain_command<'a>(alloc: Global) -> Result<Command<'a>, AllocError>
     ensures { IfOk result (λ c. app_of c ≡ explain_app) }
 {
@@ -407,5 +427,6 @@ pub fn commands<'a>(alloc: Global) -> Result<Command<'a>, AllocError>
         .subcommand(run_command(alloc)?)?
         .subcommand(node_command(alloc)?)?
         .subcommand(audit_command(alloc)?)?
+        .subcommand(page_command(alloc)?)?
         .subcommand(explain_command(alloc)?)
 }

@@ -51,6 +51,24 @@ pub(crate) fn file_text<R: Files + Eprint + AllocGlobal>(
     }
 }
 
+/// The text of a file, or of standard input where that is `-`; or the status after its fault was told.
+pub(crate) fn any_text<R: Files + Input + Eprint + AllocGlobal>(
+    rt: &R,
+    file: &str,
+) -> io::Result<Result<String, u8>>
+    ensures { IfOk result (λ read. IfErr read (λ status. status ≡ 3)) }
+{
+    let read = if file == STANDARD_INPUT {
+        io::read_to_string(rt.alloc(), rt.reader())
+    } else {
+        fs::read_to_string(rt, file)
+    };
+    match read {
+        Ok(text) => Ok(Ok(text)),
+        Err(error) => Ok(Err(print_unread(rt, file, &error)?)),
+    }
+}
+
 /// The bytes of a file, or the status after its fault was told. Those of a whole file aren't read from standard input.
 pub fn file_bytes<R: Files + Eprint + AllocGlobal>(
     rt: &R,

@@ -231,6 +231,19 @@ The exit status is 0 if all is shown; 1 if the text of the plant is refused, wit
 word is refused; 3 if an UNSHOWN or NOJOURNAL was written, a file can't be read, the output can't be written or there is no
 memory left.";
 
+/// What `plc page --help` tells behind the words.
+pub const PAGE_HELP: &str = "\
+A page of HTML is written that draws the text of FILE: a ladder, also with what has power in each scan (eval --show), scans
+as a timing diagram, the events of sim, run, node and audit in a lane for each resource, claims of verify with their runs. It
+is one file, needs no network, and holds the text whole: all that isn't drawn stands there as it is.
+
+Example:
+
+  $ plc eval examples/press.ladder --dt 100 LEFT=0111 RIGHT=0011 --show | plc page - >press.html
+
+The exit status is 0; 2 if a word is refused; 3 if the file can't be read or isn't UTF-8, the output can't be written or there
+is no memory left.";
+
 /// What `plc explain --help` tells behind the words.
 pub const EXPLAIN_HELP: &str = "\
 KIND is the kind of a fault as the first line of a message tells it, in either case: Crossing in drawing.ladder:3:14: Crossing;

@@ -13,6 +13,7 @@ mod files;
 mod given;
 mod help;
 mod node_prepared;
+mod page_answer;
 mod prepared;
 mod request;
 mod schedules;
@@ -31,6 +32,7 @@ pub use field_words::read_field_words;
 pub use files::{file_bytes, file_plant};
 pub use given::{given_words, print_given_fault, print_usage};
 pub use node_prepared::{PreparedNode, prepare_node};
+pub use page_answer::answer_page;
 pub use prepared::{Prepared, prepare};
 pub use request::{
     AuditRequest, Color, NodeRequest, Request, RunRequest, SimRequest, TextRequest, TraceFiles,

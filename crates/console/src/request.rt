@@ -158,6 +158,8 @@ pub enum Request<'a> {
     Node(NodeRequest<'a>),
     /// What is told of the kinds of faults of this name; all kinds, where none is named.
     Explain(Option<&'a str>),
+    /// The page that draws the text of this file, or of standard input where it is `-`.
+    Page(&'a str),
     /// What is shown of the journals of a plant's nodes.
     Audit(AuditRequest<'a>),
 }

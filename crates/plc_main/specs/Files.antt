@@ -9,11 +9,12 @@ use Rattle.clap.specs.declared.error.Error.{Error}
 use Rattle.traces.specs.declared.texts.TraceTexts.{TraceTexts}
 use Rattle.console.specs.declared.answered.Answered.{Answered}
 use Rattle.console.specs.declared.request.Request.{Request}
-use Rattle.console.specs.declared.request.Request.TheVariants.{Text as OfText, Verify, Sim, Run, Node, Explain, Audit}
+use Rattle.console.specs.declared.request.Request.TheVariants.{Text as OfText, Verify, Sim, Run, Node, Explain, Audit, Page}
 use Rattle.console.specs.declared.request.TextRequest.{TextRequest}
 use Rattle.console.specs.declared.request.TraceFiles.{TraceFiles}
 use Rattle.console.specs.CommandLine.{AsksFor, OnlyMemoryRefuses, files_in, plc_app}
 use Rattle.console.specs.Endings.{EndsSim, EndsText, EndsVerify, status_of_words}
+use Rattle.console.specs.PageAnswer.{EndsPage}
 
 -- a file's path, and the text for it
 abbrev pub FileText : Type 0
@@ -50,6 +51,7 @@ EndsRequest terminal (Run request) old new status =
     (answered : Answered) × EndsFiles request.files answered old new status
 EndsRequest terminal (Node request) old new status = new ≡ old
 EndsRequest terminal (Explain kind) old new status = new ≡ old
+EndsRequest terminal (Page file) old new status = EndsPage status × (new ≡ old)
 EndsRequest terminal (Audit request) old new status = new ≡ old
 
 -- the words ask for this

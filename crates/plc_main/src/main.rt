@@ -21,9 +21,9 @@ use audit::JournalFile;
 use audit_command::audit_text;
 use console::{
     Answered, AuditRequest, CommandFault, FAILED, Prepared, Request, RunRequest, SimRequest,
-    TextRequest, answer_kind, answer_kinds, answer_schedule, answer_text, answer_verify,
-    file_bytes, file_plant, given_words, prepare, print_failure, print_fault, print_given_fault,
-    print_usage, read_words, wanted_for,
+    TextRequest, answer_kind, answer_kinds, answer_page, answer_schedule, answer_text,
+    answer_verify, file_bytes, file_plant, given_words, prepare, print_failure, print_fault,
+    print_given_fault, print_usage, read_words, wanted_for,
 };
 use keepers::{
     BadLine, FileKeeper, FolderLock, Keeper, KeeperFault, LockFault, MemoryKeeper, SystemFolder,
@@ -456,6 +456,7 @@ fn obey_request<
         Request::Run(request) => obey_threads(rt, host, terminals, request, to),
         Request::Node(request) => answer_node(rt, host, request),
         Request::Audit(request) => answer_audit(rt, request),
+        Request::Page(file) => answer_page(rt, file),
         Request::Explain(Some(kind)) => answer_kind(rt, kind),
         Request::Explain(None) => answer_kinds(rt),
     }
