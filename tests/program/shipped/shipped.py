@@ -58,14 +58,19 @@ def make_root():
     write("tests/eval/plain/stdout", "ran eval a word\n")
 
 
+def around(with_kit):
+    """The environment, with the small repository's kit or with none."""
+    found = {**os.environ, "KIT": path_of("kit/name"), "RT_JOBS": "1"}
+    found.pop("PLC_BUILD", None)
+    without = [it for it in found["PATH"].split(":") if not os.path.exists(f"{it}/rt")]
+    found["PATH"] = ":".join([path_of("kit"), *without] if with_kit else without)
+    return found
+
+
 def ran(command, *words, folder=ROOT, with_kit=True):
     """The status, the output and what was told."""
-    around = {**os.environ, "KIT": path_of("kit/name"), "RT_JOBS": "1"}
-    around.pop("PLC_BUILD", None)
-    without = [it for it in around["PATH"].split(":") if not os.path.exists(f"{it}/rt")]
-    around["PATH"] = ":".join([path_of("kit"), *without] if with_kit else without)
     how = {"stdin": subprocess.DEVNULL, "capture_output": True, "text": True, "timeout": 120}
-    it = subprocess.run([command, *words], cwd=folder, env=around, check=False, **how)
+    it = subprocess.run([command, *words], cwd=folder, env=around(with_kit), check=False, **how)
     return it.returncode, it.stdout, it.stderr
 
 
@@ -99,7 +104,7 @@ def from_elsewhere():
         os.path.exists(path_of("dist/.looked")) and os.remove(path_of("dist/.looked"))
         expect(f"{command}", ran(command, "eval", folder=".", with_kit=False), (0, "ran eval\n", ""))
     os.remove(path_of("dist/.looked"))
-    both = [subprocess.Popen([path_of("plc"), "eval"], stdout=subprocess.PIPE, text=True) for _ in range(2)]
+    both = [subprocess.Popen([path_of("plc"), "eval"], env=around(False), stdout=subprocess.PIPE, text=True) for _ in range(2)]
     expect("twice at once", [it.communicate(timeout=60)[0] for it in both], ["ran eval\n"] * 2)
     expect("what is left in dist", sorted(os.listdir(path_of("dist"))), [".looked", "SOURCES", "plc-x86_64-linux"])
     expect("the cases alone", ran("./check", "--cases", with_kit=False)[1].splitlines()[-1:], ["1 passed, 0 failed"])
