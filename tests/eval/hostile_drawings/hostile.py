@@ -10,7 +10,11 @@ import tempfile
 from concurrent.futures import ThreadPoolExecutor
 
 ROOT = os.path.dirname(sys.argv[1])
-PROGRAM = os.path.join(ROOT, "crates", "plc_main", "out", "plc_main")
+sys.path.append(os.path.join(ROOT, "run"))
+sys.dont_write_bytecode = True
+from shipped import newest_program
+
+PROGRAM = newest_program()
 OTHERS = "|+-()/PNX"
 KINDS = (
     "NotAscii TooLarge NoLeftRail BadBox BadMark Crossing NoSource NameMissing StrayName "
