@@ -12,7 +12,7 @@ pub enum Act {
         dt: u32,
         inputs: Inputs,
     },
-    /// It restarts: it forgets all, and its incarnation rises.
+    /// It restarts: it forgets all but what its tasks retain, and its incarnation rises.
     Restart,
 }
 

@@ -13,7 +13,7 @@ pub enum RunFault {
     /// What a journal made isn't what the book has of its resource, or its first incarnation isn't the book's.
     #[error("BookDisagrees")]
     BookDisagrees,
-    /// An entry, or a restart in a journal, answers no command of its resource, or one with other contents; or a fault is told of no command of its resource, or of one that can't have met it.
+    /// An entry, or a restart in a journal, answers no command of its resource, or one with other contents; an entry has heard of an incarnation that never was; or a fault is told of no command of its resource, or of one that can't have met it.
     #[error("Stranger")]
     Stranger,
     /// In a journal the ticket of an evaluation made or of a restart isn't above that of the one before.

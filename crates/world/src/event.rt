@@ -16,7 +16,7 @@ pub enum Event {
         message: u64,
         resource: usize,
     },
-    /// A resource restarts: it forgets all, and its incarnation rises by one.
+    /// A resource restarts: it forgets all but what its tasks retain, and its incarnation rises by one.
     Restart {
         resource: usize,
     },

@@ -18,7 +18,7 @@ impl From<InputFault> for LineFault {
     ghost use Rattle.evaluation.specs.declared.input_fault.InputFault.TheVariants as input;
     ghost use Rattle.world.specs.declared.line_fault.LineFault.TheVariants.{Syntax, Write};
 
-    ghost from_gives = { λ found fault. (fault ≢ Write) × (fault ≡ Syntax → found ≢ input.Memory) };
+    ghost from_gives = { λ found fault. (fault ≢ Write) × (fault ≡ Syntax → found ≢ input.Memory) × (found ≢ input.Memory → fault ≡ Syntax) };
 
     fn from(fault: InputFault) -> LineFault {
         match fault {

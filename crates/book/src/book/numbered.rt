@@ -18,7 +18,7 @@ pub fn is_numbered(book: &Book, name: Name) -> bool
         && is_next(book, name)
 }
 
-/// A resource's present incarnation: that of its newest entry, or else its first one.
+/// A resource's present incarnation: the greatest of its first one, its entries' and what entries have heard of it.
 fn present_in(book: &Book, resource: usize) -> u32
     requires { resource < length book.now.first }
     ensures { result ≡ present_in book.now.first (reverse book.now.entries) resource }

@@ -19,11 +19,11 @@ use Rattle.world.specs.History.{Setting, is_deliver_of, heard_by, incarnation_of
 use Rattle.world.specs.Run.{IsLog, IsNextEvaluation, next_name, latest, state_before, has_reached}
 use Rattle.lists.specs.Among.{Among}
 use Rattle.book.specs.Fits.{last_in, told_of, present_in, name_from, IsKnown, IsUntorn, IsNotBack, IsOwnLatest, IsAddressed, IsMeantFor, NoneBelow, Fits, AllFit}
-use Rattle.world.proofs.Histories.Tasks.{same_task-true}
-use Rattle.world.proofs.Histories.Latest.{Rises, precedes-irreflexive}
-use Rattle.world.proofs.Histories.Names.{AllLawful, AllBefore-entry, incarnation-low, log-rises, named}
-use Rattle.world.proofs.Histories.Heard.{heard_of, heard-get, length-heard, heard_of-first, heard-is, heard-low, HasHeardWithin, heard-within, index-none, none-far, heard-many}
-use Rattle.world.proofs.Histories.Steps.{is_for, number-latest}
+use Rattle.world.specs.Steps.Histories.Tasks.{same_task-true}
+use Rattle.world.specs.Steps.Histories.Latest.{Rises, precedes-irreflexive}
+use Rattle.world.specs.Steps.Histories.Names.{AllLawful, AllBefore-entry, incarnation-low, log-rises, named}
+use Rattle.world.specs.Steps.Histories.Heard.{heard_of, heard-get, length-heard, heard_of-first, heard-is, heard-low, HasHeardWithin, heard-within, index-none, none-far, heard-many}
+use Rattle.world.specs.Steps.Histories.Steps.{is_for, number-latest}
 use Rattle.lists.proofs.Each.{Each-at, Each-from}
 use Rattle.lists.proofs.Places.{index_at}
 use Rattle.world.proofs.Consistency.Fitting.{last_among-entry, own-latest}

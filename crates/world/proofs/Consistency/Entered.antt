@@ -15,8 +15,8 @@ use Rattle.book.specs.declared.book.misfit.Misfit.TheVariants.{WrongNumber, Unkn
 use Rattle.book.specs.Fits.{Fits, AllFit}
 use Rattle.book.specs.Book.{IsMisfit}
 use Rattle.world.specs.BookLaws.{RunsFit, RunsAreEntered, HoldersAgree}
-use Rattle.world.proofs.Histories.Tasks.{same_task-itself}
-use Rattle.world.proofs.Histories.Names.{AllLawful-after, log-rises}
+use Rattle.world.specs.Steps.Histories.Tasks.{same_task-itself}
+use Rattle.world.specs.Steps.Histories.Names.{AllLawful-after, log-rises}
 use Rattle.world.proofs.Consistency.Fitting.{last_among-entry}
 use Rattle.world.proofs.Consistency.AllFits.{one_name, log-fits}
 

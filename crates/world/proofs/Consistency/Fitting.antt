@@ -12,9 +12,9 @@ use Rattle.world.specs.History.{Setting, incarnation_of}
 use Rattle.world.specs.Run.{IsLog, IsNextEvaluation, next_name, latest, last_among}
 use Rattle.lists.specs.Among.{Among}
 use Rattle.book.specs.Fits.{last_in}
-use Rattle.world.proofs.Histories.Tasks.{same_task-true, same_task-itself}
-use Rattle.world.proofs.Histories.Names.{AllLawful, length-log, incarnation-low, named}
-use Rattle.world.proofs.Histories.Steps.{latest-own_deliver, latest-restart, latest-other_restart, latest-evaluate, latest-other_evaluate, incarnation-restart}
+use Rattle.world.specs.Steps.Histories.Tasks.{same_task-true, same_task-itself}
+use Rattle.world.specs.Steps.Histories.Names.{AllLawful, length-log, incarnation-low, named}
+use Rattle.world.specs.Steps.Histories.Steps.{latest-own_deliver, latest-restart, latest-other_restart, latest-evaluate, latest-other_evaluate, incarnation-restart}
 
 -- the takes of a next evaluation
 pub taken : (s : Setting) (h : List Event) (log : List Evaluated) (k : ℕ) (t : TaskRef) (dt : ℕ) (inputs : List FieldInput) (x : Evaluated) (next : IsNextEvaluation s h log k t dt inputs x)

@@ -18,8 +18,8 @@ use Rattle.world.specs.Consistent.{TakesOnly}
 use Rattle.world.specs.BookLaws.{BooksAreConsistent}
 use Rattle.book.specs.Laws.{TakesNeverFall}
 use Rattle.world.specs.Theorem.{IsMade, ConsistencyTheorem}
-use Rattle.world.proofs.Histories.Heard.{heard-is}
-use Rattle.world.proofs.Histories.Names.{length-log, named}
+use Rattle.world.specs.Steps.Histories.Heard.{heard-is}
+use Rattle.world.specs.Steps.Histories.Names.{length-log, named}
 use Rattle.world.proofs.Worlds.Moves.{run-message}
 use Rattle.world.proofs.Consistency.Places.{next-code, takes-latest, run-consistent}
 use Rattle.world.proofs.Consistency.Entered.{holders-agree}

@@ -22,10 +22,10 @@ use Rattle.world.specs.Laws.{greater, held_with}
 use Rattle.std.specs.List.{AllByRecursion}
 use Rattle.lists.specs.Among.{Among}
 use Rattle.book.specs.Fits.{is_below}
-use Rattle.world.proofs.Histories.Tasks.{same_task-true}
-use Rattle.world.proofs.Histories.Latest.{precedes-irreflexive}
-use Rattle.world.proofs.Histories.Names.{AllLawful, length-log, before_next, AllBefore-entry, incarnation-low, log-rises, named}
-use Rattle.world.proofs.Histories.Steps.{is_for, latest-deliver, latest-own_deliver, latest-other_deliver, latest-other_restart, latest-evaluate, latest-other_evaluate, incarnation-restart}
+use Rattle.world.specs.Steps.Histories.Tasks.{same_task-true}
+use Rattle.world.specs.Steps.Histories.Latest.{precedes-irreflexive}
+use Rattle.world.specs.Steps.Histories.Names.{AllLawful, length-log, before_next, AllBefore-entry, incarnation-low, log-rises, named}
+use Rattle.world.specs.Steps.Histories.Steps.{is_for, latest-deliver, latest-own_deliver, latest-other_deliver, latest-other_restart, latest-evaluate, latest-other_evaluate, incarnation-restart}
 use Rattle.world.proofs.Consistency.Fitting.{taken, last_among-entry}
 
 not_below-trans : (a b c : ℕ × ℕ) → pair_precedes a b ≡ false → pair_precedes b c ≡ false → pair_precedes a c ≡ false

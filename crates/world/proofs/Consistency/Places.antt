@@ -27,9 +27,9 @@ use Rattle.lists.specs.Among.{Among}
 use Rattle.book.specs.Fits.{name_from, is_below, IsNotFallenFrom, IsNotFallen, NeverFall}
 use Rattle.book.specs.Laws.{TakesNeverFall}
 use Rattle.world.specs.Consistent.{IsBoundTo, HaveValuesOf, AreInitial, AreTakenFrom, TakesOnly, TakesOneEntry, IsPlace, IsConsistent}
-use Rattle.world.proofs.Histories.Tasks.{same_task-true, same_task-itself}
-use Rattle.world.proofs.Histories.Latest.{Rises}
-use Rattle.world.proofs.Histories.Names.{AllLawful, AllLawful-after, log-rises, named}
+use Rattle.world.specs.Steps.Histories.Tasks.{same_task-true, same_task-itself}
+use Rattle.world.specs.Steps.Histories.Latest.{Rises}
+use Rattle.world.specs.Steps.Histories.Names.{AllLawful, AllLawful-after, log-rises, named}
 use Rattle.world.proofs.Histories.Pairs.{message-within, rises-messages}
 use Rattle.lists.proofs.Each.{Each-at, Each-from, slice_get-among}
 use Rattle.world.proofs.Consistency.Fitting.{taken, last_among-entry}

@@ -12,9 +12,9 @@ use Rattle.evaluation.specs.Last.{same_task}
 use Rattle.world.specs.History.{history_of}
 use Rattle.world.specs.Run.{message}
 use Rattle.world.specs.Laws.{PairsRise}
-use Rattle.world.proofs.Histories.Tasks.{same_task-itself}
-use Rattle.world.proofs.Histories.Latest.{AllBefore, Rises}
-use Rattle.world.proofs.Histories.Names.{log-rises}
+use Rattle.world.specs.Steps.Histories.Tasks.{same_task-itself}
+use Rattle.world.specs.Steps.Histories.Latest.{AllBefore, Rises}
+use Rattle.world.specs.Steps.Histories.Names.{log-rises}
 use Rattle.world.proofs.Worlds.Moves.{run-message}
 
 pub message-within : (log : List Evaluated) (k : ℕ) (x : Evaluated) → message log k ≡ Some x → k ≤ length log

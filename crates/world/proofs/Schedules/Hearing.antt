@@ -14,9 +14,9 @@ use Rattle.world.specs.declared.event.Event.TheVariants.{Restart, Hear}
 use Rattle.world.specs.History.{Setting, is_lawful, after_events, incarnation_of, since_restart, heard_in, hearings_of}
 use Rattle.book.specs.Fits.{present_in, NoneBelow, HasHeardNoMore, IsWellHeard}
 use Rattle.world.specs.Schedule.{known_from, is_of_node, known_of, restarts, hearing}
-use Rattle.world.proofs.Histories.Names.{after_append, incarnation-low}
-use Rattle.world.proofs.Histories.Heard.{heard_of}
-use Rattle.world.proofs.Histories.Steps.{incarnation-restart}
+use Rattle.world.specs.Steps.Histories.Names.{after_append, incarnation-low}
+use Rattle.world.specs.Steps.Histories.Heard.{heard_of}
+use Rattle.world.specs.Steps.Histories.Steps.{incarnation-restart}
 use Rattle.world.proofs.Schedules.Scheduling.{after-lawful, Held, held-restart, held-hear, other_incarnation}
 
 -- an entry of resource n in incarnation i

@@ -15,9 +15,9 @@ use Rattle.world.specs.Run.{IsLog, IsNextEvaluation, next_name, state_before}
 use Rattle.book.specs.Fits.{last_in}
 use Rattle.world.specs.Replays.{CouldBeMade, AllCouldBeMade}
 use Rattle.world.specs.BookLaws.{AreIncarnations, RunsCouldBeMade, RunsReplay}
-use Rattle.world.proofs.Histories.Names.{AllLawful, AllLawful-after, named}
-use Rattle.world.proofs.Histories.Heard.{heard_of, heard-get, heard-is, heard_of-low, index-none}
-use Rattle.world.proofs.Histories.Steps.{incarnation-restart}
+use Rattle.world.specs.Steps.Histories.Names.{AllLawful, AllLawful-after, named}
+use Rattle.world.specs.Steps.Histories.Heard.{heard_of, heard-get, heard-is, heard_of-low, index-none}
+use Rattle.world.specs.Steps.Histories.Steps.{incarnation-restart}
 use Rattle.world.proofs.Consistency.Fitting.{own-latest}
 
 -- the present incarnation of a resource is a number of 32 bits

@@ -26,11 +26,11 @@ use Rattle.lists.specs.Among.{Among}
 use Rattle.book.specs.Fits.{last_in, told_of, present_in, name_from, is_below, IsUntorn, IsNotBack, IsOwnLatest, Fits, AllFit}
 use Rattle.world.specs.Replays.{CouldBeMade, AllCouldBeMade, Replays}
 use Rattle.world.specs.Schedule.{known_from, restarts, hearings, delivery, events_of, schedule_of}
-use Rattle.world.proofs.Histories.Names.{after_append, length-log}
-use Rattle.world.proofs.Histories.Heard.{heard_of, heard-get, index-none, none-far}
+use Rattle.world.specs.Steps.Histories.Names.{after_append, length-log}
+use Rattle.world.specs.Steps.Histories.Heard.{heard_of, heard-get, index-none, none-far}
 use Rattle.lists.proofs.Places.{same_by_slice_get, index_at}
 use Rattle.evaluation.specs.Heard.{greatest}
-use Rattle.world.proofs.Histories.Steps.{latest-other_evaluate, number-latest}
+use Rattle.world.specs.Steps.Histories.Steps.{latest-other_evaluate, number-latest}
 use Rattle.lists.proofs.Each.{Each-at}
 use Rattle.world.proofs.Consistency.Fitting.{last_among-entry, own-latest}
 use Rattle.world.proofs.Consistency.NotBack.{is_below-itself}

@@ -20,12 +20,12 @@ use Rattle.std.specs.List.{AllByRecursion}
 use Rattle.lists.specs.Among.{Among}
 use Rattle.book.specs.Fits.{name_from, is_below, IsKnown, IsAddressed, IsMeantFor}
 use Rattle.world.specs.Schedule.{is_from, message_of, taken_in, has_taken_from, last_taken, delivery_from, delivery}
-use Rattle.world.proofs.Histories.Tasks.{same_task-true, same_task-itself}
-use Rattle.world.proofs.Histories.Names.{AllLawful, after_append, length-log, log-rises}
-use Rattle.world.proofs.Histories.Heard.{heard_of}
+use Rattle.world.specs.Steps.Histories.Tasks.{same_task-true, same_task-itself}
+use Rattle.world.specs.Steps.Histories.Names.{AllLawful, after_append, length-log, log-rises}
+use Rattle.world.specs.Steps.Histories.Heard.{heard_of}
 use Rattle.lists.proofs.Each.{Each-at}
 use Rattle.world.proofs.Consistency.Places.{message-among}
-use Rattle.world.proofs.Histories.Steps.{is_for, latest-deliver, latest-other_deliver, latest-restart, latest-other_restart, incarnation-restart}
+use Rattle.world.specs.Steps.Histories.Steps.{is_for, latest-deliver, latest-other_deliver, latest-restart, latest-other_restart, incarnation-restart}
 use Rattle.world.proofs.Consistency.NotBack.{AllReach, TakesReach, takes-reach, is_below-itself, is_below-trans, deliver-not_below}
 
 -- a lawful event happens

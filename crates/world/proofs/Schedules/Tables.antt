@@ -21,7 +21,7 @@ use Rattle.world.specs.declared.schedule.tables.Seen.{Seen}
 use Rattle.world.specs.declared.schedule.tables.Tables.{Tables}
 use Rattle.world.specs.Schedule.{is_from, message_of, taken_in, has_taken_from, last_taken, is_of_node}
 use Rattle.world.specs.Steps.Tables.{before, is_of_resource, takes_from, if_in, is_of_producer, told_by, told_in, told_over, told_with, told_last, taken_in_incarnation, TellTakes, SeesMore, IsSeen, AreUnseen, Tells, IsAt}
-use Rattle.world.proofs.Histories.Tasks.{same_task-true, same_task-itself}
+use Rattle.world.specs.Steps.Histories.Tasks.{same_task-true, same_task-itself}
 use Rattle.world.proofs.Schedules.Listing.{turned-more}
 use Rattle.world.proofs.Schedules.Scheduling.{named-true, named-itself}
 

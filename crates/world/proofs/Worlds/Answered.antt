@@ -19,10 +19,10 @@ use Rattle.world.specs.Laws.{greater, held_with}
 use Rattle.world.specs.World.{WorldValue, world_of, node_takes}
 use Rattle.world.specs.Step.{Answers, IsDelivered}
 use Rattle.world.specs.Steps.Nodes.{IsNode, IsWorld}
-use Rattle.world.proofs.Histories.Tasks.{same_task-itself}
-use Rattle.world.proofs.Histories.Latest.{not_itself}
-use Rattle.world.proofs.Histories.Names.{log-rises}
-use Rattle.world.proofs.Histories.Steps.{is_for, latest-deliver}
+use Rattle.world.specs.Steps.Histories.Tasks.{same_task-itself}
+use Rattle.world.specs.Steps.Histories.Latest.{not_itself}
+use Rattle.world.specs.Steps.Histories.Names.{log-rises}
+use Rattle.world.specs.Steps.Histories.Steps.{is_for, latest-deliver}
 use Rattle.evaluation.specs.Heard.{is_addressed}
 use Rattle.world.proofs.Worlds.Takes.{usable-takes}
 use Rattle.world.proofs.Worlds.Moves.{message-usable, stays, grows, run-message}

@@ -25,9 +25,9 @@ use Rattle.world.specs.Run.{IsLog, IsNextEvaluation, next_name, latest, last_of,
 use Rattle.world.specs.World.{WorldValue, world_of, node_takes}
 use Rattle.world.specs.Step.{IsDone, IsEvaluatedNow}
 use Rattle.world.specs.Steps.Nodes.{IsNode, IsWorld}
-use Rattle.world.proofs.Histories.Names.{AllLawful, AllLawful-after}
-use Rattle.world.proofs.Histories.Heard.{heard_of, heard-get}
-use Rattle.world.proofs.Histories.Steps.{incarnation-restart, number-latest}
+use Rattle.world.specs.Steps.Histories.Names.{AllLawful, AllLawful-after}
+use Rattle.world.specs.Steps.Histories.Heard.{heard_of, heard-get}
+use Rattle.world.specs.Steps.Histories.Steps.{incarnation-restart, number-latest}
 use Rattle.world.proofs.Worlds.Takes.{node-takes}
 use Rattle.world.proofs.Worlds.Moves.{history-one_more, set-found, node-restart, node-other_restart, node-evaluate, node-other_evaluate}
 

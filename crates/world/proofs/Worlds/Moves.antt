@@ -27,10 +27,10 @@ use Rattle.world.specs.Run.{IsLog, IsNextEvaluation, next_name, latest, last_of,
 use Rattle.world.specs.World.{node_takes}
 use Rattle.world.specs.Laws.{greater, held_with}
 use Rattle.world.specs.Steps.Nodes.{kept_of, IsNode, IsWorld}
-use Rattle.world.proofs.Histories.Tasks.{same_task-true, codes_in}
-use Rattle.world.proofs.Histories.Names.{AllLawful, length-log, log-rises, named}
-use Rattle.world.proofs.Histories.Heard.{with_heard, heard-restart, heard-other_restart, heard-hear, heard-own_hear, heard-other_hear}
-use Rattle.world.proofs.Histories.Steps.{is_for, latest-deliver, latest-own_deliver, latest-other_deliver, latest-restart, latest-other_restart, latest-evaluate, latest-other_evaluate, incarnation-restart}
+use Rattle.world.specs.Steps.Histories.Tasks.{same_task-true, codes_in}
+use Rattle.world.specs.Steps.Histories.Names.{AllLawful, length-log, log-rises, named}
+use Rattle.world.specs.Steps.Histories.Heard.{with_heard, heard-restart, heard-other_restart, heard-hear, heard-own_hear, heard-other_hear}
+use Rattle.world.specs.Steps.Histories.Steps.{is_for, latest-deliver, latest-own_deliver, latest-other_deliver, latest-restart, latest-other_restart, latest-evaluate, latest-other_evaluate, incarnation-restart}
 use Rattle.world.proofs.Worlds.Takes.{usable-takes, takes-usable}
 use Rattle.world.proofs.Worlds.Leaving.{last-same, last-other}
 

@@ -19,8 +19,8 @@ use Rattle.world.specs.World.{WorldValue, node_takes}
 use Rattle.world.specs.Step.{IsDone, IsCause, IsLawfulAt, HaveRun}
 use Rattle.world.specs.Steps.Nodes.{IsNode, IsWorld}
 use Rattle.world.specs.Steps.Fresh.{AreFresh}
-use Rattle.world.proofs.Histories.Tasks.{resource_exists}
-use Rattle.world.proofs.Histories.Heard.{heard-fresh}
+use Rattle.world.specs.Steps.Histories.Tasks.{resource_exists}
+use Rattle.world.specs.Steps.Histories.Heard.{heard-fresh}
 use Rattle.std.proofs.lemmas.List.{set-get_or}
 use Rattle.exchange_core.specs.Steps.Fresh.{fresh_known, fresh_shape}
 use Rattle.world.proofs.Worlds.Moves.{slice_get-push, history-one_more}

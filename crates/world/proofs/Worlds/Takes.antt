@@ -19,7 +19,7 @@ use Rattle.world.specs.History.{Setting}
 use Rattle.world.specs.Run.{latest}
 use Rattle.world.specs.World.{node_takes}
 use Rattle.world.specs.Steps.Nodes.{IsNode}
-use Rattle.world.proofs.Histories.Tasks.{same_task-itself, same_task-true}
+use Rattle.world.specs.Steps.Histories.Tasks.{same_task-itself, same_task-true}
 
 list_any-found : {X : Type 0} (f : X → Bool) (xs : List X) (i : ℕ) (x : X) → slice_get xs i ≡ Some x → f x ≡ true → list_any f xs ≡ true
 list_any-found f xs i x at h = list_any_at f xs i x (slice_get_within xs i x at) (ap f (get_or_from_slice_get xs i x x at) ∙ h)

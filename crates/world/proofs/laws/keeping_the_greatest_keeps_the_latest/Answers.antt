@@ -1,8 +1,8 @@
 use Rattle.std.specs.Prelude.{reverse}
 use Rattle.std.proofs.lemmas.Bool.{ne_eqb}
 use Rattle.world.specs.History.{history_of}
-use Rattle.world.proofs.Histories.Names.{log-rises}
-use Rattle.world.proofs.Histories.Steps.{latest-deliver}
+use Rattle.world.specs.Steps.Histories.Names.{log-rises}
+use Rattle.world.specs.Steps.Histories.Steps.{latest-deliver}
 use Rattle.world.proofs.laws.keeping_the_greatest_keeps_the_latest.Goals as goal
 
 pub returns : goal.returns

@@ -14,10 +14,10 @@ use Rattle.evaluation.specs.Heard.{is_number, is_addressed}
 use Rattle.world.specs.History.{Setting, is_deliver_of, made_count, number_of, incarnation_of}
 use Rattle.world.specs.Run.{IsLog, IsNextEvaluation, has_reached, latest, last_among, message, next_name}
 use Rattle.world.specs.Laws.{held_with}
-use Rattle.world.proofs.Histories.Tasks.{same_task-true, same_task-itself}
-use Rattle.world.proofs.Histories.Latest.{Rises, last_among-agree, last_among-missing, last_among-arrival}
-use Rattle.world.proofs.Histories.Names.{AllLawful, length-log, named}
-use Rattle.world.proofs.Histories.Heard.{not_addressed}
+use Rattle.world.specs.Steps.Histories.Tasks.{same_task-true, same_task-itself}
+use Rattle.world.specs.Steps.Histories.Latest.{Rises, last_among-agree, last_among-missing, last_among-arrival}
+use Rattle.world.specs.Steps.Histories.Names.{AllLawful, length-log, named}
+use Rattle.world.specs.Steps.Histories.Heard.{not_addressed}
 
 pub incarnation-restart : (s : Setting) (n : ℕ) (h : List Event) → incarnation_of s n (Restart n ∷ h) ≡ incarnation_of s n h + 1
 incarnation-restart s n h = rw (eq-eqb n n refl) (omega arith)

@@ -13,8 +13,8 @@ use Rattle.world.specs.declared.event.Event.TheVariants.{Evaluate, Deliver, Rest
 use Rattle.world.specs.History.{Setting, made_count, number_of, incarnation_of, is_lawful, after_events}
 use Rattle.world.specs.Run.{IsLog, IsNextEvaluation, next_name}
 use Rattle.lists.specs.Among.{Among}
-use Rattle.world.proofs.Histories.Tasks.{same_task-true, same_task-itself}
-use Rattle.world.proofs.Histories.Latest.{AllBefore, Rises}
+use Rattle.world.specs.Steps.Histories.Tasks.{same_task-true, same_task-itself}
+use Rattle.world.specs.Steps.Histories.Latest.{AllBefore, Rises}
 
 -- each event of the history was lawful when it happened
 abbrev pub AllLawful : Setting → List Event → Type 0

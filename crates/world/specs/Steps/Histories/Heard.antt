@@ -19,7 +19,7 @@ use Rattle.world.specs.declared.event.Event.{Event}
 use Rattle.world.specs.declared.event.Event.TheVariants.{Evaluate, Deliver, Restart, Hear}
 use Rattle.world.specs.History.{Setting, heard_in, hearings_of, heard_by, since_restart, is_restart_of, incarnation_of}
 use Rattle.world.specs.Run.{IsLog, IsNextEvaluation}
-use Rattle.world.proofs.Histories.Names.{AllLawful, incarnation-low, named}
+use Rattle.world.specs.Steps.Histories.Names.{AllLawful, incarnation-low, named}
 
 -- what is heard of one resource, where that exists
 abbrev pub heard_of : Setting → ℕ → ℕ → List Event → ℕ
