@@ -28,8 +28,8 @@ ghost use Rattle.std.specs.Option.{option_map};
 ghost use Rattle.evaluation.specs.Inputs.{field_value, address_of, same_address};
 
 impl Inputs {
-    /// Inputs that list these.
-    pub(crate) fn of(alloc: Global, listed: Vec<FieldInput>) -> Result<Inputs, AllocError>
+    /// Inputs that list these. Of an address that is listed twice the first value counts.
+    pub fn of(alloc: Global, listed: Vec<FieldInput>) -> Result<Inputs, AllocError>
         ensures { IfOk result (λ inputs. inputs ≡ listed.items) }
     {
         if listed.is_empty() {
