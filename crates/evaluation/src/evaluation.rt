@@ -48,9 +48,9 @@ ghost use Rattle.evaluation.specs.Heard.{is_addressed};
 ghost use Rattle.evaluation.specs.Messages.{message_of};
 ghost use Rattle.evaluation.specs.Steps.Contents.{HaveSameContents};
 
-/// The outputs and the state after.
+/// What a code, run on these inputs and takes, `dt` milliseconds after the evaluation before, gives and leaves: the outputs and the state after.
 #[tactic(auto, unfolding(crate::specs::Meaning::Means))]
-fn outcome(
+pub fn outcome(
     alloc: Global,
     code: &TaskCode,
     inputs: &Inputs,

@@ -19,8 +19,9 @@ mod scan;
 mod take;
 mod task_state;
 
-pub use evaluation::Evaluation;
+pub use evaluation::{Evaluation, outcome};
 pub use field_input::FieldInput;
+pub use fill::fill_programs;
 pub use fits::{fits_state, suits_takes};
 pub use frame::Frame;
 pub use image::Image;
