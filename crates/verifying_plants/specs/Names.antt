@@ -1,5 +1,5 @@
 -- How outputs of a plant are named: `R.P.V`, a resource, a program instance in it, and an output of that.
-use Rattle.std.specs.Prelude.{◌≡◌, ◌==◌, ◌++◌, ℕ, true, List, Some, codes, slice_get}
+use Rattle.std.specs.Prelude.{◌≡◌, ◌==◌, ◌++◌, ℕ, true, List, [], Some, codes, slice_get}
 use Rattle.std.specs.List.{AllZip, slice_split}
 use Rattle.std.specs.Option.{option_map_or}
 use Rattle.words.specs.Chars.{same_word}

@@ -1,9 +1,11 @@
 -- How verdicts on claims about a plant are written.
 use Rattle.std.specs.Prelude.{◌≡◌, ◌==◌, ◌++◌, ℕ, Bool, true, false, List, [], ◌∷◌, Option, Some, None, codes, length, map, if◌then◌else◌, string_bytes}
-use Rattle.std.specs.Fmt.{decimal, signed_decimal}
+use Rattle.std.specs.Fmt.{decimal}
 use Rattle.std.specs.List.{filter, join_by}
+use Rattle.std_blocks.specs.declared.value.Value.TheVariants.{Bool as BoolValue, Int as IntValue}
 use Rattle.plant.specs.PlantValue.{PlantValue}
-use Rattle.verifying.specs.VerdictLines.{counted, digit_of}
+use Rattle.text_lines.specs.LineParts.{value_text}
+use Rattle.verifying.specs.VerdictLines.{counted}
 use Rattle.plant_claims.specs.declared.output.Output.{Output}
 use Rattle.plant_claims.specs.declared.field_range.FieldRange.{FieldRange}
 use Rattle.plant_claims.specs.declared.field_range.FieldRange.TheVariants.{Bit, Word}
@@ -25,17 +27,16 @@ never_text claim = if length claim == 1 then codes " is never on: " else codes "
 abbrev pub after_text : List Output → List ℕ
 after_text claim = if length claim == 1 then codes " is on after " else codes " are on together after "
 
--- the first output that is given and that no evaluation met
-abbrev pub first_unmet : List Output → List Bool → Option Output
-first_unmet [] met = None
-first_unmet (o ∷ given) [] = None
-first_unmet (o ∷ given) (true ∷ met) = first_unmet given met
-first_unmet (o ∷ given) (false ∷ met) = Some o
-
 -- how much was looked at; or, where no run meets what is given, that
+abbrev pub counts_text : ℕ → ℕ → List ℕ
+counts_text states steps = counted states (codes "state") ++ codes ", " ++ counted steps (codes "step")
+
+abbrev pub unmet_text : PlantValue → Output → List ℕ
+unmet_text plant o = codes "no run meets " ++ output_text plant o
+
 abbrev pub looked_at : PlantValue → Option Output → ℕ → ℕ → List ℕ
-looked_at plant None states steps = counted states (codes "state") ++ codes ", " ++ counted steps (codes "step")
-looked_at plant (Some o) states steps = codes "no run meets " ++ output_text plant o
+looked_at plant None states steps = counts_text states steps
+looked_at plant (Some o) states steps = unmet_text plant o
 
 abbrev pub holds_line : PlantValue → Option Output → ℕ → ℕ → List Output → List ℕ
 holds_line plant unmet states steps claim =
@@ -76,9 +77,9 @@ time_premise (Some dt) = codes "dt " ++ decimal dt ++ codes " ms"
 
 -- what an address holds, as its word tells it
 abbrev pub range_text : FieldRange → List ℕ
-range_text (Bit n v) = codes "%IX" ++ decimal n ++ codes "=" ++ digit_of v ∷ []
+range_text (Bit n v) = codes "%IX" ++ decimal n ++ codes "=" ++ value_text (BoolValue v)
 range_text (Word n least greatest) =
-    codes "%IW" ++ decimal n ++ codes "=" ++ signed_decimal least ++ codes ".." ++ signed_decimal greatest
+    codes "%IW" ++ decimal n ++ codes "=" ++ value_text (IntValue least) ++ codes ".." ++ value_text (IntValue greatest)
 
 abbrev pub restart_premises : Bool → List (List ℕ)
 restart_premises true = []

@@ -1,12 +1,11 @@
 //! The names behind `--never` and `--given`.
 
-ghost use Rattle.std.specs.Prelude.{◌≡◌, IfOk, IfErr, take, length, slice_get};
+ghost use Rattle.std.specs.Prelude.{◌≡◌, IfOk, IfErr, map};
 ghost use Rattle.std.specs.List.{AllZip};
 ghost use Rattle.task_codes.specs.CodeValue.{lists_of};
 ghost use Rattle.text_commands.specs.Rows.{texts};
 ghost use Rattle.verifying_plants.specs.Names.{IsNamed, IsClaimWord, names_in};
-ghost use Rattle.verifying_plants.specs.Questions.{IsFirstNameFault};
-ghost use Rattle.verifying_plants.specs.Steps.Reading.{IsNoClaimWord, RefusesClaims, RefusesGiven};
+ghost use Rattle.verifying_plants.specs.Steps.Reading.{IsUnnamed, RefusesClaims, RefusesGiven};
 
 use crate::output_names::find_output;
 use crate::verify_plant_fault::{NameFault, VerifyPlantFault};
@@ -14,23 +13,47 @@ use plant::Plant;
 use plant_claims::Output;
 use std::alloc::{AllocError, Global};
 
+/// The names in a word, parted by commas.
+fn parts_of<'a>(alloc: Global, word: &'a str) -> Result<Vec<&'a [u8]>, AllocError>
+    ensures { IfOk result (λ parts. map (λ p. p.now) parts.items ≡ names_in word.now) }
+{
+    let mut parts = Vec::new(alloc);
+    for part in word.as_bytes().split(|c| *c == b',') {
+        parts.push(part)?;
+    }
+    Ok(parts)
+}
+
+/// The outputs of these names; the place of the first name that isn't a BOOL output's.
+fn read_names(
+    alloc: Global,
+    plant: &Plant,
+    names: &[&[u8]],
+) -> Result<Result<Vec<Output>, usize>, AllocError>
+    ensures ok { IfOk result (λ read. IfOk read (λ outputs. AllZip (IsNamed plant.now) (map (λ n. n.now) names.now) outputs.items)) }
+    ensures err { IfOk result (λ read. IfErr read (IsUnnamed plant.now (map (λ n. n.now) names.now))) }
+{
+    let mut outputs = Vec::new(alloc);
+    for (place, name) in names.iter().enumerate() {
+        match find_output(alloc, plant, name)? {
+            Some(output) => outputs.push(output)?,
+            None => return Ok(Err(place)),
+        }
+    }
+    Ok(Ok(outputs))
+}
+
 /// The outputs of a claim; the place of its first name that isn't a BOOL output's.
 fn read_claim(
     alloc: Global,
     plant: &Plant,
     word: &str,
 ) -> Result<Result<Vec<Output>, usize>, AllocError>
-    ensures { IfOk result (λ read. IfOk read (λ claim. IsClaimWord plant.now word.now claim.items)) }
-    ensures { IfOk result (λ read. IfErr read (IsNoClaimWord plant.now word.now)) }
+    ensures ok { IfOk result (λ read. IfOk read (λ claim. IsClaimWord plant.now word.now claim.items)) }
+    ensures err { IfOk result (λ read. IfErr read (IsUnnamed plant.now (names_in word.now))) }
 {
-    let mut claim = Vec::new(alloc);
-    for (part, name) in word.as_bytes().split(|c| *c == b',').enumerate() {
-        match find_output(alloc, plant, name)? {
-            Some(output) => claim.push(output)?,
-            None => return Ok(Err(part)),
-        }
-    }
-    Ok(Ok(claim))
+    let parts = parts_of(alloc, word)?;
+    read_names(alloc, plant, &parts)
 }
 
 /// The outputs of each claim.

@@ -1,7 +1,8 @@
 //! Outputs of a plant by their names.
 
-ghost use Rattle.std.specs.Prelude.{◌≡◌, IfOk, IsTrue, OnOk, ◌↔◌};
+ghost use Rattle.std.specs.Prelude.{◌≡◌, ◌↔◌, ◌<◌, IfNone, IfOk, IfSome, IsTrue, OnOk};
 ghost use Rattle.plant.specs.Find.{Finds};
+ghost use Rattle.plant.specs.PlantValue.{IsSoundPlant};
 ghost use Rattle.text_lines.specs.Growing.{GrowsBy};
 ghost use Rattle.task_codes.specs.declared.task_ref.TaskRef.{TaskRef as TaskValue};
 ghost use Rattle.plant_claims.specs.declared.output.Output.{Output as OutputValue};
@@ -56,12 +57,7 @@ fn is_bool_output(plant: &Plant, output: Output) -> bool
 }
 
 /// Whether a word names the output there.
-fn is_named(
-    alloc: Global,
-    plant: &Plant,
-    word: &[u8],
-    output: Output,
-) -> Result<bool, AllocError>
+fn is_named(alloc: Global, plant: &Plant, word: &[u8], output: Output) -> Result<bool, AllocError>
     ensures { IfOk result (λ named. IsTrue named ↔ IsNamed plant.now word.now output) }
 {
     if !is_bool_output(plant, output) {
@@ -106,6 +102,7 @@ fn find_in_resource(
     word: &[u8],
     resource: usize,
 ) -> Result<Option<Output>, AllocError>
+    requires sound { IsSoundPlant plant.now }
     ensures some { IfOk result (λ found. IfSome found (IsNamed plant.now word.now)) }
     ensures none { IfOk result (λ found. IfNone found ((o : OutputValue) → o.task.resource ≡ resource → IsNamed plant.now word.now o → ⊥)) }
 {

@@ -9,6 +9,8 @@ use crate::output_names::push_output;
 use plant::Plant;
 use plant_claims::{FieldRange, Output, Question};
 use std::alloc::{AllocError, Global};
+use std_blocks::Value;
+use text_lines::push_value;
 
 /// How far apart evaluations are.
 fn time_premise(alloc: Global, dt: Option<u32>) -> Result<String, AllocError>
@@ -26,14 +28,21 @@ fn range_text(alloc: Global, range: FieldRange) -> Result<String, AllocError>
 {
     match range {
         FieldRange::Bit { number, value } => {
-            let digit = if value { "1" } else { "0" };
-            format!(in alloc; "%IX{number}={digit}")
+            let mut text = format!(in alloc; "%IX{number}=")?;
+            push_value(&mut text, Value::Bool(value))?;
+            Ok(text)
         }
         FieldRange::Word {
             number,
             least,
             greatest,
-        } => format!(in alloc; "%IW{number}={least}..{greatest}"),
+        } => {
+            let mut text = format!(in alloc; "%IW{number}=")?;
+            push_value(&mut text, Value::Int(least))?;
+            text.push_str("..")?;
+            push_value(&mut text, Value::Int(greatest))?;
+            Ok(text)
+        }
     }
 }
 
@@ -51,11 +60,7 @@ fn push_ranges(
     Ok(())
 }
 
-fn push_restarts(
-    alloc: Global,
-    made: &mut Vec<String>,
-    restarts: bool,
-) -> Result<(), AllocError>
+fn push_restarts(alloc: Global, made: &mut Vec<String>, restarts: bool) -> Result<(), AllocError>
     ensures { OnOk result (map (λ p. string_bytes p) made.new.items
         ≡ map (λ p. string_bytes p) made.old.items ++ restart_premises restarts) }
 {
@@ -112,5 +117,6 @@ pub(crate) fn push_premise_line(
     let joined = made.join(alloc, ", ")?;
     text.push_str("given ")?;
     text.push_str(joined.as_str())?;
-    text.push_str("\n")
+    text.push_str("\n")?;
+    Ok(())
 }

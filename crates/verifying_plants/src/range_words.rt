@@ -44,14 +44,18 @@ fn from_to(least: Option<FieldInput>, greatest: Option<FieldInput>) -> Option<Fi
 {
     match (least, greatest) {
         (
-            Some(FieldInput::Word {
-                number,
-                value: least,
-            }),
-            Some(FieldInput::Word {
-                number: _,
-                value: greatest,
-            }),
+            Some(
+                FieldInput::Word {
+                    number,
+                    value: least,
+                },
+            ),
+            Some(
+                FieldInput::Word {
+                    number: _,
+                    value: greatest,
+                },
+            ),
         ) if least <= greatest => Some(FieldRange::Word {
             number,
             least,
@@ -61,15 +65,19 @@ fn from_to(least: Option<FieldInput>, greatest: Option<FieldInput>) -> Option<Fi
     }
 }
 
+/// Where the first `=` stands.
+fn sign_in(word: &[u8]) -> Option<usize>
+    ensures value { result ≡ sign_of word.now }
+    ensures bound { IfSome result (λ i. i < length word.now) }
+{
+    word.iter().position(|c| *c == b'=')
+}
+
 /// A word with another value in the place of its own.
-fn with_value(
-    alloc: Global,
-    word: &[u8],
-    value: &[u8],
-) -> Result<Option<Vec<u8>>, AllocError>
+fn with_value(alloc: Global, word: &[u8], value: &[u8]) -> Result<Option<Vec<u8>>, AllocError>
     ensures { IfOk result (λ made. option_map (λ v. v.items) made ≡ with_value word.now value.now) }
 {
-    let Some(sign) = word.iter().position(|c| *c == b'=') else {
+    let Some(sign) = sign_in(word) else {
         return Ok(None);
     };
     let mut made = Vec::from_slice(alloc, &word[..sign + 1])?;
@@ -78,11 +86,7 @@ fn with_value(
 }
 
 /// The range of a word with a dot at this place.
-fn read_range_at(
-    alloc: Global,
-    word: &[u8],
-    dot: usize,
-) -> Result<Option<FieldRange>, AllocError>
+fn read_range_at(alloc: Global, word: &[u8], dot: usize) -> Result<Option<FieldRange>, AllocError>
     requires { dot < length word.now }
     ensures { IfOk result (λ range. range ≡ range_at dot word.now) }
 {
@@ -126,10 +130,8 @@ fn are_of_one_address(range: FieldRange, other: FieldRange) -> bool
                 value: _,
             },
         ) => number == other,
-        (
-            FieldRange::Word { number, .. },
-            FieldRange::Word { number: other, .. },
-        ) => number == other,
+        (FieldRange::Word { number, .. }, FieldRange::Word { number: other, .. }) => number
+            == other,
         _ => false,
     }
 }
@@ -138,9 +140,7 @@ fn are_of_one_address(range: FieldRange, other: FieldRange) -> bool
 fn is_told(ranges: &[FieldRange], range: FieldRange) -> bool
     ensures { IsTrue result ↔ Any (λ other. range_address other ≡ range_address range) ranges.now }
 {
-    ranges
-        .iter()
-        .any(|other| are_of_one_address(range, *other))
+    ranges.iter().any(|other| are_of_one_address(range, *other))
 }
 
 /// What the words tell of addresses.

@@ -8,7 +8,7 @@ ghost use Rattle.task_codes.specs.CodeValue.{lists_of};
 ghost use Rattle.verifying.specs.VerdictLines.{counted};
 ghost use Rattle.plant_claims.specs.declared.output.Output.{Output as OutputValue};
 ghost use Rattle.plant_claims.specs.declared.plant_verdict.PlantVerdict.{PlantVerdict as VerdictValue};
-ghost use Rattle.verifying_plants.specs.VerdictTexts.{after_text, claim_text, fails_text, first_unmet, holds_line, line_count, looked_at, never_text, reason_text, undecided_line, verdict_text};
+ghost use Rattle.verifying_plants.specs.VerdictTexts.{after_text, claim_text, counts_text, fails_text, holds_line, line_count, looked_at, never_text, reason_text, undecided_line, unmet_text, verdict_text};
 
 use crate::output_names::push_output;
 use plant::Plant;
@@ -28,19 +28,19 @@ fn push_counted(text: &mut String, count: u64, what: &str) -> Result<(), AllocEr
 fn push_claim(text: &mut String, plant: &Plant, claim: &[Output]) -> Result<(), AllocError>
     ensures { OnOk result (GrowsBy text.old text.new (claim_text plant.now claim.now)) }
 {
-    for (k, output) in claim.iter().enumerate() {
-        if k > 0 {
-            text.push_str(", ")?;
-        }
+    let [first, others @ ..] = claim else {
+        return Ok(());
+    };
+    push_output(text, plant, *first)?;
+    for output in others {
+        text.push_str(", ")?;
         push_output(text, plant, *output)?;
     }
     Ok(())
 }
 
 /// The first output that is given and that no evaluation met.
-fn first_unmet(given: &[Output], met: &[bool]) -> Option<Output>
-    ensures { result ≡ first_unmet given.now met.now }
-{
+fn first_unmet(given: &[Output], met: &[bool]) -> Option<Output> {
     for (output, is_met) in given.iter().zip(met) {
         if !is_met {
             return Some(*output);
@@ -49,44 +49,57 @@ fn first_unmet(given: &[Output], met: &[bool]) -> Option<Output>
     None
 }
 
-/// What verdicts are told with.
+/// What was counted, and the first output that is given and that no run meets.
 #[derive(Clone, Copy)]
-pub(crate) struct Told<'a> {
-    pub(crate) plant: &'a Plant,
-    pub(crate) most_states: u32,
+pub(crate) struct Counted {
     pub(crate) unmet: Option<Output>,
     pub(crate) states: usize,
     pub(crate) steps: u64,
 }
 
-fn push_looked_at(text: &mut String, told: &Told<'_>) -> Result<(), AllocError>
-    ensures { OnOk result (GrowsBy text.old text.new (looked_at told.now.plant.now told.now.unmet told.now.states told.now.steps)) }
+fn push_counts(text: &mut String, states: usize, steps: u64) -> Result<(), AllocError>
+    ensures { OnOk result (GrowsBy text.old text.new (counts_text states steps)) }
 {
-    match told.unmet {
-        None => {
-            push_counted(text, told.states as u64, "state")?;
-            text.push_str(", ")?;
-            push_counted(text, told.steps, "step")
-        }
-        Some(output) => {
-            text.push_str("no run meets ")?;
-            push_output(text, told.plant, output)
-        }
+    push_counted(text, states as u64, "state")?;
+    text.push_str(", ")?;
+    push_counted(text, steps, "step")?;
+    Ok(())
+}
+
+fn push_unmet(text: &mut String, plant: &Plant, output: Output) -> Result<(), AllocError>
+    ensures { OnOk result (GrowsBy text.old text.new (unmet_text plant.now output)) }
+{
+    text.push_str("no run meets ")?;
+    push_output(text, plant, output)?;
+    Ok(())
+}
+
+fn push_looked_at(text: &mut String, plant: &Plant, counted: Counted) -> Result<(), AllocError>
+    ensures { OnOk result (GrowsBy text.old text.new (looked_at plant.now counted.unmet counted.states counted.steps)) }
+{
+    match counted.unmet {
+        None => push_counts(text, counted.states, counted.steps),
+        Some(output) => push_unmet(text, plant, output),
     }
 }
 
-fn push_holds(text: &mut String, told: &Told<'_>, claim: &[Output]) -> Result<(), AllocError>
+fn push_holds(
+    text: &mut String,
+    plant: &Plant,
+    counted: Counted,
+    claim: &[Output],
+) -> Result<(), AllocError>
     ensures { OnOk result (GrowsBy text.old text.new
-        (holds_line told.now.plant.now told.now.unmet told.now.states told.now.steps claim.now)) }
+        (holds_line plant.now counted.unmet counted.states counted.steps claim.now)) }
 {
     text.push_str("HOLDS ")?;
-    push_claim(text, told.plant, claim)?;
+    push_claim(text, plant, claim)?;
     text.push_str(if claim.len() == 1 {
         " is never on: "
     } else {
         " are never on together: "
     })?;
-    push_looked_at(text, told)?;
+    push_looked_at(text, plant, counted)?;
     text.push_str("\n")
 }
 
@@ -99,14 +112,14 @@ fn line_count(text: &str) -> u64
 
 fn push_fails(
     text: &mut String,
-    told: &Told<'_>,
+    plant: &Plant,
     claim: &[Output],
     schedule: &str,
 ) -> Result<(), AllocError>
-    ensures { OnOk result (GrowsBy text.old text.new (fails_text told.now.plant.now claim.now schedule.now)) }
+    ensures { OnOk result (GrowsBy text.old text.new (fails_text plant.now claim.now schedule.now)) }
 {
     text.push_str("FAILS ")?;
-    push_claim(text, told.plant, claim)?;
+    push_claim(text, plant, claim)?;
     text.push_str(if claim.len() == 1 {
         " is on after "
     } else {
@@ -131,54 +144,50 @@ fn push_reason(text: &mut String, most_states: u32, why: Undecided) -> Result<()
         Undecided::TooManyRows => text.push_str(
             "the field inputs of a task may be in more than 1048576 ways; hold some by words ADDRESS=VALUE",
         ),
-        Undecided::NotChecked => text.push_str("the states that were found don't stand for every run"),
+        Undecided::NotChecked => text.push_str(
+            "the states that were found don't stand for every run",
+        ),
     }
 }
 
 fn push_undecided(
     text: &mut String,
-    told: &Told<'_>,
+    plant: &Plant,
+    most_states: u32,
     claim: &[Output],
     why: Undecided,
 ) -> Result<(), AllocError>
-    ensures { OnOk result (GrowsBy text.old text.new (undecided_line told.now.plant.now told.now.most_states claim.now why)) }
+    ensures { OnOk result (GrowsBy text.old text.new (undecided_line plant.now most_states claim.now why)) }
 {
     text.push_str("UNDECIDED ")?;
-    push_claim(text, told.plant, claim)?;
+    push_claim(text, plant, claim)?;
     text.push_str(": ")?;
-    push_reason(text, told.most_states, why)?;
+    push_reason(text, most_states, why)?;
     text.push_str("\n")
 }
 
 fn push_verdict(
     text: &mut String,
-    told: &Told<'_>,
+    plant: &Plant,
+    most_states: u32,
+    counted: Counted,
     claim: &[Output],
     verdict: &PlantVerdict,
 ) -> Result<(), AllocError>
     ensures { OnOk result (GrowsBy text.old text.new
-        (verdict_text told.now.plant.now told.now.most_states told.now.unmet told.now.states told.now.steps claim.now verdict.now)) }
+        (verdict_text plant.now most_states counted.unmet counted.states counted.steps claim.now verdict.now)) }
 {
     match verdict {
-        PlantVerdict::Holds => push_holds(text, told, claim),
-        PlantVerdict::Fails(schedule) => push_fails(text, told, claim, schedule.as_str()),
-        PlantVerdict::Undecided(why) => push_undecided(text, told, claim, *why),
+        PlantVerdict::Holds => push_holds(text, plant, counted, claim),
+        PlantVerdict::Fails(schedule) => push_fails(text, plant, claim, schedule.as_str()),
+        PlantVerdict::Undecided(why) => push_undecided(text, plant, most_states, claim, *why),
     }
 }
 
-/// What the verdicts on claims are told with.
-pub(crate) fn told_of<'a>(
-    plant: &'a Plant,
-    most_states: u32,
-    given: &[Output],
-    outcome: &PlantOutcome,
-) -> Told<'a>
-    ensures { result ≡ record { plant = plant; most_states = most_states; unmet = first_unmet given.now outcome.now.met.items; states = outcome.now.states; steps = outcome.now.steps } }
-{
-    Told {
-        plant,
-        most_states,
-        unmet: first_unmet(given, &outcome.met),
+/// What was counted of an outcome.
+pub(crate) fn counted_of(outcome: &PlantOutcome) -> Counted {
+    Counted {
+        unmet: first_unmet(&outcome.question.given, &outcome.met),
         states: outcome.states,
         steps: outcome.steps,
     }
@@ -187,17 +196,20 @@ pub(crate) fn told_of<'a>(
 /// The texts of the verdicts on claims, one behind the other.
 pub(crate) fn verdict_texts(
     alloc: Global,
-    told: &Told<'_>,
+    plant: &Plant,
+    most_states: u32,
+    counted: Counted,
     claims: &[Vec<Output>],
     verdicts: &[PlantVerdict],
 ) -> Result<String, AllocError>
+    requires long { length verdicts.now ≡ length claims.now }
     ensures { IfOk result (λ text. string_bytes text ≡ flat_map (λ (e : List OutputValue × VerdictValue).
-        verdict_text told.now.plant.now told.now.most_states told.now.unmet told.now.states told.now.steps e.0 e.1)
+        verdict_text plant.now most_states counted.unmet counted.states counted.steps e.0 e.1)
         (zip (lists_of claims.now) verdicts.now)) }
 {
     let mut text = String::new(alloc);
-    for (claim, verdict) in claims.iter().zip(verdicts) {
-        push_verdict(&mut text, told, claim, verdict)?;
+    for (k, verdict) in verdicts.iter().enumerate() {
+        push_verdict(&mut text, plant, most_states, counted, &claims[k], verdict)?;
     }
     Ok(text)
 }

@@ -1,16 +1,21 @@
 -- What is prepared of a question about a plant, and what is refused before anything is written.
-use Rattle.std.specs.Prelude.{◌≡◌, ◌≢◌, ℕ, List}
+use Rattle.std.specs.Prelude.{◌≡◌, ◌++◌, ℕ, List, Option}
+use Rattle.std.specs.Global.{Vec}
+use Rattle.std.specs.List.{AllZip, flat_map, zip}
 use Rattle.plant.specs.PlantValue.{PlantValue}
 use Rattle.plant.specs.PlantText.{IsPlantText}
 use Rattle.text_commands.specs.CheckText.{RefusesPlantText}
 use Rattle.text_commands.specs.declared.text_command_fault.TextCommandFault.TheVariants.{Text, Word, Write, Memory}
 use Rattle.verifying.specs.declared.summary.Summary.{Summary}
 use Rattle.plant_claims.specs.declared.output.Output.{Output}
+use Rattle.plant_claims.specs.declared.plant_verdict.PlantVerdict.{PlantVerdict}
 use Rattle.plant_claims.specs.Claims.{Question}
+use Rattle.plant_claims.specs.Verdicts.{IsVerdict}
 use Rattle.verifying_plants.specs.declared.verify_plant_fault.VerifyPlantFault.{VerifyPlantFault}
 use Rattle.verifying_plants.specs.declared.verify_plant_fault.VerifyPlantFault.TheVariants.{Command, Claim, Given, Range}
 use Rattle.verifying_plants.specs.Questions.{QuestionValue, IsAsked, IsFirstNameFault, IsFirstGivenFault, IsFirstRangeFault}
 use Rattle.verifying_plants.specs.Summaries.{IsSummary}
+use Rattle.verifying_plants.specs.VerdictTexts.{verdict_text, premise_line}
 use Rattle.verifying_plants.specs.VerifyPlant.{IsAnswer, IsOfPlant}
 
 -- the plant of the text, and what is asked of it
@@ -18,6 +23,19 @@ pub record IsPrepared (file : List ℕ) (v : QuestionValue) (q : Question) (clai
   pub plant : PlantValue
   pub read : IsPlantText file plant
   pub asked : IsAsked plant v q claims
+
+-- a verdict on each claim
+abbrev pub AreVerdicts : Question → List (Vec Output) → List PlantVerdict → Type 0
+AreVerdicts q claims verdicts = AllZip (λ (claim : Vec Output) verdict. IsVerdict q claim.items verdict) claims verdicts
+
+-- the text of verdicts, and behind it what they depend on
+pub record IsTold (q : Question) (most_states : ℕ) (claims : List (List Output)) (verdicts : List PlantVerdict)
+    (text : List ℕ) : Type 0 where
+  pub unmet : Option Output
+  pub states : ℕ
+  pub steps : ℕ
+  pub whole : text ≡ flat_map (λ (e : List Output × PlantVerdict). verdict_text q.plant most_states unmet states steps e.0 e.1) (zip claims verdicts)
+      ++ premise_line q
 
 -- an answer about the plant of the text, and what comes of its verdicts
 pub record IsToldAnswer (file : List ℕ) (v : QuestionValue) (text : List ℕ) (summary : Summary) : Type 0 where

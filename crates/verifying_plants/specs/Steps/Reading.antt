@@ -6,15 +6,15 @@ use Rattle.plant_claims.specs.declared.output.Output.{Output}
 use Rattle.text_commands.specs.declared.text_command_fault.TextCommandFault.TheVariants.{Memory}
 use Rattle.verifying_plants.specs.declared.verify_plant_fault.VerifyPlantFault.{VerifyPlantFault}
 use Rattle.verifying_plants.specs.declared.verify_plant_fault.VerifyPlantFault.TheVariants.{Command, Claim, Given, Range}
-use Rattle.verifying_plants.specs.Names.{IsNamed, IsClaimWord, names_in}
+use Rattle.verifying_plants.specs.Names.{IsNamed}
 use Rattle.verifying_plants.specs.Questions.{IsFirstNameFault, IsFirstGivenFault, IsFirstRangeFault}
 
--- the name at this place in a claim is the first one that no BOOL output has
-pub record IsNoClaimWord (plant : PlantValue) (word : List ℕ) (part : ℕ) : Type 0 where
+-- the name at this place is the first one that no BOOL output has
+pub record IsUnnamed (plant : PlantValue) (names : List (List ℕ)) (place : ℕ) : Type 0 where
   pub name : List ℕ
-  pub name_at : slice_get (names_in word) part ≡ Some name
+  pub at : slice_get names place ≡ Some name
   pub outputs : List Output
-  pub parts : AllZip (IsNamed plant) (take part (names_in word)) outputs
+  pub before : AllZip (IsNamed plant) (take place names) outputs
   pub unnamed : (o : Output) → IsNamed plant name o → ⊥
 
 abbrev pub IsMemory : VerifyPlantFault → Type 0

@@ -2,18 +2,20 @@ ghost use Rattle.std.specs.Prelude.{◌≡◌, IfOk, IfErr, string_bytes};
 ghost use Rattle.task_codes.specs.CodeValue.{lists_of};
 ghost use Rattle.plant.specs.PlantText.{IsPlantText};
 ghost use Rattle.verifying_plants.specs.Questions.{IsAsked, question_of};
+ghost use Rattle.verifying_plants.specs.Summaries.{IsSummary};
 ghost use Rattle.verifying_plants.specs.VerifyPlant.{ExplainsAnswer, WritesAnswer};
-ghost use Rattle.verifying_plants.specs.Steps.Answering.{IsPrepared, IsToldAnswer, RefusesPreparing};
+ghost use Rattle.verifying_plants.specs.Steps.Answering.{AreVerdicts, IsPrepared, IsTold, IsToldAnswer, RefusesPreparing};
 
 use crate::claim_words::{read_claims, read_given};
 use crate::plant_question::PlantQuestion;
 use crate::premise_texts::push_premise_line;
 use crate::range_words::read_ranges;
 use crate::summary::summary_of;
-use crate::verdict_texts::{told_of, verdict_texts};
+use crate::verdict_texts::{counted_of, verdict_texts};
 use crate::verify_plant_fault::VerifyPlantFault;
-use plant_claims::{Limits, Output, Question, verify_plant};
-use std::alloc::Global;
+use plant::Plant;
+use plant_claims::{Limits, Output, PlantOutcome, Question, verify_plant};
+use std::alloc::{AllocError, Global};
 use std::io::Write;
 use std::sync::Arc;
 use text_commands::read_plant;
@@ -50,6 +52,38 @@ fn prepare(
     Ok(Prepared { question, claims })
 }
 
+fn plant_of(question: &Question) -> &Plant
+    ensures { result.now ≡ question.now.plant }
+{
+    &question.plant
+}
+
+/// The text of the verdicts on claims, and what comes of them.
+fn tell(
+    alloc: Global,
+    most_states: u32,
+    claims: &[Vec<Output>],
+    outcome: &PlantOutcome,
+) -> Result<(String, Summary), AllocError>
+    requires { AreVerdicts outcome.now.question claims.now outcome.now.verdicts.items }
+    ensures text { IfOk result (λ r. IsTold outcome.now.question most_states (lists_of claims.now) outcome.now.verdicts.items (string_bytes r.0)) }
+    ensures summary { IfOk result (λ r. IsSummary outcome.now.verdicts.items r.1) }
+{
+    let question = &outcome.question;
+    let counted = counted_of(outcome);
+    let verdicts = outcome.verdicts.as_slice();
+    let mut text = verdict_texts(
+        alloc,
+        plant_of(question),
+        most_states,
+        counted,
+        claims,
+        verdicts,
+    )?;
+    push_premise_line(alloc, &mut text, question)?;
+    Ok((text, summary_of(verdicts)))
+}
+
 /// The text of the verdicts on the claims about a plant, and what comes of all.
 fn answer_text<P: Progress>(
     alloc: Global,
@@ -66,11 +100,8 @@ fn answer_text<P: Progress>(
         waiting: asked.most_waiting as usize,
     };
     let outcome = verify_plant(alloc, question, &claims, limits, progress)?;
-    let question = &outcome.question;
-    let told = told_of(&question.plant, asked.most_states, &question.given, &outcome);
-    let mut answer = verdict_texts(alloc, &told, &claims, &outcome.verdicts)?;
-    push_premise_line(alloc, &mut answer, question)?;
-    Ok((answer, summary_of(&outcome.verdicts)))
+    let told = tell(alloc, asked.most_states, &claims, &outcome)?;
+    Ok(told)
 }
 
 /// Tells of each claim about a plant whether its outputs are ever on together, whatever its network, its field and restarts

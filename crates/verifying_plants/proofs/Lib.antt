@@ -1,0 +1,4 @@
+pub mod Naming
+pub mod Reading
+pub mod Telling
+pub mod Answering
