@@ -1,6 +1,6 @@
 -- What the words of `plc verify` ask.
-use Rattle.std.specs.Prelude.{◌==◌, ◌&&◌, ℕ, Bool, true, false, is_none, List, [], not, unwrap_or, if◌then◌else◌, length}
-use Rattle.std.specs.List.{list_all, list_any}
+use Rattle.std.specs.Prelude.{◌==◌, ◌&&◌, ℕ, Bool, true, is_none, List, [], ◌∷◌, not, unwrap_or, if◌then◌else◌, length}
+use Rattle.std.specs.List.{list_any}
 use Rattle.console.specs.declared.request.VerifyRequest.{VerifyRequest}
 use Rattle.console.specs.declared.verify_answer.Subject.{Subject}
 use Rattle.console.specs.declared.verify_answer.Subject.TheVariants.{Drawing, Plant, Neither}
@@ -12,21 +12,25 @@ use Rattle.verifying_plants.specs.Questions.{QuestionValue as PlantQuestionValue
 abbrev pub has_dot : List ℕ → Bool
 has_dot name = list_any (λ c. c == 46) name
 
-abbrev pub all_dotted : List (List ℕ) → Bool
-all_dotted names = list_all has_dot names
+-- all names have
+abbrev pub are_dotted : List (List ℕ) → Bool
+are_dotted [] = true
+are_dotted (name ∷ names) = has_dot name && are_dotted names
 
-abbrev pub none_dotted : List (List ℕ) → Bool
-none_dotted names = list_all (λ name. not (has_dot name)) names
+-- none has
+abbrev pub are_plain : List (List ℕ) → Bool
+are_plain [] = true
+are_plain (name ∷ names) = not (has_dot name) && are_plain names
 
 -- nothing is asked that is asked of plants alone
-abbrev pub is_plain : VerifyRequest → Bool
-is_plain request = (length request.given.items == 0) && (not request.no_restarts && is_none request.most_waiting)
+abbrev pub is_of_drawings : VerifyRequest → Bool
+is_of_drawings request = (length request.given.items == 0) && (not request.no_restarts && is_none request.most_waiting)
 
 -- it is about a plant where all names have dots, about a drawing where none has, and nothing is asked of plants alone
 abbrev pub subject_of : VerifyRequest → Subject
 subject_of request =
-    if all_dotted (texts request.claims.items) && all_dotted (texts request.given.items) then Plant
-    else (if none_dotted (texts request.claims.items) && is_plain request then Drawing else Neither)
+    if are_dotted (texts request.claims.items) && are_dotted (texts request.given.items) then Plant
+    else (if are_plain (texts request.claims.items) && is_of_drawings request then Drawing else Neither)
 
 -- the claims, the words, the time between scans and the number of states of the request, for the drawing in this file
 abbrev pub asked_question : List ℕ → VerifyRequest → QuestionValue

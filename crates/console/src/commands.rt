@@ -200,7 +200,9 @@ fn never_arg<'a>(alloc: Global) -> Arg<'a>
         .value_name("NAME")
         .required(true)
         .action(ArgAction::Append)
-        .help("A BOOL variable that is never to be TRUE, or outputs R.P.V of a plant, parted by commas, that never all are; may be given several times")
+        .help(
+            "A BOOL variable that is never to be TRUE, or outputs R.P.V of a plant, parted by commas, that never all are; may be given several times",
+        )
 }
 
 fn given_arg<'a>(alloc: Global) -> Arg<'a>
@@ -211,7 +213,9 @@ fn given_arg<'a>(alloc: Global) -> Arg<'a>
         .long("given")
         .value_name("NAME")
         .action(ArgAction::Append)
-        .help("Of a plant: only runs in which each evaluation leaves this output R.P.V TRUE; may be given several times")
+        .help(
+            "Of a plant: only runs in which each evaluation leaves this output R.P.V TRUE; may be given several times",
+        )
 }
 
 /// The command `eval` without its files and words.
@@ -247,7 +251,9 @@ fn verify_command<'a>(alloc: Global) -> Result<Command<'a>, AllocError>
     ensures { IfOk result (λ c. app_of c ≡ verify_app) }
 {
     Command::new(alloc, "verify")
-        .about("Proves that variables of a drawing, or outputs of a plant, are never TRUE, or tells how they come to be")
+        .about(
+            "Proves that variables of a drawing, or outputs of a plant, are never TRUE, or tells how they come to be",
+        )
         .after_help(VERIFY_HELP)
         .arg(needed_arg(alloc, "FILE", "The file of the drawing or the plant"))?
         .arg(never_arg(alloc))?

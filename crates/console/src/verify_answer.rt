@@ -1,8 +1,9 @@
 ghost use Rattle.std.specs.Prelude.{◌≡◌, ◌⊎◌, IfOk, IfErr, Result};
+ghost use Rattle.text_commands.specs.Rows.{texts};
 ghost use Rattle.verifying.specs.VerifyText.{ExplainsAnswer, WritesAnswer};
 ghost use Rattle.verifying_plants.specs.VerifyPlant.{ExplainsAnswer as ExplainsPlantAnswer, WritesAnswer as WritesPlantAnswer};
 ghost use Rattle.console.specs.Statuses.{status_of, status_of_question, status_of_plant_question};
-ghost use Rattle.console.specs.Verifying.{asked_question, asked_of_plant, has_dot, subject_of};
+ghost use Rattle.console.specs.Verifying.{are_dotted, are_plain, asked_question, asked_of_plant, has_dot, is_of_drawings, subject_of};
 ghost use Rattle.console.specs.Endings.{EndsVerify, IsDrawingVerified, IsPlantVerified, status_of_verdicts, status_of_plant_verdicts};
 
 use crate::command_fault::CommandFault;
@@ -35,27 +36,50 @@ fn has_dot(name: &str) -> bool
     name.as_bytes().contains(&b'.')
 }
 
+fn are_dotted(names: &[&str]) -> bool
+    ensures { result ≡ are_dotted (texts names.now) }
+{
+    match names {
+        [] => true,
+        [first, others @ ..] => has_dot(first) && are_dotted(others),
+    }
+}
+
+fn are_plain(names: &[&str]) -> bool
+    ensures { result ≡ are_plain (texts names.now) }
+{
+    match names {
+        [] => true,
+        [first, others @ ..] => !has_dot(first) && are_plain(others),
+    }
+}
+
+/// Whether nothing is asked that is asked of plants alone.
+fn is_of_drawings(request: &VerifyRequest<'_>) -> bool
+    ensures { result ≡ is_of_drawings request.now }
+{
+    request.given.is_empty() && !request.no_restarts && request.most_waiting.is_none()
+}
+
 /// What a question is about: all names have dots in a plant, none in a drawing, of which only claims, words, the time and the
 /// number of states are asked.
 fn subject_of(request: &VerifyRequest<'_>) -> Subject
     ensures { result ≡ subject_of request.now }
 {
-    let named = request.claims.iter().all(|name| has_dot(name));
-    let premised = request.given.iter().all(|name| has_dot(name));
-    if named && premised {
-        return Subject::Plant;
+    if are_dotted(&request.claims) && are_dotted(&request.given) {
+        Subject::Plant
+    } else if are_plain(&request.claims) && is_of_drawings(request) {
+        Subject::Drawing
+    } else {
+        Subject::Neither
     }
-    let plain = request.claims.iter().all(|name| !has_dot(name));
-    if plain && request.given.is_empty() && !request.no_restarts && request.most_waiting.is_none() {
-        return Subject::Drawing;
-    }
-    Subject::Neither
 }
 
 /// Of how many waiting images the order is kept, unless the words say it.
 const MOST_WAITING: u32 = 8;
 
-const NEITHER: &str = "names without a dot are of a drawing, names R.P.V of a plant, and a question is about one of them; --given, --no-restarts and --most-waiting are of plants";
+const NEITHER: &str =
+    "names without a dot are of a drawing, names R.P.V of a plant, and a question is about one of them; --given, --no-restarts and --most-waiting are of plants";
 
 /// Writes what is true of the claims about the drawing in the text. The file is the word that stands for it before the words
 /// for `plc eval`. How far the search is is told meanwhile.

@@ -1,8 +1,7 @@
 -- What the words ask for is refused only for want of memory.
 use Rattle.std.proofs.Common.{codes, Some}
-use Rattle.lists.proofs.Results.{kept_fault}
-use Rattle.clap.specs.Words.{first_of, found_of, rows_of}
-use Rattle.console.specs.CommandLine.{AsksFor, GivesColor, GivesNumber, GivesView, OnlyMemoryRefuses, is_given}
+use Rattle.clap.specs.Words.{found_of, rows_of}
+use Rattle.console.specs.CommandLine.{AsksFor}
 use Rattle.console.proofs.Matching.{memory_refused}
 use Rattle.console.proofs.command_words.audit_request.Goals as goal
 

@@ -2,7 +2,7 @@
 use Rattle.std.proofs.Common.{codes, Some}
 use Rattle.lists.proofs.Results.{kept_fault}
 use Rattle.clap.specs.Words.{first_of, found_of, rows_of}
-use Rattle.console.specs.CommandLine.{AsksFor, GivesColor, GivesNumber, GivesView, OnlyMemoryRefuses, is_given}
+use Rattle.console.specs.CommandLine.{AsksFor, GivesNumber, OnlyMemoryRefuses}
 use Rattle.console.proofs.Matching.{part_refused, plan_parts}
 use Rattle.console.proofs.command_words.plan_request.Goals as goal
 

@@ -1,5 +1,5 @@
 -- Which subcommand the words name, and what it asks for; and that only want of memory refuses words that are taken.
-use Rattle.std.proofs.Common.{◌≡◌, IfErr, map, string_bytes, subst, sym, true}
+use Rattle.std.proofs.Common.{◌≡◌, map, string_bytes, subst, sym, true}
 use Rattle.std.proofs.lemmas.Result.{IfOk-weaker}
 use Rattle.lists.proofs.Results.{kept_fault}
 use Rattle.clap.specs.Takes.{takes}
