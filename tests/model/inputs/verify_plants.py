@@ -16,7 +16,7 @@ from .pieces import in_a_row, symbol
 from .plants import INTERVALS, PlantMaker, Variables
 
 # A plant with more states is drawn anew.
-MOST_STATES = 1500
+MOST_STATES = 500
 
 
 @dataclass
