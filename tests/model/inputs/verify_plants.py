@@ -233,7 +233,7 @@ def options(chance, plant):
     return [
         *(["--no-restarts"] if chance.random() < 0.4 else []),
         *(["--dt", str(chance.choice([1, 5, 10, 20]))] if chance.random() < 0.15 else []),
-        *(["--given", chance.choice(plant.bits())] if isinstance(plant, SmallPlant) and chance.random() < 0.2 else []),
+        *(["--given", chance.choice(plant.bits())] if isinstance(plant, SmallPlant) and chance.random() < 0.4 else []),
         *(["--most-waiting", "12"] if chance.random() < 0.2 else []),
         *([f"%IX{chance.randint(0, 1)}={chance.randint(0, 1)}"] if chance.random() < 0.2 else []),
         *([chance.choice(["%IW0=1", "%IW0=-2", "%IW0=0..2", "%IW0=2..3", "%iw0=-1..0"])] if chance.random() < 0.3 else []),
