@@ -101,3 +101,53 @@ def working(count, rungs, instances=1):
         text += [f"    PROGRAM {name} WITH T : WORK(A := %IX0, B := %IX1);" for name in names]
         text.append("  END_RESOURCE")
     return "\n".join(text + ["END_CONFIGURATION"]) + "\n"
+
+
+def line(*symbols):
+    """A rung of symbols, each a name and its sign."""
+    width = max(len(name) for name, _ in symbols) + 2
+    above = "".join("  " + name.ljust(width + 3) for name, _ in symbols).rstrip()
+    return f"|{above}\n+" + "-".join(f"--{sign}".ljust(width + 4, "-") for _, sign in symbols).rstrip("-")
+
+
+def asker():
+    """Who asks for the zone of `examples/zone.plant`."""
+    return [
+        "PROGRAM ASKER",
+        "VAR_INPUT WANT, PERMIT, THERE : BOOL; END_VAR",
+        "VAR_OUTPUT ASK, HERE, INSIDE : BOOL; END_VAR",
+        "VAR RETAIN KEPT : BOOL; END_VAR",
+        line(("WANT", "| |"), ("PERMIT", "|/|"), ("THERE", "| |"), ("KEPT", "(S)")),
+        line(("PERMIT", "| |"), ("WANT", "|/|"), ("KEPT", "(R)")),
+        line(("KEPT", "| |"), ("ASK", "( )")),
+        line(("HERE", "( )")),
+        line(("WANT", "| |"), ("KEPT", "| |"), ("PERMIT", "| |"), ("INSIDE", "( )")),
+        "END_PROGRAM",
+    ]
+
+
+def owner(askers):
+    """Who owns it, and gives it to one at a time."""
+    each = range(1, askers + 1)
+    text = ["PROGRAM OWNER", f"VAR_INPUT WANT, {', '.join(f'ASKED{k}, THERE{k}' for k in each)} : BOOL; END_VAR"]
+    text += [f"VAR_OUTPUT HERE, INSIDE, {', '.join(f'PERMIT{k}' for k in each)} : BOOL; END_VAR"]
+    text += [f"VAR RETAIN {', '.join(f'GIVEN{k}' for k in each)} : BOOL; END_VAR"]
+    for k in each:
+        free = [("INSIDE", "|/|"), *((f"GIVEN{it}", "|/|") for it in each if it != k)]
+        text += [line((f"ASKED{k}", "| |"), *free, (f"GIVEN{k}", "(S)"))]
+        text += [line((f"THERE{k}", "| |"), (f"ASKED{k}", "|/|"), (f"GIVEN{k}", "(R)"))]
+        text += [line((f"GIVEN{k}", "| |"), (f"PERMIT{k}", "( )"))]
+    text += [line(("HERE", "( )"))]
+    return text + [line(("WANT", "| |"), *((f"GIVEN{k}", "|/|") for k in each), ("INSIDE", "( )")), "END_PROGRAM"]
+
+
+def zone(askers):
+    """A zone as in `examples/zone.plant`, for which so many robots ask."""
+    each = range(1, askers + 1)
+    text = [*asker(), *owner(askers), "CONFIGURATION ZONE"]
+    for k in each:
+        text += [f"  RESOURCE R{k} ON NODE", "    TASK T(INTERVAL := T#10ms, PRIORITY := 1);"]
+        text += [f"    PROGRAM A WITH T : ASKER(WANT := %IX0, PERMIT := OWNS.O.PERMIT{k}, THERE := OWNS.O.HERE);", "  END_RESOURCE"]
+    asked = ", ".join(f"ASKED{k} := R{k}.A.ASK, THERE{k} := R{k}.A.HERE" for k in each)
+    text += ["  RESOURCE OWNS ON NODE", "    TASK T(INTERVAL := T#10ms, PRIORITY := 1);"]
+    return "\n".join([*text, f"    PROGRAM O WITH T : OWNER(WANT := %IX0, {asked});", "  END_RESOURCE", "END_CONFIGURATION"]) + "\n"

@@ -7,9 +7,9 @@ import time
 RUNS = 3
 
 
-def least_of(words, lines=os.devnull, files=()):
+def least_of(words, lines=os.devnull, files=(), statuses=(0,)):
     """The least seconds and the most kB of some runs that read this file, each without these files before it."""
-    return least([timed(words, lines, files) for _ in range(RUNS)])
+    return least([timed(words, lines, files, statuses) for _ in range(RUNS)])
 
 
 def least_in_turn(programs):
@@ -22,7 +22,7 @@ def least(runs):
     return min(took for took, _ in runs), max(memory for _, memory in runs)
 
 
-def timed(words, lines=os.devnull, files=()):
+def timed(words, lines=os.devnull, files=(), statuses=(0,)):
     """The seconds and the kB of one run."""
     for it in filter(os.path.exists, files):
         os.remove(it)
@@ -32,6 +32,6 @@ def timed(words, lines=os.devnull, files=()):
         _, status, usage = os.wait4(child.pid, 0)
         took = time.monotonic() - started
     child.returncode = os.waitstatus_to_exitcode(status)
-    if child.returncode:
+    if child.returncode not in statuses:
         sys.exit(f"{' '.join(map(os.path.basename, words[:2]))} ended with status {child.returncode}")
     return took, usage.ru_maxrss

@@ -81,7 +81,7 @@ class PlantMaker:
             if declared or self.chance.random() < 0.1:
                 listed = " ".join(f"{it} : {cased(self.chance, kind)};" for it, kind in declared.items())
                 yield f"{self.keyword(section)} {listed} {self.keyword('END_VAR')}{self.comment()}"
-        yield from Drawer(self.chance, variables.names()).drawing(self.chance.randint(1, 4), rows_of(variables.retained))
+        yield from self.drawer(variables.names()).drawing(self.chance.randint(1, 4), rows_of(variables.retained))
         yield self.keyword("END_PROGRAM")
 
     def resource(self, resource):
@@ -112,8 +112,14 @@ class PlantMaker:
         if choice < 0.12:
             return None
         if kind != "TIME" and (choice < 0.3 or not outputs):
-            return f"{cased(self.chance, '%IX' if kind == 'BOOL' else '%IW')}{self.chance.randint(0, 3)}"
+            return self.address(kind)
         return cased(self.chance, self.chance.choice(outputs)) if outputs else None
+
+    def address(self, kind):
+        return f"{cased(self.chance, '%IX' if kind == 'BOOL' else '%IW')}{self.chance.randint(0, 3)}"
+
+    def drawer(self, names):
+        return Drawer(self.chance, names)
 
     def keyword(self, word):
         return cased(self.chance, word)

@@ -18,6 +18,7 @@ from .run import Run, do_in_turns, lines_of_run
 from .scan import Ladder, State
 from .schedule import MOST_U32, events_of
 from .traces import Track, diagram, dump
+from . import verify_plant
 from .verify import MOST_INPUTS, TIMERS, Search, line_of, premises, stored_names, verdict_lines
 
 REFUSED_TEXT, REFUSED_WORDS, NO_FILE, DIFFERS, UNDECIDED = 1, 2, 3, 4, 5
@@ -61,7 +62,7 @@ COLORS = ("always", "auto", "never")
 
 SHAPES = {
     "eval": Shape(1, ("--dt",), {"--color": COLORS}, ("--vcd", "--svg"), ("--show", "--chart"), has_more=True),
-    "verify": Shape(1, numbers=("--dt", "--most-states"), lists=("--never",), needed=("--never",), has_more=True),
+    "verify": Shape(1, ("--dt", "--most-states", "--most-waiting"), flags=("--no-restarts",), lists=("--never", "--given"), needed=("--never",), has_more=True),
     "check": Shape(1),
     "plan": Shape(1, numbers=("--until",), needed=("--until",)),
     "sim": Shape(2, numbers=("--max-number",), names=("--vcd", "--svg")),
@@ -279,7 +280,46 @@ def rows_of(given, variables):
     return rows, expected
 
 
+OF_PLANTS = {"--given", "--no-restarts", "--most-waiting"}
+MOST_STATES, MOST_WAITING = 1_000_000, 8
+
+
 def verify(write, files, paths, options, more):
+    """Names of one part make the file a drawing, names of three a plant."""
+    names = [name for claim in options["--never"] for name in claim.split(",")]
+    dots = {it.count(".") for it in [*names, *options.get("--given", ())]}
+    if dots == {2}:
+        verify_plants(write, files.plant(paths[0]), options, more)
+    elif dots == {0} and "" not in names and not OF_PLANTS & set(options):
+        verify_drawing(write, files, paths, options, more)
+    else:
+        raise Refused(REFUSED_WORDS)
+
+
+def verify_plants(write, plant, options, more):
+    question, claims = question_of(plant, options, more)
+    searches = [verify_plant.Search(question, it, options.get("--most-states", MOST_STATES), options.get("--most-waiting", MOST_WAITING)).search() for it in claims]
+    for search, name in zip(searches, options["--never"]):
+        for line in verify_plant.verdict_lines(search, name):
+            write(line)
+    write("given " + ", ".join(verify_plant.premises(question)))
+    if any(it.steps for it in searches):
+        raise Refused(CLAIM_FAILS)
+    if any(it.loose_steps or not it.is_whole for it in searches):
+        raise Refused(UNDECIDED)
+
+
+def question_of(plant, options, more):
+    """What words ask of a plant: what is looked at, and the claims."""
+    try:
+        given = [verify_plant.output_named(plant, it) for it in options.get("--given", ())]
+        claims = [[verify_plant.output_named(plant, name) for name in it.split(",")] for it in options["--never"]]
+        return verify_plant.Question(plant, options.get("--dt"), verify_plant.held_by(more), given, "--no-restarts" not in options), claims
+    except verify_plant.BadWord:
+        raise Refused(REFUSED_WORDS) from None
+
+
+def verify_drawing(write, files, paths, options, more):
     ladder = files.ladder(paths[0])
     bits = [words.fold(it.name) for it in ladder.declarations if it.role != "Instance" and it.kind == "BOOL"]
     stored = stored_names(ladder.drawing)
