@@ -18,7 +18,7 @@ use Rattle.console.specs.declared.request.View.{View}
 use Rattle.console.specs.declared.request.Color.{Color}
 use Rattle.console.specs.declared.request.Request.{Request}
 use Rattle.console.specs.declared.request.Request.TheVariants.{Text as OfText, Verify, Sim, Run, Node, Explain, Audit, Page}
-use Rattle.console.specs.CommandLine.{AsksFor, GivesColor, GivesNumber, GivesView, IsNumber, OnlyMemoryRefuses, is_given, plc_app}
+use Rattle.console.specs.CommandLine.{AsksFor, GivesColor, GivesNumber, GivesOption, GivesView, IsNumber, OnlyMemoryRefuses, is_given, plc_app}
 
 -- a plus is no digit
 pub plus_is_none : (text : List ℕ) → (slice_index text 0 == 43) ≡ true → IsNumber text → ⊥
@@ -54,6 +54,18 @@ pub no_good_number : (otherwise : ℕ) (r : Option (Bor (List ℕ))) (v w : Opti
 no_good_number otherwise r v w text error e f is bad n gives =
     let given : w ≡ Some text.now = sym (e ∙ f) ∙ ap (option_map (λ s. s.now)) is in
     absurd (bad (subst (λ t. GivesNumber otherwise t n) given gives).0)
+
+pub no_option : (r : Option (Bor (List ℕ))) (v w : Option (List ℕ)) → option_map (λ s. s.now) r ≡ v → v ≡ w → r ≡ None → GivesOption w None
+no_option r v w e f is = subst (λ t. GivesOption t None) (sym (ap (option_map (λ s. s.now)) is) ∙ e ∙ f) tt
+
+pub one_option : (r : Option (Bor (List ℕ))) (v w : Option (List ℕ)) (text : Bor (List ℕ)) (n : ℕ) → option_map (λ s. s.now) r ≡ v → v ≡ w → r ≡ Some text → IsNumber text.now × (n ≡ digits_value 10 text.now) → GivesOption w (Some n)
+one_option r v w text n e f is number = subst (λ t. GivesOption t (Some n)) (sym (ap (option_map (λ s. s.now)) is) ∙ e ∙ f) number
+
+pub no_good_option : (r : Option (Bor (List ℕ))) (v w : Option (List ℕ)) (text : Bor (List ℕ)) (error : Error) → option_map (λ s. s.now) r ≡ v → v ≡ w → r ≡ Some text → (IsNumber text.now → ⊥) → OnlyMemoryRefuses (GivesOption w) error
+no_good_option r v w text error e f is bad n gives = by n (subst (λ t. GivesOption t n) (sym (e ∙ f) ∙ ap (option_map (λ s. s.now)) is) gives) where
+  by : (n : Option ℕ) → GivesOption (Some text.now) n → kind_of error ≡ OutOfMemory
+  by None gives = absurd gives
+  by (Some n) gives = absurd (bad gives.0)
 
 -- a command with one more subcommand, which has no global argument
 pub one_more : (old sub new : Command) (a b : App) → AddsSubcommand old sub new → app_of old ≡ a → app_of sub ≡ b → b.top.is_plain ≡ true → app_of new ≡ with_subcommand a b.top
@@ -124,11 +136,11 @@ eval_parts found (Page file) asked = absurd (unlike (codes "eval") (codes "page"
 
 -- what `verify` gives by its options
 pub verify_parts : (found : List Row) (r : Request) → AsksFor (Some (codes "verify", found)) r
-    → (n : ℕ) × (m : ℕ) × GivesNumber 0 (first_of (codes "dt") found) n × GivesNumber 1000000 (first_of (codes "most-states") found) m
+    → (n : Option ℕ) × (m : ℕ) × (k : Option ℕ) × GivesOption (first_of (codes "dt") found) n × GivesNumber 1000000 (first_of (codes "most-states") found) m × GivesOption (first_of (codes "most-waiting") found) k
 verify_parts found (OfText (Eval drawing dt view color files words)) asked = absurd (unlike (codes "verify") (codes "eval") refl refl asked.0)
 verify_parts found (OfText (Check plant)) asked = absurd (unlike (codes "verify") (codes "check") refl refl asked.0)
 verify_parts found (OfText (Plan plant until)) asked = absurd (unlike (codes "verify") (codes "plan") refl refl asked.0)
-verify_parts found (Verify verify) asked = (verify.dt, verify.most_states, asked.1.2, asked.1.3)
+verify_parts found (Verify verify) asked = (verify.dt, verify.most_states, verify.most_waiting, asked.1.4, asked.1.5, asked.1.6)
 verify_parts found (Sim sim) asked = absurd (unlike (codes "verify") (codes "sim") refl refl asked.0)
 verify_parts found (Run run) asked = absurd (unlike (codes "verify") (codes "run") refl refl asked.0)
 verify_parts found (Node node) asked = absurd (unlike (codes "verify") (codes "node") refl refl asked.0)

@@ -102,6 +102,16 @@ never_rule = record (new_rule (codes "never")) {
 abbrev pub most_states_rule : Rule
 most_states_rule = option_of (codes "most-states")
 
+abbrev pub most_waiting_rule : Rule
+most_waiting_rule = option_of (codes "most-waiting")
+
+-- an option `--given NAME`, any number of times
+abbrev pub given_rule : Rule
+given_rule = record (new_rule (codes "given")) { action = Some Append; long = Some (codes "given"); value_names = 1 }
+
+abbrev pub no_restarts_rule : Rule
+no_restarts_rule = flag_of (codes "no-restarts")
+
 -- any number of words
 abbrev pub words_rule : Rule
 words_rule = record (new_rule (codes "words")) {
@@ -120,11 +130,12 @@ shown_app =
 abbrev pub eval_app : App
 eval_app = with_rule (traced shown_app) words_rule
 
--- `verify DRAWING --never NAME [--dt MS] [--most-states N] [NAME=BIT]..`
+-- `verify FILE --never NAME [--given NAME] [--no-restarts] [--dt MS] [--most-states N] [--most-waiting N] [WORD]..`
 abbrev pub verify_app : App
 verify_app =
-    let never = with_rule (with_rule (new_app (codes "verify")) drawing_rule) never_rule in
-    with_rule (with_rule (with_rule never dt_rule) most_states_rule) words_rule
+    let never = with_rule (with_rule (new_app (codes "verify")) file_rule) never_rule in
+    let given = with_rule (with_rule never given_rule) no_restarts_rule in
+    with_rule (with_rule (with_rule (with_rule given dt_rule) most_states_rule) most_waiting_rule) words_rule
 
 -- `check PLANT`
 abbrev pub check_app : App
@@ -209,6 +220,13 @@ abbrev pub GivesNumber : ℕ → Option (List ℕ) → ℕ → Type 0
 GivesNumber otherwise None n = n ≡ otherwise
 GivesNumber otherwise (Some text) n = IsNumber text × (n ≡ digits_value 10 text)
 
+-- the number of an option that may be left out
+abbrev pub GivesOption : Option (List ℕ) → Option ℕ → Type 0
+GivesOption None None = Unit {0}
+GivesOption None (Some n) = ⊥
+GivesOption (Some text) None = ⊥
+GivesOption (Some text) (Some n) = IsNumber text × (n ≡ digits_value 10 text)
+
 -- what stands for a word by its id in what was found
 abbrev pub given_word : Text → List Row → List ℕ
 given_word id found = unwrap_or (first_of id found) []
@@ -220,6 +238,10 @@ words_given found = unwrap_or (all_of (codes "words") found) []
 -- the names behind each `--never`, in order
 abbrev pub claims_given : List Row → List Text
 claims_given found = unwrap_or (all_of (codes "never") found) []
+
+-- the names behind each `--given`, in order
+abbrev pub premises_given : List Row → List Text
+premises_given found = unwrap_or (all_of (codes "given") found) []
 
 -- the names of journals, in order
 abbrev pub journals_given : List Row → List Text
@@ -271,10 +293,13 @@ Asks found (OfText (Check plant)) = plant.now ≡ given_word (codes "PLANT") fou
 Asks found (OfText (Plan plant until)) =
     (plant.now ≡ given_word (codes "PLANT") found) × GivesNumber 0 (first_of (codes "until") found) until
 Asks found (Verify verify) =
-    (verify.drawing.now ≡ given_word (codes "DRAWING") found)
+    (verify.file.now ≡ given_word (codes "FILE") found)
     × (map (λ w. w.now) verify.claims.items ≡ claims_given found)
-    × GivesNumber 0 (first_of (codes "dt") found) verify.dt
+    × (map (λ w. w.now) verify.given.items ≡ premises_given found)
+    × (verify.no_restarts ≡ is_given (codes "no-restarts") found)
+    × GivesOption (first_of (codes "dt") found) verify.dt
     × GivesNumber 1000000 (first_of (codes "most-states") found) verify.most_states
+    × GivesOption (first_of (codes "most-waiting") found) verify.most_waiting
     × (map (λ w. w.now) verify.words.items ≡ words_given found)
 Asks found (Sim sim) =
     (sim.plant.now ≡ given_word (codes "PLANT") found) × (sim.schedule.now ≡ given_word (codes "SCHEDULE") found)

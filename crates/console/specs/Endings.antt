@@ -13,6 +13,8 @@ use Rattle.traces.specs.declared.texts.TraceTexts.{TraceTexts}
 use Rattle.verifying.specs.VerifyText.{ExplainsAnswer as ExplainsVerdicts, WritesAnswer as WritesVerdicts}
 use Rattle.verifying.specs.declared.summary.Summary.{Summary}
 use Rattle.verifying.specs.declared.verify_fault.VerifyFault.{VerifyFault}
+use Rattle.verifying_plants.specs.VerifyPlant.{ExplainsAnswer as ExplainsPlantVerdicts, WritesAnswer as WritesPlantVerdicts}
+use Rattle.verifying_plants.specs.declared.verify_plant_fault.VerifyPlantFault.{VerifyPlantFault}
 use Rattle.world.specs.Simulated.{EndsEarly}
 use Rattle.world.specs.LiveRun.{EndsLiveRun}
 use Rattle.world.specs.declared.sim_fault.SimFault.{SimFault}
@@ -25,9 +27,11 @@ use Rattle.console.specs.Answers.{WritesAnswer, ExplainsAnswer}
 use Rattle.console.specs.CommandLine.{file_of}
 use Rattle.console.specs.Giving.{command_fault}
 use Rattle.console.specs.ShellWord.{shell_word}
-use Rattle.console.specs.Statuses.{status_of, status_of_fault, status_of_question, status_of_schedule, status_of_lines}
+use Rattle.console.specs.Statuses.{status_of, status_of_fault, status_of_question, status_of_plant_question, status_of_schedule, status_of_lines}
 use Rattle.console.specs.TracedRun.{WritesTracedRun, WritesTracedLines}
-use Rattle.console.specs.Verifying.{asked_question}
+use Rattle.console.specs.declared.verify_answer.Subject.{Subject}
+use Rattle.console.specs.declared.verify_answer.Subject.TheVariants.{Drawing, Plant, Neither}
+use Rattle.console.specs.Verifying.{asked_question, asked_of_plant, subject_of}
 
 -- after words that ask for nothing it is 0 where help or the version was asked for, 3 for want of memory, and else 2
 abbrev pub status_of_words : ErrorKind → ℕ
@@ -93,19 +97,41 @@ abbrev pub status_of_verdicts : Result Summary VerifyFault → ℕ
 status_of_verdicts (Ok summary) = status_of summary
 status_of_verdicts (Err fault) = status_of_question fault
 
--- the claims about the text of the file were answered, or why they weren't; and so it ended
-pub record IsVerified (request : VerifyRequest) (status : ℕ) : Type 0 where
-  pub text : List ℕ
+-- the claims about the drawing in a text were answered, or why they weren't; and so it ended
+pub record IsDrawingVerified (request : VerifyRequest) (text : List ℕ) (status : ℕ) : Type 0 where
   pub old : Option (List ℕ)
   pub new : Option (List ℕ)
   pub answered : Result Summary VerifyFault
-  pub is : let question = asked_question (shell_word request.drawing.now) request in
+  pub is : let question = asked_question (shell_word request.file.now) request in
       MatchResult answered (WritesVerdicts text question old new) (ExplainsVerdicts text question old new)
   pub ended : status ≡ status_of_verdicts answered
 
--- how `plc verify` ends; 3 is also for want of memory before
+-- the status of `plc verify` of a plant, by what came of it
+abbrev pub status_of_plant_verdicts : Result Summary VerifyPlantFault → ℕ
+status_of_plant_verdicts (Ok summary) = status_of summary
+status_of_plant_verdicts (Err fault) = status_of_plant_question fault
+
+-- the same of the plant in a text
+pub record IsPlantVerified (request : VerifyRequest) (text : List ℕ) (status : ℕ) : Type 0 where
+  pub old : Option (List ℕ)
+  pub new : Option (List ℕ)
+  pub answered : Result Summary VerifyPlantFault
+  pub is : MatchResult answered (WritesPlantVerdicts text (asked_of_plant request) old new)
+      (ExplainsPlantVerdicts text (asked_of_plant request) old new)
+  pub ended : status ≡ status_of_plant_verdicts answered
+
+-- how a question about such a thing ends: the file isn't read, or its text is answered; of a drawing 3 is also for want of
+-- memory before. A question about neither ends with 2.
+abbrev pub EndsAbout : VerifyRequest → Subject → ℕ → Type 0
+EndsAbout request Drawing status = (status ≡ status_of_unread request.file.now)
+    ⊎ ((text : List ℕ) × ((status ≡ 3) ⊎ IsDrawingVerified request text status))
+EndsAbout request Plant status =
+    (status ≡ status_of_unread request.file.now) ⊎ ((text : List ℕ) × IsPlantVerified request text status)
+EndsAbout request Neither status = status ≡ 2
+
+-- how `plc verify` ends
 abbrev pub EndsVerify : VerifyRequest → ℕ → Type 0
-EndsVerify request status = (status ≡ status_of_unread request.drawing.now) ⊎ ((status ≡ 3) ⊎ IsVerified request status)
+EndsVerify request status = EndsAbout request (subject_of request) status
 
 -- why there is no plant in a file
 abbrev pub IsNoPlantStatus : List ℕ → ℕ → Type 0

@@ -3,7 +3,7 @@ ghost use Rattle.std.specs.Option.{option_map};
 ghost use Rattle.std.specs.Str.Parse.{digits_value};
 ghost use Rattle.clap.specs.Words.{rows_of, found_of, first_of, subcommand_of};
 ghost use Rattle.clap.specs.Takes.{takes};
-ghost use Rattle.console.specs.CommandLine.{plc_app, IsNumber, GivesNumber, AsksFiles, AsksFor, OnlyMemoryRefuses, given_word, words_given, claims_given, journals_given, is_given, GivesView, GivesColor};
+ghost use Rattle.console.specs.CommandLine.{plc_app, IsNumber, GivesNumber, GivesOption, AsksFiles, AsksFor, OnlyMemoryRefuses, given_word, words_given, claims_given, premises_given, journals_given, is_given, GivesView, GivesColor};
 
 use crate::commands::commands;
 use crate::request::{
@@ -51,6 +51,26 @@ fn number_of<'a>(
     }
 }
 
+/// The number of an option, where it is given.
+fn number_if_given<'a>(
+    command: &mut Command<'a>,
+    matches: &ArgMatches<'a>,
+    id: &str,
+    refusal: &'static str,
+) -> Result<Option<u32>, Error>
+    ensures ok { IfOk result (GivesOption (first_of id.now (rows_of (found_of matches.now)))) }
+    ensures refused { IfErr result
+        (OnlyMemoryRefuses (GivesOption (first_of id.now (rows_of (found_of matches.now))))) }
+{
+    match matches.get_str(id) {
+        None => Ok(None),
+        Some(text) => match number(text) {
+            Some(n) => Ok(Some(n)),
+            None => Err(command.error(ErrorKind::ValueValidation, refusal)?),
+        },
+    }
+}
+
 /// The word that stands for an argument.
 fn given_word<'a>(matches: &ArgMatches<'a>, id: &str) -> &'a str
     ensures { result.now ≡ given_word id.now (rows_of (found_of matches.now)) }
@@ -92,6 +112,15 @@ fn claims_given<'a>(alloc: Global, matches: &ArgMatches<'a>) -> Result<Vec<&'a s
 {
     match matches.get_strs("never") {
         Some(claims) => Vec::from_slice(alloc, claims),
+        None => Ok(Vec::new(alloc)),
+    }
+}
+
+fn premises_given<'a>(alloc: Global, matches: &ArgMatches<'a>) -> Result<Vec<&'a str>, AllocError>
+    ensures { IfOk result (λ given. map (λ w. w.now) given.items ≡ premises_given (rows_of (found_of matches.now))) }
+{
+    match matches.get_strs("given") {
+        Some(given) => Vec::from_slice(alloc, given),
         None => Ok(Vec::new(alloc)),
     }
 }
@@ -178,15 +207,23 @@ fn verify_request<'a>(
     ensures refused { IfErr result (OnlyMemoryRefuses (AsksFor (Some (codes "verify", rows_of (found_of inner.now))))) }
 {
     Ok(Request::Verify(VerifyRequest {
-        drawing: given_word(inner, "DRAWING"),
+        file: given_word(inner, "FILE"),
         claims: claims_given(alloc, inner)?,
-        dt: number_of(command, inner, "dt", 0, DT_REFUSED)?,
+        given: premises_given(alloc, inner)?,
+        no_restarts: is_given(inner, "no-restarts"),
+        dt: number_if_given(command, inner, "dt", DT_REFUSED)?,
         most_states: number_of(
             command,
             inner,
             "most-states",
             MOST_STATES,
             "N of --most-states is a number from 0 to 4294967295",
+        )?,
+        most_waiting: number_if_given(
+            command,
+            inner,
+            "most-waiting",
+            "N of --most-waiting is a number from 0 to 4294967295",
         )?,
         words: words_given(alloc, inner)?,
     }))

@@ -1,6 +1,6 @@
 ghost use Rattle.std.specs.Prelude.{◌≡◌, false, IfOk, codes};
 ghost use Rattle.clap.specs.Words.{app_of, new_app, rule_of};
-ghost use Rattle.console.specs.CommandLine.{needed_word, option_of, flag_of, words_rule, plant_rule, file_rule, until_rule, state_rule, journal_rule, paced_rule, show_rule, chart_rule, color_rule, vcd_rule, svg_rule, traced, kind_rule, never_rule, journals_rule, shown_app, eval_app, verify_app, check_app, plan_app, limited_app, sim_app, paced_app, run_app, node_app, explain_app, audit_app, page_app, versioned, commanded, plc_app, text_app};
+ghost use Rattle.console.specs.CommandLine.{needed_word, option_of, flag_of, words_rule, plant_rule, file_rule, until_rule, state_rule, journal_rule, paced_rule, show_rule, chart_rule, color_rule, vcd_rule, svg_rule, traced, kind_rule, never_rule, given_rule, journals_rule, shown_app, eval_app, verify_app, check_app, plan_app, limited_app, sim_app, paced_app, run_app, node_app, explain_app, audit_app, page_app, versioned, commanded, plc_app, text_app};
 
 use crate::help::{
     AUDIT_HELP, CHECK_HELP, EVAL_HELP, EXPLAIN_HELP, FIRST_STEPS, NODE_HELP, PAGE_HELP, PLAN_HELP,
@@ -200,7 +200,18 @@ fn never_arg<'a>(alloc: Global) -> Arg<'a>
         .value_name("NAME")
         .required(true)
         .action(ArgAction::Append)
-        .help("A BOOL variable that is never to be TRUE; may be given several times")
+        .help("A BOOL variable that is never to be TRUE, or outputs R.P.V of a plant, parted by commas, that never all are; may be given several times")
+}
+
+fn given_arg<'a>(alloc: Global) -> Arg<'a>
+    ensures rule { rule_of result ≡ given_rule }
+    ensures local { result.global ≡ false }
+{
+    Arg::new(alloc, "given")
+        .long("given")
+        .value_name("NAME")
+        .action(ArgAction::Append)
+        .help("Of a plant: only runs in which each evaluation leaves this output R.P.V TRUE; may be given several times")
 }
 
 /// The command `eval` without its files and words.
@@ -236,15 +247,21 @@ fn verify_command<'a>(alloc: Global) -> Result<Command<'a>, AllocError>
     ensures { IfOk result (λ c. app_of c ≡ verify_app) }
 {
     Command::new(alloc, "verify")
-        .about("Proves that variables of a drawing are never TRUE, or tells how they come to be")
+        .about("Proves that variables of a drawing, or outputs of a plant, are never TRUE, or tells how they come to be")
         .after_help(VERIFY_HELP)
-        .arg(needed_arg(alloc, "DRAWING", "The file of the drawing"))?
+        .arg(needed_arg(alloc, "FILE", "The file of the drawing or the plant"))?
         .arg(never_arg(alloc))?
+        .arg(given_arg(alloc))?
+        .arg(flag_arg(
+            alloc,
+            "no-restarts",
+            "Of a plant: only runs in which no resource restarts",
+        ))?
         .arg(number_arg(
             alloc,
             "dt",
             "MS",
-            "The time between two scans in milliseconds, 0 to 4294967295 [default: 0]",
+            "The time between two scans or evaluations in milliseconds, 0 to 4294967295 [default: 0 of a drawing, each task's INTERVAL of a plant]",
         ))?
         .arg(number_arg(
             alloc,
@@ -252,10 +269,16 @@ fn verify_command<'a>(alloc: Global) -> Result<Command<'a>, AllocError>
             "N",
             "How many states are looked at before the search is given up, 0 to 4294967295 [default: 1000000]",
         ))?
+        .arg(number_arg(
+            alloc,
+            "most-waiting",
+            "N",
+            "Of a plant: of how many images between a task and a resource the order is kept, 0 to 4294967295 [default: 8]",
+        ))?
         .arg(words_arg(
             alloc,
-            "NAME=BIT",
-            "An input that has this value in every scan",
+            "WORD",
+            "Of a drawing NAME=BIT, an input that has this value in every scan; of a plant ADDRESS=VALUE or ADDRESS=LEAST..GREATEST, what a field address holds",
         ))
 }
 

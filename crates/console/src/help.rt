@@ -77,6 +77,17 @@ Example:
   HOLDS TIED_DOWN is never on: 24 states, 96 scans
   given dt 100 ms
 
+Names R.P.V, parted by commas, make FILE a plant: of these BOOL outputs V of program instances P in resources R never all
+are TRUE, whatever the network loses, delays, repeats or overtakes, and whoever restarts. Each task is evaluated at any moment,
+with its INTERVAL as the time since the evaluation before (--dt MS: all with MS). Each %IX is free in each evaluation, and each
+%IW is 0; a word %IX0=1, %IW2=-7 or %IW3=0..4 says what an address holds. --no-restarts leaves restarts out, --given R.P.V all
+runs in which an evaluation leaves V FALSE. HOLDS and UNDECIDED are told likewise; behind FAILS stands a schedule, which plc sim
+does. If UNDECIDED says that no run was found while an order was kept, a larger --most-waiting may decide.
+
+Example:
+
+  $ plc verify examples/zone.plant --never R1.A.INSIDE,R2.O.INSIDE
+
 The exit status is 0 if all claims hold; 4 if one fails; 5 if none fails and one is undecided; 1 if the text of the drawing
 is refused, with FILE:LINE:COLUMN: Kind on standard error; 2 if a word is refused; 3 if the file can't be read, the output
 can't be written or there is no memory left.";

@@ -93,14 +93,18 @@ impl<'a> TextRequest<'a> {
     }
 }
 
-/// Whether variables of a drawing are ever TRUE, whatever its inputs do; each scan is `dt` milliseconds after the one
-/// before. The claims name the variables; at most `most_states` states are looked at; the words hold inputs at a value.
+/// Whether variables of a drawing, or outputs of a plant, are ever TRUE. The claims name them: by names without a dot the
+/// file is a drawing, by names `R.P.V` a plant. `dt` is the time between scans or evaluations in ms. What is given, restarts
+/// and `most_waiting` are of plants. At most `most_states` states are looked at; the words hold inputs.
 #[derive(Drop)]
 pub struct VerifyRequest<'a> {
-    pub drawing: &'a str,
+    pub file: &'a str,
     pub claims: Vec<&'a str>,
-    pub dt: u32,
+    pub given: Vec<&'a str>,
+    pub no_restarts: bool,
+    pub dt: Option<u32>,
     pub most_states: u32,
+    pub most_waiting: Option<u32>,
     pub words: Vec<&'a str>,
 }
 

@@ -1,8 +1,9 @@
-ghost use Rattle.std.specs.Prelude.{◌≡◌, IfOk, IfErr};
+ghost use Rattle.std.specs.Prelude.{◌≡◌, ◌⊎◌, IfOk, IfErr, Result};
 ghost use Rattle.verifying.specs.VerifyText.{ExplainsAnswer, WritesAnswer};
-ghost use Rattle.console.specs.Statuses.{status_of, status_of_question};
-ghost use Rattle.console.specs.Verifying.{asked_question};
-ghost use Rattle.console.specs.Endings.{EndsVerify, status_of_verdicts};
+ghost use Rattle.verifying_plants.specs.VerifyPlant.{ExplainsAnswer as ExplainsPlantAnswer, WritesAnswer as WritesPlantAnswer};
+ghost use Rattle.console.specs.Statuses.{status_of, status_of_question, status_of_plant_question};
+ghost use Rattle.console.specs.Verifying.{asked_question, asked_of_plant, has_dot, subject_of};
+ghost use Rattle.console.specs.Endings.{EndsVerify, IsDrawingVerified, IsPlantVerified, status_of_verdicts, status_of_plant_verdicts};
 
 use crate::command_fault::CommandFault;
 use crate::faults::{print_failure, print_fault, print_fault_of_word};
@@ -16,6 +17,45 @@ use std::io::Write;
 use std::rt::{Clock, Files};
 use text_lines::{OnTerminal, Progress};
 use verifying::{ClaimFaultKind, Question, Summary, VerifyFault, verify_text};
+use verifying_plants::{PlantQuestion, VerifyPlantFault, verify_plant_text};
+
+/// What a question is about.
+#[derive(Clone, Copy, Debug, PartialEq, Eq)]
+pub enum Subject {
+    Drawing,
+    Plant,
+    /// Names are of neither, or what is asked is of plants alone.
+    Neither,
+}
+
+/// Whether a name has a dot, as those in a plant have.
+fn has_dot(name: &str) -> bool
+    ensures { result ≡ has_dot name.now }
+{
+    name.as_bytes().contains(&b'.')
+}
+
+/// What a question is about: all names have dots in a plant, none in a drawing, of which only claims, words, the time and the
+/// number of states are asked.
+fn subject_of(request: &VerifyRequest<'_>) -> Subject
+    ensures { result ≡ subject_of request.now }
+{
+    let named = request.claims.iter().all(|name| has_dot(name));
+    let premised = request.given.iter().all(|name| has_dot(name));
+    if named && premised {
+        return Subject::Plant;
+    }
+    let plain = request.claims.iter().all(|name| !has_dot(name));
+    if plain && request.given.is_empty() && !request.no_restarts && request.most_waiting.is_none() {
+        return Subject::Drawing;
+    }
+    Subject::Neither
+}
+
+/// Of how many waiting images the order is kept, unless the words say it.
+const MOST_WAITING: u32 = 8;
+
+const NEITHER: &str = "names without a dot are of a drawing, names R.P.V of a plant, and a question is about one of them; --given, --no-restarts and --most-waiting are of plants";
 
 /// Writes what is true of the claims about the drawing in the text. The file is the word that stands for it before the words
 /// for `plc eval`. How far the search is is told meanwhile.
@@ -34,7 +74,7 @@ pub fn obey_verify<W: Write, P: Progress>(
         file,
         claims: &request.claims,
         words: &request.words,
-        dt: request.dt,
+        dt: request.dt.unwrap_or(0),
         most_states: request.most_states,
     };
     verify_text(alloc, text, &question, writer, progress)
@@ -62,7 +102,7 @@ fn print_verify_fault<R: Eprint + AllocGlobal>(
 {
     match fault {
         VerifyFault::Command(fault) => {
-            print_fault(rt, request.drawing, text, &request.words, fault.into())
+            print_fault(rt, request.file, text, &request.words, fault.into())
         }
         VerifyFault::Claim(fault) => {
             let is_unknown = fault.kind == ClaimFaultKind::NoVariable;
@@ -93,20 +133,83 @@ fn tell_verdicts<R: Eprint + AllocGlobal>(
     }
 }
 
-/// Reads a drawing, and writes what is true of the claims about it; the status. `told` is whether the search tells on
-/// standard error how far it is.
-pub fn answer_verify<R: Files + Clock + Print + Eprint + AllocGlobal>(
+/// Writes what is true of the claims about the plant in the text. How far the search is is told meanwhile.
+pub fn obey_verify_plant<W: Write, P: Progress>(
+    alloc: Global,
+    request: &VerifyRequest<'_>,
+    text: &str,
+    writer: &mut W,
+    progress: &mut P,
+) -> Result<Summary, VerifyPlantFault>
+    ensures ok { IfOk result (WritesPlantAnswer text.now (asked_of_plant request.now) (W.contents writer.old) (W.contents writer.new)) }
+    ensures fault { IfErr result (ExplainsPlantAnswer text.now (asked_of_plant request.now) (W.contents writer.old) (W.contents writer.new)) }
+{
+    let question = PlantQuestion {
+        claims: &request.claims,
+        given: &request.given,
+        words: &request.words,
+        dt: request.dt,
+        restarts: !request.no_restarts,
+        most_states: request.most_states,
+        most_waiting: request.most_waiting.unwrap_or(MOST_WAITING),
+    };
+    verify_plant_text(alloc, text, &question, writer, progress)
+}
+
+/// Tells why there is no answer about a plant; the status.
+fn print_verify_plant_fault<R: Eprint + AllocGlobal>(
+    rt: &R,
+    request: &VerifyRequest<'_>,
+    text: &str,
+    fault: VerifyPlantFault,
+) -> io::Result<u8>
+    ensures { IfOk result (λ status. status ≡ status_of_plant_question fault) }
+{
+    match fault {
+        VerifyPlantFault::Command(fault) => {
+            print_fault(rt, request.file, text, &request.words, fault.into())
+        }
+        VerifyPlantFault::Claim(fault) => {
+            print_fault_of_word(rt, text, &request.claims, fault.number, false, fault)
+        }
+        VerifyPlantFault::Given(fault) => {
+            print_fault_of_word(rt, text, &request.given, fault.number, false, fault)
+        }
+        VerifyPlantFault::Range(fault) => {
+            print_fault_of_word(rt, text, &request.words, fault.number, false, fault)
+        }
+        VerifyPlantFault::TooManyRows => {
+            eprintln!(rt; "plc: {fault}")?;
+            Ok(WORD_REFUSED)
+        }
+    }
+}
+
+/// Tells why there is no answer about a plant, if there is none; the status.
+fn tell_plant_verdicts<R: Eprint + AllocGlobal>(
+    rt: &R,
+    request: &VerifyRequest<'_>,
+    text: &str,
+    answered: Result<Summary, VerifyPlantFault>,
+) -> io::Result<u8>
+    ensures { IfOk result (λ status. status ≡ status_of_plant_verdicts answered) }
+{
+    match answered {
+        Ok(summary) => Ok(status_of(summary)),
+        Err(fault) => print_verify_plant_fault(rt, request, text, fault),
+    }
+}
+
+/// Writes what is true of the claims about the drawing in the text; the status.
+fn answer_drawing<R: Clock + Print + Eprint + AllocGlobal>(
     rt: &R,
     told: bool,
     request: &VerifyRequest<'_>,
+    text: &str,
 ) -> io::Result<u8>
-    ensures { IfOk result (EndsVerify request.now) }
+    ensures { IfOk result (λ status. (status ≡ 3) ⊎ IsDrawingVerified request.now text.now status) }
 {
-    let text = match file_text(rt, request.drawing)? {
-        Ok(text) => text,
-        Err(status) => return Ok(status),
-    };
-    let Ok(file) = shell_word(rt.alloc(), request.drawing) else {
+    let Ok(file) = shell_word(rt.alloc(), request.file) else {
         return print_failure(rt, CommandFault::Memory);
     };
     let mut writer = io::writer(rt);
@@ -115,10 +218,51 @@ pub fn answer_verify<R: Files + Clock + Print + Eprint + AllocGlobal>(
         rt.alloc(),
         request,
         file.as_str(),
-        text.as_str(),
+        text,
         &mut writer,
         &mut progress,
     );
     progress.end();
-    tell_verdicts(rt, request, text.as_str(), answered)
+    tell_verdicts(rt, request, text, answered)
+}
+
+/// Writes what is true of the claims about the plant in the text; the status.
+fn answer_plant<R: Clock + Print + Eprint + AllocGlobal>(
+    rt: &R,
+    told: bool,
+    request: &VerifyRequest<'_>,
+    text: &str,
+) -> io::Result<u8>
+    ensures { IfOk result (IsPlantVerified request.now text.now) }
+{
+    let mut writer = io::writer(rt);
+    let mut progress = OnTerminal::new(rt, told);
+    let answered = obey_verify_plant(rt.alloc(), request, text, &mut writer, &mut progress);
+    progress.end();
+    tell_plant_verdicts(rt, request, text, answered)
+}
+
+/// Reads a drawing or a plant, and writes what is true of the claims about it; the status. `told` is whether the search tells
+/// on standard error how far it is.
+pub fn answer_verify<R: Files + Clock + Print + Eprint + AllocGlobal>(
+    rt: &R,
+    told: bool,
+    request: &VerifyRequest<'_>,
+) -> io::Result<u8>
+    ensures { IfOk result (EndsVerify request.now) }
+{
+    match subject_of(request) {
+        Subject::Drawing => match file_text(rt, request.file)? {
+            Ok(text) => answer_drawing(rt, told, request, text.as_str()),
+            Err(status) => Ok(status),
+        },
+        Subject::Plant => match file_text(rt, request.file)? {
+            Ok(text) => answer_plant(rt, told, request, text.as_str()),
+            Err(status) => Ok(status),
+        },
+        Subject::Neither => {
+            eprintln!(rt; "plc: {NEITHER}")?;
+            Ok(WORD_REFUSED)
+        }
+    }
 }
