@@ -14,7 +14,7 @@ returns-in_err-inputs-clause-early c =
 pub returns-in_err-inputs-clause-fault : goal.returns-in_err-inputs-clause-fault
 returns-in_err-inputs-clause-fault c =
     err_and c.from_residual.result (λ fault. (fault ≢ Write) × (fault ≡ Syntax → c.in_err-inputs.field-0.0 ≢ input.Memory) × (c.in_err-inputs.field-0.0 ≢ input.Memory → fault ≡ Syntax)) _ c.from_residual.ensures.1
-    (λ f given is. inputs_refused c.args.plant.now c.args.words.now c.in_err-inputs.field-0.0 c.in_err-inputs.ensures.fault ((given.1).0 is))
+    (λ f given is. inputs_refused c.args.plant.now c.args.words.now c.in_err-inputs.field-0.0 c.in_err-inputs.ensures.fault (given.1 is))
 
 pub overflow_cast-result : goal.overflow_cast-result
 overflow_cast-result c = let h = c.in-Some-number_up_to.ensures.within in omega (arith, h)
