@@ -3,7 +3,7 @@ use Rattle.std.specs.Prelude.{ℕ}
 use Rattle.verifying.specs.declared.verify_fault.VerifyFault.{VerifyFault}
 use Rattle.verifying.specs.declared.verify_fault.VerifyFault.TheVariants.{Command, Claim, Held, TooManyInputs, NoTime}
 use Rattle.verifying_plants.specs.declared.verify_plant_fault.VerifyPlantFault.{VerifyPlantFault}
-use Rattle.verifying_plants.specs.declared.verify_plant_fault.VerifyPlantFault.TheVariants.{Command as PlantCommand, Claim as PlantClaim, Given, Range, TooManyRows}
+use Rattle.verifying_plants.specs.declared.verify_plant_fault.VerifyPlantFault.TheVariants.{Command as PlantCommand, Claim as PlantClaim, Given, Range}
 use Rattle.verifying.specs.declared.summary.Summary.{Summary}
 use Rattle.verifying.specs.declared.summary.Summary.TheVariants.{AllHold, OneFails, OneUndecided}
 use Rattle.console.specs.declared.command_fault.CommandFault.{CommandFault}
@@ -45,7 +45,6 @@ status_of_plant_question (PlantCommand fault) = status_of_fault (command_fault f
 status_of_plant_question (PlantClaim fault) = 2
 status_of_plant_question (Given fault) = 2
 status_of_plant_question (Range fault) = 2
-status_of_plant_question TooManyRows = 2
 
 -- after a fault of words for field inputs it is 2 if they are refused, and 3 for want of memory
 abbrev pub status_of_inputs : InputFault → ℕ

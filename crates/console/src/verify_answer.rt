@@ -178,10 +178,6 @@ fn print_verify_plant_fault<R: Eprint + AllocGlobal>(
         VerifyPlantFault::Range(fault) => {
             print_fault_of_word(rt, text, &request.words, fault.number, false, fault)
         }
-        VerifyPlantFault::TooManyRows => {
-            eprintln!(rt; "plc: {fault}")?;
-            Ok(WORD_REFUSED)
-        }
     }
 }
 

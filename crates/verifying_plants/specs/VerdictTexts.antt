@@ -10,7 +10,7 @@ use Rattle.plant_claims.specs.declared.field_range.FieldRange.TheVariants.{Bit, 
 use Rattle.plant_claims.specs.declared.plant_verdict.PlantVerdict.{PlantVerdict}
 use Rattle.plant_claims.specs.declared.plant_verdict.PlantVerdict.TheVariants.{Holds, Fails, Undecided as UndecidedFor}
 use Rattle.plant_claims.specs.declared.plant_verdict.Undecided.{Undecided}
-use Rattle.plant_claims.specs.declared.plant_verdict.Undecided.TheVariants.{TooMany, OrderForgotten}
+use Rattle.plant_claims.specs.declared.plant_verdict.Undecided.TheVariants.{TooMany, OrderForgotten, TooManyRows, NotChecked}
 use Rattle.plant_claims.specs.Claims.{Question}
 use Rattle.verifying_plants.specs.Names.{output_text}
 
@@ -55,6 +55,9 @@ abbrev pub reason_text : ℕ → Undecided → List ℕ
 reason_text most_states TooMany = codes "more than " ++ counted most_states (codes "state")
 reason_text most_states OrderForgotten =
     codes "no run was found while the order of waiting images was kept; a larger --most-waiting may decide"
+reason_text most_states TooManyRows =
+    codes "the field inputs of a task may be in more than 1048576 ways; hold some by words ADDRESS=VALUE"
+reason_text most_states NotChecked = codes "the states that were found don't stand for every run"
 
 abbrev pub undecided_line : PlantValue → ℕ → List Output → Undecided → List ℕ
 undecided_line plant most_states claim why =

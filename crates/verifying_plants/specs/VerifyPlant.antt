@@ -13,7 +13,7 @@ use Rattle.plant_claims.specs.declared.plant_verdict.PlantVerdict.{PlantVerdict}
 use Rattle.plant_claims.specs.Claims.{Question}
 use Rattle.plant_claims.specs.Verdicts.{IsVerdict}
 use Rattle.verifying_plants.specs.declared.verify_plant_fault.VerifyPlantFault.{VerifyPlantFault}
-use Rattle.verifying_plants.specs.declared.verify_plant_fault.VerifyPlantFault.TheVariants.{Command, Claim, Given, Range, TooManyRows}
+use Rattle.verifying_plants.specs.declared.verify_plant_fault.VerifyPlantFault.TheVariants.{Command, Claim, Given, Range}
 use Rattle.verifying_plants.specs.Names.{IsClaimWord}
 use Rattle.verifying_plants.specs.Questions.{QuestionValue, IsAsked, IsFirstNameFault, IsFirstGivenFault, IsFirstRangeFault}
 use Rattle.verifying_plants.specs.Summaries.{IsSummary}
@@ -67,4 +67,3 @@ ExplainsAnswer file v old new (Command Memory) = Keeps old new
 ExplainsAnswer file v old new (Claim fault) = IsOfPlant file (λ plant. IsFirstNameFault plant v.claims fault) × Keeps old new
 ExplainsAnswer file v old new (Given fault) = IsOfPlant file (λ plant. IsFirstGivenFault plant v.given fault) × Keeps old new
 ExplainsAnswer file v old new (Range fault) = IsFirstRangeFault v.words fault × Keeps old new
-ExplainsAnswer file v old new TooManyRows = Keeps old new

@@ -128,6 +128,10 @@ fn push_reason(text: &mut String, most_states: u32, why: Undecided) -> Result<()
         Undecided::OrderForgotten => text.push_str(
             "no run was found while the order of waiting images was kept; a larger --most-waiting may decide",
         ),
+        Undecided::TooManyRows => text.push_str(
+            "the field inputs of a task may be in more than 1048576 ways; hold some by words ADDRESS=VALUE",
+        ),
+        Undecided::NotChecked => text.push_str("the states that were found don't stand for every run"),
     }
 }
 

@@ -43,7 +43,4 @@ pub enum VerifyPlantFault {
     /// A word tells of no field address.
     #[error(transparent)]
     Range(RangeFault),
-    /// A task has too many rows of field inputs.
-    #[error("the field inputs of a task may be in more than 1048576 ways: hold some by words ADDRESS=VALUE")]
-    TooManyRows,
 }

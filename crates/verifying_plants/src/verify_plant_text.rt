@@ -65,10 +65,11 @@ fn answer_text<P: Progress>(
         states: asked.most_states as usize,
         waiting: asked.most_waiting as usize,
     };
-    let outcome = verify_plant(alloc, &question, &claims, limits, progress)?;
+    let outcome = verify_plant(alloc, question, &claims, limits, progress)?;
+    let question = &outcome.question;
     let told = told_of(&question.plant, asked.most_states, &question.given, &outcome);
     let mut answer = verdict_texts(alloc, &told, &claims, &outcome.verdicts)?;
-    push_premise_line(alloc, &mut answer, &question)?;
+    push_premise_line(alloc, &mut answer, question)?;
     Ok((answer, summary_of(&outcome.verdicts)))
 }
 

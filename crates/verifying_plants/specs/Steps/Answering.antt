@@ -8,7 +8,7 @@ use Rattle.verifying.specs.declared.summary.Summary.{Summary}
 use Rattle.plant_claims.specs.declared.output.Output.{Output}
 use Rattle.plant_claims.specs.Claims.{Question}
 use Rattle.verifying_plants.specs.declared.verify_plant_fault.VerifyPlantFault.{VerifyPlantFault}
-use Rattle.verifying_plants.specs.declared.verify_plant_fault.VerifyPlantFault.TheVariants.{Command, Claim, Given, Range, TooManyRows}
+use Rattle.verifying_plants.specs.declared.verify_plant_fault.VerifyPlantFault.TheVariants.{Command, Claim, Given, Range}
 use Rattle.verifying_plants.specs.Questions.{QuestionValue, IsAsked, IsFirstNameFault, IsFirstGivenFault, IsFirstRangeFault}
 use Rattle.verifying_plants.specs.Summaries.{IsSummary}
 use Rattle.verifying_plants.specs.VerifyPlant.{IsAnswer, IsOfPlant}
@@ -35,4 +35,3 @@ RefusesPreparing file v (Command Memory) = Unit {0}
 RefusesPreparing file v (Claim fault) = IsOfPlant file (λ plant. IsFirstNameFault plant v.claims fault)
 RefusesPreparing file v (Given fault) = IsOfPlant file (λ plant. IsFirstGivenFault plant v.given fault)
 RefusesPreparing file v (Range fault) = IsFirstRangeFault v.words fault
-RefusesPreparing file v TooManyRows = Unit {0}

@@ -5,7 +5,7 @@ use Rattle.plant.specs.PlantValue.{PlantValue}
 use Rattle.plant_claims.specs.declared.output.Output.{Output}
 use Rattle.text_commands.specs.declared.text_command_fault.TextCommandFault.TheVariants.{Memory}
 use Rattle.verifying_plants.specs.declared.verify_plant_fault.VerifyPlantFault.{VerifyPlantFault}
-use Rattle.verifying_plants.specs.declared.verify_plant_fault.VerifyPlantFault.TheVariants.{Command, Claim, Given, Range, TooManyRows}
+use Rattle.verifying_plants.specs.declared.verify_plant_fault.VerifyPlantFault.TheVariants.{Command, Claim, Given, Range}
 use Rattle.verifying_plants.specs.Names.{IsNamed, IsClaimWord, names_in}
 use Rattle.verifying_plants.specs.Questions.{IsFirstNameFault, IsFirstGivenFault, IsFirstRangeFault}
 
