@@ -1,0 +1,4 @@
+mod Counting
+mod Cycling
+mod Fairness
+mod Telling
