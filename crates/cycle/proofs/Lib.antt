@@ -1,4 +1,5 @@
 mod Counting
 mod Cycling
 mod Fairness
+mod Planned
 mod Telling

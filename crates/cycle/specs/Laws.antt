@@ -1,8 +1,13 @@
 -- What follows of the evaluations that a cycle asks for.
-use Rattle.std.specs.Prelude.{◌≡◌, ℕ, ◌+◌, ◌*◌, ◌<◌, ◌≤◌, ◌==◌, ◌⊎◌, if◌then◌else◌, true, max, List, [], ◌∷◌, Option, Some, None, length, slice_get, sum_by}
+use Rattle.std.specs.Prelude.{◌≡◌, ◌≢◌, ℕ, ◌+◌, ◌*◌, ◌<◌, ◌≤◌, ◌==◌, ◌⊎◌, if◌then◌else◌, true, false, max, List, [], ◌∷◌, Option, Some, None, length, slice_get, sum_by}
+use Rattle.std.specs.Ordering.{is_lt}
+use Rattle.std.specs.declared.cmp.Ordering.TheVariants.{Less}
+use Rattle.task_codes.specs.declared.due.Due.{Due}
+use Rattle.task_codes.specs.declared.timing.Timing.{Timing}
+use Rattle.task_codes.specs.Plan.{due_cmp, timing_at, IsDue}
 use Rattle.cycle.specs.declared.asked.Asked.{Asked}
 use Rattle.cycle.specs.declared.cycled_task.CycledTask.{CycledTask}
-use Rattle.cycle.specs.Cycle.{CycleValue, due_moments, evaluated_at, is_due, HasEvaluated, IsAsked, IsCycle}
+use Rattle.cycle.specs.Cycle.{CycleValue, cycled_cmp, due_moments, evaluated_at, is_due, HasEvaluated, IsAsked, IsCycle}
 
 -- readings of a clock, and what is asked for at each
 abbrev pub Step : Type 0
@@ -101,3 +106,26 @@ abbrev pub DueTasksAreAsked : Type 0
 DueTasksAreAsked =
     (first last : CycleValue) (steps : List Step) (place : ℕ) (t : CycledTask) → IsCycle first → HaveAsked first steps last → AreShort steps
     → slice_get first.tasks place ≡ Some t → is_due first.latest t ≡ true → 2 * length first.tasks ≤ length steps → AskFor t.task steps
+
+-- the entry of a plan for a task of a resource
+abbrev pub entry : ℕ → ℕ → CycledTask → Due
+entry n moment t = record { moment = moment; task = record { resource = n; task = t.task } }
+
+-- a task of a resource has the timing that a plan has for it
+abbrev pub IsTimed : List (List Timing) → ℕ → CycledTask → Type 0
+IsTimed timings n t =
+    timing_at timings (record { resource = n; task = t.task })
+    ≡ Some (record { interval = t.interval; priority = t.priority })
+
+-- A task is due at a reading exactly where the plan up to that has an entry of it behind its last evaluation.
+abbrev pub DueAsPlanned : Type 0
+DueAsPlanned =
+    (timings : List (List Timing)) (n : ℕ) (t : CycledTask) (reading : ℕ) → 0 < t.interval → IsTimed timings n t
+    → (is_due reading t ≡ true → (moment : ℕ) × (t.evaluated < moment) × IsDue timings reading (entry n moment t))
+    × ((moment : ℕ) → t.evaluated < moment → IsDue timings reading (entry n moment t) → is_due reading t ≡ true)
+
+-- Of two tasks of a resource that are due at one moment, the one that a cycle has first stands first in the plan.
+abbrev pub OrderAsPlanned : Type 0
+OrderAsPlanned =
+    (timings : List (List Timing)) (n moment : ℕ) (a b : CycledTask) → IsTimed timings n a → IsTimed timings n b
+    → a.task ≢ b.task → is_lt (cycled_cmp b a) ≡ false → due_cmp timings (entry n moment a) (entry n moment b) ≡ Less

@@ -1,4 +1,4 @@
-ghost use Rattle.cycle.specs.Laws.{CountsToReading, DtsAddUp, DueTasksAreAsked, DueMomentsAreMultiples, NeverEarly, SkipsAreCounted};
+ghost use Rattle.cycle.specs.Laws.{CountsToReading, DtsAddUp, DueAsPlanned, DueMomentsAreMultiples, DueTasksAreAsked, NeverEarly, OrderAsPlanned, SkipsAreCounted};
 
 /// The k-th due moment of a task is k intervals behind the start.
 pub fn due_moments_are_multiples()
@@ -28,4 +28,14 @@ pub fn skips_are_counted()
 /// A task that is due is asked for, however late the others are.
 pub fn due_tasks_are_asked()
     ensures { DueTasksAreAsked }
+{}
+
+/// A task is due exactly where the plan has an entry of it.
+pub fn due_as_planned()
+    ensures { DueAsPlanned }
+{}
+
+/// Tasks that are due at one moment go as the plan has them.
+pub fn order_as_planned()
+    ensures { OrderAsPlanned }
 {}

@@ -20,8 +20,8 @@ pub use field_image::FieldImage;
 pub use field_refusal::FieldRefusal;
 pub use input_line::read_input_line;
 pub use laws::{
-    counts_to_reading, dts_add_up, due_moments_are_multiples, due_tasks_are_asked, never_early,
-    skips_are_counted,
+    counts_to_reading, dts_add_up, due_as_planned, due_moments_are_multiples, due_tasks_are_asked,
+    never_early, order_as_planned, skips_are_counted,
 };
 pub use line_word::{LineWord, word_of_line};
 pub use origin::{Inlets, Origin, Verdict};
