@@ -1,5 +1,5 @@
 -- What a node with a field and a cycle is.
-use Rattle.std.specs.Prelude.{◌≡◌, ℕ, Bool, true, false, List, [], Option, Some, None, is_some, All}
+use Rattle.std.specs.Prelude.{◌≡◌, ℕ, Bool, true, false, Option, Some, None, is_some, All}
 use Rattle.plant.specs.PlantValue.{PlantValue, tasks_at}
 use Rattle.cycle.specs.declared.origin.Inlets.{Inlets}
 use Rattle.cycle.specs.Cycle.{CycleValue, IsCycleOf, NoneDueBefore}

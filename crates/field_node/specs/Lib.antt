@@ -1,2 +1,3 @@
 pub mod FieldAnswers
 pub mod FieldNodes
+pub mod Laws

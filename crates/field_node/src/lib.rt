@@ -3,5 +3,7 @@
 #![tactic(auto)]
 
 mod field_node;
+mod laws;
 
 pub use field_node::FieldNode;
+pub use laws::neighbours_ask_nothing;
