@@ -1,0 +1,5 @@
+mod Counting
+mod Cycling
+mod Fairness
+mod Planned
+mod Telling

@@ -1,0 +1,3 @@
+pub mod FieldAnswers
+pub mod FieldNodes
+pub mod Laws
