@@ -1,4 +1,4 @@
 /// The version of the program, and the sum (SHA-256) over the files that it is built from, all but this one. `run/ship`
 /// writes it.
 pub(crate) const VERSION: &str =
-    "0.1.0 (sources e537141df8b59c20628bb5a8d8b023bb60c0b656626fd5bccd0e31b86676c4f6)";
+    "0.1.0 (sources 28106e7ded05ccb03bf3a517ca49728b263df2aa9b9d5255dde2521da9930908)";
