@@ -87,8 +87,10 @@ does. If UNDECIDED says that no run was found while an order was kept, a larger 
 Example:
 
   $ plc verify examples/zone.plant --never R1.A.INSIDE,R2.O.INSIDE
+  HOLDS R1.A.INSIDE, R2.O.INSIDE are never on together: 185 states, 1562 steps
+  given each task every INTERVAL
 
-The exit status is 0 if all claims hold; 4 if one fails; 5 if none fails and one is undecided; 1 if the text of the drawing
+The exit status is 0 if all claims hold; 4 if one fails; 5 if none fails and one is undecided; 1 if the text of the file
 is refused, with FILE:LINE:COLUMN: Kind on standard error; 2 if a word is refused; 3 if the file can't be read, the output
 can't be written or there is no memory left.";
 
