@@ -1,5 +1,5 @@
 -- What the words of `plc verify` ask.
-use Rattle.std.specs.Prelude.{◌==◌, ◌&&◌, ℕ, Bool, true, is_none, List, [], ◌∷◌, not, unwrap_or, if◌then◌else◌, length}
+use Rattle.std.specs.Prelude.{◌==◌, ◌&&◌, ◌||◌, ℕ, Bool, true, is_none, List, [], ◌∷◌, not, unwrap_or, if◌then◌else◌, length}
 use Rattle.std.specs.List.{list_any}
 use Rattle.console.specs.declared.request.VerifyRequest.{VerifyRequest}
 use Rattle.console.specs.declared.verify_answer.Subject.{Subject}
@@ -8,28 +8,28 @@ use Rattle.text_commands.specs.Rows.{texts}
 use Rattle.verifying.specs.Questions.{QuestionValue}
 use Rattle.verifying_plants.specs.Questions.{QuestionValue as PlantQuestionValue}
 
--- names in a plant have dots
-abbrev pub has_dot : List ℕ → Bool
-has_dot name = list_any (λ c. c == 46) name
+-- names in a plant have dots, and commas part them
+abbrev pub is_of_plant : List ℕ → Bool
+is_of_plant word = list_any (λ c. c == 46 || c == 44) word
 
--- all names have
-abbrev pub are_dotted : List (List ℕ) → Bool
-are_dotted [] = true
-are_dotted (name ∷ names) = has_dot name && are_dotted names
+-- all words have one
+abbrev pub are_of_plant : List (List ℕ) → Bool
+are_of_plant [] = true
+are_of_plant (name ∷ names) = is_of_plant name && are_of_plant names
 
 -- none has
 abbrev pub are_plain : List (List ℕ) → Bool
 are_plain [] = true
-are_plain (name ∷ names) = not (has_dot name) && are_plain names
+are_plain (name ∷ names) = not (is_of_plant name) && are_plain names
 
 -- nothing is asked that is asked of plants alone
 abbrev pub is_of_drawings : VerifyRequest → Bool
 is_of_drawings request = (length request.given.items == 0) && (not request.no_restarts && is_none request.most_waiting)
 
--- it is about a plant where all names have dots, about a drawing where none has, and nothing is asked of plants alone
+-- it is about a plant where all words are of one, about a drawing where none has, and nothing is asked of plants alone
 abbrev pub subject_of : VerifyRequest → Subject
 subject_of request =
-    if are_dotted (texts request.claims.items) && are_dotted (texts request.given.items) then Plant
+    if are_of_plant (texts request.claims.items) && are_of_plant (texts request.given.items) then Plant
     else (if are_plain (texts request.claims.items) && is_of_drawings request then Drawing else Neither)
 
 -- the claims, the words, the time between scans and the number of states of the request, for the drawing in this file

@@ -3,7 +3,7 @@ ghost use Rattle.text_commands.specs.Rows.{texts};
 ghost use Rattle.verifying.specs.VerifyText.{ExplainsAnswer, WritesAnswer};
 ghost use Rattle.verifying_plants.specs.VerifyPlant.{ExplainsAnswer as ExplainsPlantAnswer, WritesAnswer as WritesPlantAnswer};
 ghost use Rattle.console.specs.Statuses.{status_of, status_of_question, status_of_plant_question};
-ghost use Rattle.console.specs.Verifying.{are_dotted, are_plain, asked_question, asked_of_plant, has_dot, is_of_drawings, subject_of};
+ghost use Rattle.console.specs.Verifying.{are_of_plant, are_plain, asked_question, asked_of_plant, is_of_plant, is_of_drawings, subject_of};
 ghost use Rattle.console.specs.Endings.{EndsVerify, IsDrawingVerified, IsPlantVerified, status_of_verdicts, status_of_plant_verdicts};
 
 use crate::command_fault::CommandFault;
@@ -29,19 +29,19 @@ pub enum Subject {
     Neither,
 }
 
-/// Whether a name has a dot, as those in a plant have.
-fn has_dot(name: &str) -> bool
-    ensures { result ≡ has_dot name.now }
+/// Whether a word has a dot, as names in a plant have, or a comma, which parts such names.
+fn is_of_plant(word: &str) -> bool
+    ensures { result ≡ is_of_plant word.now }
 {
-    name.as_bytes().contains(&b'.')
+    word.as_bytes().iter().any(|c| *c == b'.' || *c == b',')
 }
 
-fn are_dotted(names: &[&str]) -> bool
-    ensures { result ≡ are_dotted (texts names.now) }
+fn are_of_plant(names: &[&str]) -> bool
+    ensures { result ≡ are_of_plant (texts names.now) }
 {
     match names {
         [] => true,
-        [first, others @ ..] => has_dot(first) && are_dotted(others),
+        [first, others @ ..] => is_of_plant(first) && are_of_plant(others),
     }
 }
 
@@ -50,7 +50,7 @@ fn are_plain(names: &[&str]) -> bool
 {
     match names {
         [] => true,
-        [first, others @ ..] => !has_dot(first) && are_plain(others),
+        [first, others @ ..] => !is_of_plant(first) && are_plain(others),
     }
 }
 
@@ -66,7 +66,7 @@ fn is_of_drawings(request: &VerifyRequest<'_>) -> bool
 fn subject_of(request: &VerifyRequest<'_>) -> Subject
     ensures { result ≡ subject_of request.now }
 {
-    if are_dotted(&request.claims) && are_dotted(&request.given) {
+    if are_of_plant(&request.claims) && are_of_plant(&request.given) {
         Subject::Plant
     } else if are_plain(&request.claims) && is_of_drawings(request) {
         Subject::Drawing

@@ -1,5 +1,5 @@
 -- How verdicts on claims about a plant are written.
-use Rattle.std.specs.Prelude.{◌≡◌, ◌==◌, ◌++◌, ℕ, Bool, true, false, List, [], ◌∷◌, Option, Some, None, codes, length, map, if◌then◌else◌, string_bytes}
+use Rattle.std.specs.Prelude.{◌≡◌, ◌==◌, ◌++◌, ℕ, ℤ, int_le, Bool, true, false, List, [], ◌∷◌, Option, Some, None, codes, length, map, if◌then◌else◌, string_bytes}
 use Rattle.std.specs.Fmt.{decimal}
 use Rattle.std.specs.List.{filter, join_by}
 use Rattle.std_blocks.specs.declared.value.Value.TheVariants.{Bool as BoolValue, Int as IntValue}
@@ -75,11 +75,15 @@ abbrev pub time_premise : Option ℕ → List ℕ
 time_premise None = codes "each task every INTERVAL"
 time_premise (Some dt) = codes "dt " ++ decimal dt ++ codes " ms"
 
+-- the greatest value of a word, where it is another one
+abbrev pub greatest_text : ℤ → ℤ → List ℕ
+greatest_text least greatest = if int_le greatest least then [] else codes ".." ++ value_text (IntValue greatest)
+
 -- what an address holds, as its word tells it
 abbrev pub range_text : FieldRange → List ℕ
 range_text (Bit n v) = codes "%IX" ++ decimal n ++ codes "=" ++ value_text (BoolValue v)
 range_text (Word n least greatest) =
-    codes "%IW" ++ decimal n ++ codes "=" ++ value_text (IntValue least) ++ codes ".." ++ value_text (IntValue greatest)
+    codes "%IW" ++ decimal n ++ codes "=" ++ value_text (IntValue least) ++ greatest_text least greatest
 
 abbrev pub restart_premises : Bool → List (List ℕ)
 restart_premises true = []

@@ -3,7 +3,7 @@
 ghost use Rattle.std.specs.Prelude.{◌≡◌, ◌++◌, IfOk, OnOk, map, string_bytes};
 ghost use Rattle.text_lines.specs.Growing.{GrowsBy};
 ghost use Rattle.verifying_plants.specs.Names.{output_text};
-ghost use Rattle.verifying_plants.specs.VerdictTexts.{premise_line, premises, range_text, restart_premises, time_premise};
+ghost use Rattle.verifying_plants.specs.VerdictTexts.{greatest_text, premise_line, premises, range_text, restart_premises, time_premise};
 
 use crate::output_names::push_output;
 use plant::Plant;
@@ -20,6 +20,17 @@ fn time_premise(alloc: Global, dt: Option<u32>) -> Result<String, AllocError>
         None => String::from_str(alloc, "each task every INTERVAL"),
         Some(dt) => format!(in alloc; "dt {dt} ms"),
     }
+}
+
+/// Writes the greatest value of a word, where it is another one than the least.
+fn push_greatest(text: &mut String, least: i16, greatest: i16) -> Result<(), AllocError>
+    ensures { OnOk result (GrowsBy text.old text.new (greatest_text least greatest)) }
+{
+    if greatest <= least {
+        return Ok(());
+    }
+    text.push_str("..")?;
+    push_value(text, Value::Int(greatest))
 }
 
 /// What an address holds.
@@ -39,8 +50,7 @@ fn range_text(alloc: Global, range: FieldRange) -> Result<String, AllocError>
         } => {
             let mut text = format!(in alloc; "%IW{number}=")?;
             push_value(&mut text, Value::Int(least))?;
-            text.push_str("..")?;
-            push_value(&mut text, Value::Int(greatest))?;
+            push_greatest(&mut text, least, greatest)?;
             Ok(text)
         }
     }
