@@ -300,7 +300,7 @@ def verify_plants(write, plant, options, more):
     question, claims = question_of(plant, options, more)
     searches = [verify_plant.Search(question, it, options.get("--most-states", MOST_STATES), options.get("--most-waiting", MOST_WAITING)).search() for it in claims]
     for search, name in zip(searches, options["--never"]):
-        for line in verify_plant.verdict_lines(search, name):
+        for line in verify_plant.verdict_lines(search):
             write(line)
     write("given " + ", ".join(verify_plant.premises(question)))
     if any(it.steps for it in searches):
