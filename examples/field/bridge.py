@@ -57,10 +57,10 @@ def main():
     asked.add_argument("--broker", default="127.0.0.1:1883")
     for option in ("--cafile", "--cert", "--key"):
         asked.add_argument(option)
-    asked.add_argument("name")
-    asked.add_argument("command", nargs=argparse.REMAINDER)
+    for name, count in (("name", None), ("program", None), ("words", "...")):
+        asked.add_argument(name, nargs=count, help=argparse.SUPPRESS)
     asked = asked.parse_args()
-    node = subprocess.Popen(asked.command, stdin=subprocess.PIPE, stdout=subprocess.PIPE)
+    node = subprocess.Popen([asked.program, *asked.words], stdin=subprocess.PIPE, stdout=subprocess.PIPE)
     signal.signal(signal.SIGTERM, lambda *_: node.terminate())
     client = connection(asked, node)
     for line in node.stdout:

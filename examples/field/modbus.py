@@ -55,6 +55,8 @@ class Device:
                 settings[left] = right
             else:
                 sys.exit(f"modbus.py: {path} has a line that says nothing: {line}")
+        if "device" not in settings:
+            sys.exit(f"modbus.py: {path} names no device")
         host, _, port = settings["device"].rpartition(":")
         self.unit, self.client = int(settings["unit"]), ModbusTcpClient(host, port=int(port))
         self.client.params.timeout = MOST_WAIT  # (the constructor takes whole seconds)
@@ -96,7 +98,7 @@ class Device:
             self.forget()
         if self.is_there != (why is None):
             self.is_there = why is None
-            print(f"modbus.py: {self.client}", f"doesn't answer: {why}" if why else "answers", file=sys.stderr, flush=True)
+            print(f"modbus.py: {self.client}", f"is lost: {why}" if why else "answers", file=sys.stderr, flush=True)
         return values
 
     def forget(self):
@@ -153,13 +155,12 @@ def follow(lines, given, is_news):
 
 def main():
     asked = argparse.ArgumentParser(description=__doc__, formatter_class=argparse.RawDescriptionHelpFormatter, usage=argparse.SUPPRESS)
-    asked.add_argument("map", help=argparse.SUPPRESS)
-    asked.add_argument("field", help=argparse.SUPPRESS)
-    asked.add_argument("command", nargs=argparse.REMAINDER, help=argparse.SUPPRESS)
+    for name, count in (("map", None), ("field", None), ("program", None), ("words", "...")):
+        asked.add_argument(name, nargs=count, help=argparse.SUPPRESS)
     asked = asked.parse_args()
     logging.getLogger("pymodbus").setLevel(logging.CRITICAL)
     device, field, given, is_news = Device(asked.map), Field(asked.field), {}, threading.Event()
-    node = subprocess.Popen(asked.command, stdout=subprocess.PIPE)
+    node = subprocess.Popen([asked.program, *asked.words], stdout=subprocess.PIPE)
     signal.signal(signal.SIGTERM, lambda *_: node.terminate())
     follower = threading.Thread(target=follow, args=(node.stdout, given, is_news), daemon=True)
     follower.start()
