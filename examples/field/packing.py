@@ -9,6 +9,7 @@ were counted as fell, and some did.
 Not done: OPEN is a pulse of 30 ms, which BOX looks at each 20 ms; where a message is late or BOX is killed, its count may be short.
 """
 import argparse
+import contextlib
 import os
 import re
 import shutil
@@ -100,6 +101,9 @@ def main():
     asked = asked.parse_args()
     # Where the program isn't built yet, this builds it.
     subprocess.run([PLC, "check", PLANT], check=True, stdout=subprocess.DEVNULL)
+    # As plc-node@.service has it, where that is allowed.
+    with contextlib.suppress(PermissionError):
+        os.sched_setscheduler(0, os.SCHED_FIFO, os.sched_param(10))
     with tempfile.TemporaryDirectory() as folder:
         os.chdir(folder)
         os.mkdir("state")
