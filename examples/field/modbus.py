@@ -4,7 +4,8 @@
 MAP is a table, on the left what is set, on the right from what; a line that begins with # is a comment:
 
   device = 192.168.0.10:502   where the device is
-  unit = 1                    its unit; 1, if no line tells
+  unit = 1                    its unit (1, if no line tells)
+  silence = 1000              outputs are 0 where the node has evaluated nothing for so many ms (1000)
   %IX0 = discrete 0           an input of the resource, from a discrete input or a coil
   %IW2 = input 4              from an input register or a holding register, -32768 to 32767
   coil 3 = C.MOTOR            a coil, from an output of an instance
@@ -40,7 +41,7 @@ class Device:
     def __init__(self, path):
         """Reads MAP."""
         self.inputs, self.outputs, self.written, self.anew, self.is_there = {}, {}, {}, 0, None
-        settings = {"unit": "1"}
+        settings = {"unit": "1", "silence": "1000"}
         with open(path, encoding="ascii") as file:
             lines = [" ".join(line.replace("=", " = ").split()) for line in file]
         for line in (line for line in lines if line and line[0] != "#"):
@@ -51,14 +52,15 @@ class Device:
             elif OUTPUT.fullmatch(line):
                 kind, number = left.split()
                 self.outputs[kind, int(number)] = right
-            elif left in ("device", "unit"):
+            elif left in ("device", "unit", "silence"):
                 settings[left] = right
             else:
                 sys.exit(f"modbus.py: {path} has a line that says nothing: {line}")
         if "device" not in settings:
             sys.exit(f"modbus.py: {path} names no device")
         host, _, port = settings["device"].rpartition(":")
-        self.unit, self.client = int(settings["unit"]), ModbusTcpClient(host, port=int(port))
+        self.unit, self.silence = int(settings["unit"]), int(settings["silence"]) / 1000
+        self.client = ModbusTcpClient(host, port=int(port))
         self.client.params.timeout = MOST_WAIT  # (the constructor takes whole seconds)
 
     def ask(self, what, *words):
@@ -134,23 +136,36 @@ class Field:
         self.file, self.told = None, {}
 
 
-def value_of(text):
-    return min(int(re.sub("T#|ms", "", text)), 65535)
+class Node:
+    """The node, and what it gave last."""
 
+    def __init__(self, words):
+        self.process = subprocess.Popen(words, stdout=subprocess.PIPE)
+        self.given, self.given_at, self.news = {}, time.monotonic(), threading.Event()
+        self.follower = threading.Thread(target=self.follow, daemon=True)
+        self.follower.start()
 
-def follow(lines, given, is_news):
-    """Hands on what the node writes, and keeps what it gives."""
-    try:
-        for line in lines:
-            sys.stdout.buffer.write(line)
-            sys.stdout.buffer.flush()
-            before = dict(given)
-            if line.startswith(b"EVAL "):
-                given.update((name, value_of(text)) for name, text in re.findall(r"(\S+)=(\S+)", line.decode().partition(" GIVES ")[2]))
-            if given != before:
-                is_news.set()
-    except BrokenPipeError:
-        pass
+    def follow(self):
+        """Hands on what it writes, and keeps what it gives."""
+        try:
+            for line in self.process.stdout:
+                sys.stdout.buffer.write(line)
+                sys.stdout.buffer.flush()
+                if line.startswith(b"EVAL "):
+                    self.keep(re.findall(r"(\S+)=(\S+)", line.decode().partition(" GIVES ")[2]))
+        except BrokenPipeError:
+            pass
+
+    def keep(self, gives):
+        before = dict(self.given)
+        self.given.update((name, min(int(re.sub("T#|ms", "", value)), 65535)) for name, value in gives)
+        self.given_at = time.monotonic()
+        if self.given != before:
+            self.news.set()
+
+    def outputs(self, silence):
+        """What it gave, if it hasn't been silent for so long."""
+        return dict(self.given) if time.monotonic() - self.given_at < silence else {}
 
 
 def main():
@@ -159,23 +174,21 @@ def main():
         asked.add_argument(name, nargs=count, help=argparse.SUPPRESS)
     asked = asked.parse_args()
     logging.getLogger("pymodbus").setLevel(logging.CRITICAL)
-    device, field, given, is_news = Device(asked.map), Field(asked.field), {}, threading.Event()
-    node = subprocess.Popen([asked.program, *asked.words], stdout=subprocess.PIPE)
-    signal.signal(signal.SIGTERM, lambda *_: node.terminate())
-    follower = threading.Thread(target=follow, args=(node.stdout, given, is_news), daemon=True)
-    follower.start()
-    while follower.is_alive():
-        is_news.clear()
-        values = device.exchange(dict(given))
+    device, field = Device(asked.map), Field(asked.field)
+    node = Node([asked.program, *asked.words])
+    signal.signal(signal.SIGTERM, lambda *_: node.process.terminate())
+    while node.follower.is_alive():
+        node.news.clear()
+        values = device.exchange(node.outputs(device.silence))
         if values is None:
             field.end()
         else:
             field.tell(values)
-        is_news.wait(ANEW if values is None else EVERY)
-    node.terminate()
+        node.news.wait(ANEW if values is None else EVERY)
+    node.process.terminate()
     device.forget()
     device.exchange({})
-    status = node.wait()
+    status = node.process.wait()
     return status if status >= 0 else 128 - status
 
 
