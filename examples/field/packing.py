@@ -61,16 +61,21 @@ class Cabinet(threading.Thread):
         self.join()
 
 
+def listens(port):
+    with socket.socket() as it:
+        return it.connect_ex((HOST, port)) == 0
+
+
 def begun(port, *words):
     """A server that listens."""
+    if listens(port):
+        sys.exit(f"packing.py: another program listens at {port}")
     process = subprocess.Popen(words)
-    while process.poll() is None:
-        try:
-            socket.create_connection((HOST, port)).close()
-            return process
-        except OSError:
-            time.sleep(0.1)
-    sys.exit(f"packing.py: {words[-1]} doesn't run")
+    while not listens(port):
+        time.sleep(0.1)
+        if process.poll() is not None:
+            sys.exit(f"packing.py: {words[0]} doesn't run")
+    return process
 
 
 def fallen():
