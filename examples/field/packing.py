@@ -1,5 +1,5 @@
 #!/usr/bin/python3
-"""packing.py [--seconds S] [--kill NAME]: runs the plant of ../packing.plant in real time, over a field bus and a broker, for S seconds (30).
+"""packing.py [--seconds S] [--kill NAME]: runs ../packing.plant in real time for S seconds (30), over a field bus and a broker.
 
 plant.py is the belt, the gate and the box; each of the three resources is a node with modbus.py and bridge.py, as one cabinet has
 them, and begins anew once it has ended. After half the time the node of NAME (BELT) gets KILL. At the end the journals are audited,
