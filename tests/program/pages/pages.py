@@ -14,7 +14,7 @@ sys.path.insert(0, f"{ROOT}/run")
 sys.dont_write_bytecode = True
 from crates import PROGRAM, crates_of
 
-FOLDERS = ("", "docs", "examples", "examples/machines", "tests", "bench", "wrong_bodies")
+FOLDERS = ("", "docs", "examples", "examples/field", "examples/machines", "tests", "bench", "wrong_bodies")
 # There is no call in it.
 PROMISE_NOTHING = {"lists"}
 LINK = re.compile(r"\]\(([^)\s]+)\)")
