@@ -1,9 +1,10 @@
-ghost use Rattle.std.specs.Prelude.{◌≡◌, ◌++◌, OnOk, IfOk, string_bytes, codes};
+ghost use Rattle.std.specs.Prelude.{◌≡◌, ◌⊎◌, ◌++◌, [], OnOk, IfOk, string_bytes, codes};
 ghost use Rattle.guidance.specs.Topics.{told_of, of_plant};
-ghost use Rattle.guidance.specs.Helping.{TellsTopic, TellsOf, topic_of};
+ghost use Rattle.guidance.specs.Excerpts.{marked_column, marked_line};
+ghost use Rattle.guidance.specs.Helping.{IsUndeclared, TellsTopic, TellsOf, shown_of, topic_of};
 ghost use Rattle.guidance.specs.declared.topic.Topic.TheVariants.{ScheduleSyntax};
 
-use crate::excerpt::{Place, excerpt, line_of, whole_of};
+use crate::excerpt::{line_of, marked_column, marked_line};
 use crate::mentions::mentions_of;
 use crate::nearest::{beginning, nearest_names};
 use crate::topic::Topic;
@@ -150,13 +151,44 @@ fn near_plant(alloc: Global, text: &str, line: u64) -> Result<String, AllocError
     }
 }
 
-/// A line with a mark, the sentence on the kind of fault, and what else helps.
-fn help_of(mut shown: String, topic: Topic, more: &str) -> Result<String, AllocError>
-    ensures { IfOk result (λ help. TellsTopic topic (string_bytes help)) }
+/// What is shown, the sentence on the kind of fault, and what else helps.
+fn help_of(mut shown: String, topic: Topic, names: &str) -> Result<String, AllocError>
+    ensures { IfOk result (λ help. string_bytes help ≡ string_bytes shown ++ (told_of topic).sentence ++ codes "\n" ++ names.now) }
 {
     push_sentence(&mut shown, topic)?;
-    shown.push_str(more)?;
+    shown.push_str(names)?;
     Ok(shown)
+}
+
+/// The names of a drawing that were meant perhaps.
+fn meant_in_a_drawing(
+    alloc: Global,
+    text: &str,
+    topic: Topic,
+    line: u64,
+) -> Result<String, AllocError>
+    ensures { IfOk result (λ names. IsUndeclared topic ⊎ (string_bytes names ≡ [])) }
+{
+    match topic {
+        Topic::UnknownName => near_drawing(alloc, text, line),
+        _ => Ok(String::new(alloc)),
+    }
+}
+
+/// The names of a plant that were meant perhaps.
+fn meant_in_a_plant(
+    alloc: Global,
+    text: &str,
+    topic: Topic,
+    line: u64,
+) -> Result<String, AllocError>
+    ensures { IfOk result (λ names. IsUndeclared topic ⊎ (string_bytes names ≡ [])) }
+{
+    match topic {
+        Topic::UnknownName => near_body(alloc, text, line),
+        Topic::PlantUnknownName => near_plant(alloc, text, line),
+        _ => Ok(String::new(alloc)),
+    }
 }
 
 /// A place of a drawing, what is wrong there, and names that were meant perhaps.
@@ -167,46 +199,32 @@ fn help_at(
     line: u64,
     column: usize,
 ) -> Result<String, AllocError>
-    ensures { IfOk result (λ help. TellsOf topic (string_bytes help)) }
+    ensures { IfOk result (λ help. TellsOf topic (marked_column text.now line column) (string_bytes help)) }
 {
     let Some(topic) = topic else {
         return Ok(String::new(alloc));
     };
-    let at = column.saturating_sub(1);
-    let shown = excerpt(alloc, line_of(text, line), Place { at, signs: 1 })?;
-    let more = match topic {
-        Topic::UnknownName => near_drawing(alloc, text, line)?,
-        _ => String::new(alloc),
-    };
-    help_of(shown, topic, more.as_str())
-}
-
-/// A whole line marked.
-fn line_marked(alloc: Global, text: &str, line: u64) -> Result<String, AllocError> {
-    let shown = line_of(text, line);
-    excerpt(alloc, shown, whole_of(shown))
+    let shown = marked_column(alloc, text, line, column)?;
+    let names = meant_in_a_drawing(alloc, text, topic, line)?;
+    help_of(shown, topic, names.as_str())
 }
 
 /// A line of a plant, what is wrong there, and names that were meant perhaps.
 fn help_with_a_plant(alloc: Global, text: &str, fault: PlantFault) -> Result<String, AllocError>
-    ensures { IfOk result (λ help. TellsOf (of_plant fault.kind fault.inner) (string_bytes help)) }
+    ensures { IfOk result (λ help. TellsOf (of_plant fault.kind fault.inner) (marked_line text.now fault.line) (string_bytes help)) }
 {
     let Some(topic) = Topic::of_plant(fault) else {
         return Ok(String::new(alloc));
     };
-    let shown = line_marked(alloc, text, fault.line)?;
-    let more = match topic {
-        Topic::UnknownName => near_body(alloc, text, fault.line)?,
-        Topic::PlantUnknownName => near_plant(alloc, text, fault.line)?,
-        _ => String::new(alloc),
-    };
-    help_of(shown, topic, more.as_str())
+    let shown = marked_line(alloc, text, fault.line)?;
+    let names = meant_in_a_plant(alloc, text, topic, fault.line)?;
+    help_of(shown, topic, names.as_str())
 }
 
 /// What helps to mend a text that a command refused: the line with the place, what is wrong there, and names that were
 /// meant perhaps. It is empty for want of memory.
 pub fn help_with(alloc: Global, text: &str, fault: TextFault) -> Result<String, AllocError>
-    ensures { IfOk result (λ help. TellsOf (topic_of fault) (string_bytes help)) }
+    ensures { IfOk result (λ help. TellsOf (topic_of fault) (shown_of text.now fault) (string_bytes help)) }
 {
     match fault {
         TextFault::Draw(fault) => {
@@ -228,7 +246,7 @@ pub fn help_with(alloc: Global, text: &str, fault: TextFault) -> Result<String, 
 
 /// What helps to mend a schedule of which this line is no event: the line, and what is wrong there.
 pub fn help_with_a_schedule(alloc: Global, text: &str, line: u64) -> Result<String, AllocError>
-    ensures { IfOk result (λ help. TellsTopic ScheduleSyntax (string_bytes help)) }
+    ensures { IfOk result (λ help. TellsTopic ScheduleSyntax (marked_line text.now line) (string_bytes help)) }
 {
-    help_of(line_marked(alloc, text, line)?, Topic::ScheduleSyntax, "")
+    help_of(marked_line(alloc, text, line)?, Topic::ScheduleSyntax, "")
 }
