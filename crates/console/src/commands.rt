@@ -414,7 +414,7 @@ fn node_command<'a>(alloc: Global) -> Result<Command<'a>, AllocError>
 {
     Command::new(alloc, "node")
         .about(
-            "Runs one resource of a plant: answers each line of standard input before it reads the next",
+            "Runs one resource of a plant: answers the lines that it reads, or evaluates its tasks by the clock",
         )
         .after_help(NODE_HELP)
         .arg(plant_arg(alloc))?
