@@ -16,9 +16,10 @@ use Rattle.clap.proofs.SimpleLemmas.{plain_fields}
 use Rattle.console.specs.declared.request.TextRequest.TheVariants.{Eval, Check, Plan}
 use Rattle.console.specs.declared.request.View.{View}
 use Rattle.console.specs.declared.request.Color.{Color}
+use Rattle.console.specs.declared.request.Pace.{Pace}
 use Rattle.console.specs.declared.request.Request.{Request}
 use Rattle.console.specs.declared.request.Request.TheVariants.{Text as OfText, Verify, Sim, Run, Node, Explain, Audit, Page}
-use Rattle.console.specs.CommandLine.{AsksFor, GivesColor, GivesNumber, GivesOption, GivesView, IsNumber, OnlyMemoryRefuses, is_given, plc_app}
+use Rattle.console.specs.CommandLine.{AsksFor, GivesColor, GivesEnd, GivesNumber, GivesOption, GivesPace, GivesView, IsNumber, OnlyMemoryRefuses, is_given, plc_app}
 
 -- a plus is no digit
 pub plus_is_none : (text : List ℕ) → (slice_index text 0 == 43) ≡ true → IsNumber text → ⊥
@@ -178,17 +179,31 @@ sim_parts found (Page file) asked = absurd (unlike (codes "sim") (codes "page") 
 
 -- what `run` gives by its options
 pub run_parts : (found : List Row) (r : Request) → AsksFor (Some (codes "run", found)) r
-    → (n : ℕ) × GivesNumber 0 (first_of (codes "until") found) n
+    → (n : ℕ) × (p : Pace) × GivesNumber 0 (first_of (codes "until") found) n × GivesPace (is_given (codes "paced") found) (is_given (codes "clock") found) p
 run_parts found (OfText (Eval drawing dt view color files words)) asked = absurd (unlike (codes "run") (codes "eval") refl refl asked.0)
 run_parts found (OfText (Check plant)) asked = absurd (unlike (codes "run") (codes "check") refl refl asked.0)
 run_parts found (OfText (Plan plant until)) asked = absurd (unlike (codes "run") (codes "plan") refl refl asked.0)
 run_parts found (Verify verify) asked = absurd (unlike (codes "run") (codes "verify") refl refl asked.0)
 run_parts found (Sim sim) asked = absurd (unlike (codes "run") (codes "sim") refl refl asked.0)
-run_parts found (Run run) asked = (run.until, asked.1.1)
+run_parts found (Run run) asked = (run.until, run.pace, asked.1.1, asked.1.3)
 run_parts found (Node node) asked = absurd (unlike (codes "run") (codes "node") refl refl asked.0)
 run_parts found (Explain kind) asked = absurd (unlike (codes "run") (codes "explain") refl refl asked.0)
 run_parts found (Audit audit) asked = absurd (unlike (codes "run") (codes "audit") refl refl asked.0)
 run_parts found (Page file) asked = absurd (unlike (codes "run") (codes "page") refl refl asked.0)
+
+-- what `node` gives by its options
+pub node_parts : (found : List Row) (r : Request) → AsksFor (Some (codes "node", found)) r
+    → (end : Option ℕ) × GivesEnd found end
+node_parts found (OfText (Eval drawing dt view color files words)) asked = absurd (unlike (codes "node") (codes "eval") refl refl asked.0)
+node_parts found (OfText (Check plant)) asked = absurd (unlike (codes "node") (codes "check") refl refl asked.0)
+node_parts found (OfText (Plan plant until)) asked = absurd (unlike (codes "node") (codes "plan") refl refl asked.0)
+node_parts found (Verify verify) asked = absurd (unlike (codes "node") (codes "verify") refl refl asked.0)
+node_parts found (Sim sim) asked = absurd (unlike (codes "node") (codes "sim") refl refl asked.0)
+node_parts found (Run run) asked = absurd (unlike (codes "node") (codes "run") refl refl asked.0)
+node_parts found (Node node) asked = (node.until, asked.1.4)
+node_parts found (Explain kind) asked = absurd (unlike (codes "node") (codes "explain") refl refl asked.0)
+node_parts found (Audit audit) asked = absurd (unlike (codes "node") (codes "audit") refl refl asked.0)
+node_parts found (Page file) asked = absurd (unlike (codes "node") (codes "page") refl refl asked.0)
 
 -- a name of none of the ten asks for nothing
 pub no_command : (name : List ℕ) (found : List Row) (r : Request)

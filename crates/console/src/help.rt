@@ -167,9 +167,10 @@ Each resource of the plant runs in a thread of its own, all of them at once. Eac
 plan writes it) is a command to its resource: to evaluate the task, INTERVAL ms after the time before. Each word
 ADDRESS=VALUE gives a field address its value, a bit 0 or 1, a word -32768 to 32767; every other address is 0. A task takes,
 from each task that feeds it, the latest evaluation that has reached its resource; which one that is depends on the threads.
-With --paced each command waits until the one before it is done, and then it is always the same. With --state DIR each
-resource counts its incarnations in the file DIR/NAME.inc, one more at each run, and its task K keeps what stands in VAR
-RETAIN in DIR/NAME.K.ret; without it the incarnation is 1, and nothing is kept.
+With --paced each command waits until the one before it is done, and then it is always the same. With --clock each waits until
+its moment in the plan has come by the clock, counted from the start of the run. With --state DIR each resource counts its
+incarnations in the file DIR/NAME.inc, one more at each run, and its task K keeps what stands in VAR RETAIN in DIR/NAME.K.ret;
+without it the incarnation is 1, and nothing is kept.
 
 A line is written for each evaluation, in an order in which each one takes what was made before it; then UNANSWERED and the
 number of each command that wasn't done, FAULT and the resource, the number of the command and the reason for each thing
@@ -193,7 +194,7 @@ or an incarnation kept, the output can't be written, the threads can't be run or
 /// What `plc node --help` tells behind the words.
 pub const NODE_HELP: &str = "\
 The resource runs on a machine of its own: lines go in and out, and whatever carries them connects the nodes. These lines are
-read, each is answered before the next one is read, and words are as in a schedule:
+read and answered one after the other, and words are as in a schedule:
 
   EVAL R.T MS ADDRESS=VALUE..   evaluate the task, MS ms after the time before
   MESSAGE ..                    what another node gave, as its SEND line has it
@@ -203,6 +204,17 @@ read, each is answered before the next one is read, and words are as in a schedu
 SEND R LINE is written for each LINE that is to be carried to the node of R, and then one closing line: START at the start,
 EVAL, MESSAGE with taken, old, stray or unused, HELLO with new or old, RESTART, or REFUSED and why (plc explain tells of it).
 A line that is refused changes nothing; for a blank line or a comment nothing is written.
+
+With --cycle the node makes its evaluations by itself: of each task at the multiples of its INTERVAL by the clock, counted from
+START, those of one moment by PRIORITY and then in order. Each is noted and answered as a line EVAL, with the whole ms since the
+one before (the first: since START) and what the field is. A task that comes late is evaluated once; a line OVERRUN R.T N tells
+that N of its due moments were skipped. An EVAL that is read is refused. Standard input may end, and the node goes on.
+
+With --field FILE (a FIFO, a file, or - for standard input) the field has lines of its own: INPUT ADDRESS=VALUE.., which tells
+what it is from now on for the evaluations of --cycle and is answered INPUT taken; RESTART; and, without --cycle, EVAL. What
+isn't told stays; before, it is FALSE or 0. Standard input's lines are MESSAGE and HELLO alone then. Where FILE ends or can't be
+read, all of the field is FALSE and 0 again, FIELD ended is written, and the node goes on; a FIFO is opened anew. --until MS
+ends the node after MS ms.
 
 With --state DIR the resource counts its incarnations in DIR/NAME.inc, one more at each start and RESTART, and its task K
 keeps what stands in VAR RETAIN in DIR/NAME.K.ret; without it the incarnation is 1: for one life alone. With --journal FILE
@@ -218,9 +230,9 @@ Example:
   SEND R2 MESSAGE R1.FAST 1.1 HEARD R1=1 R2=1 GIVES A.N=1 A.FULL=0
   EVAL 1 R1.FAST 1.1 TAKES - GIVES A.N=1 A.FULL=0
 
-The exit status is 0 at the end of the lines; 1 if the text of the plant is refused, with FILE:LINE: Kind on standard error;
-2 if a word is refused; 3 if a file can't be read or written, an incarnation kept, the output written or there is no memory
-left: then the line that was read last isn't answered.";
+The exit status is 0 at the end of the lines or of MS; 1 if the text of the plant is refused, with FILE:LINE: Kind on standard
+error; 2 if a word is refused; 3 if a file can't be read or written, an incarnation kept, the output written, the clock read, a
+thread started or there is no memory left: then the line that was read last isn't answered.";
 
 /// What `plc audit --help` tells behind the words.
 pub const AUDIT_HELP: &str = "\

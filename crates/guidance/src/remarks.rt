@@ -99,7 +99,7 @@ const EVENTS: [Remark; 6] = [
 const COMMANDS: [Remark; 8] = [
     Remark {
         kind: "OutOfTurns",
-        sentence: "With --paced, the command before wasn't done within 10,000,000 turns of waiting. The command isn't given to its resource.",
+        sentence: "With --paced, the command before wasn't done within 10,000,000 turns of waiting; with --clock, the clock couldn't be read. The command isn't given to its resource.",
     },
     Remark {
         kind: "NoSuchTask",
@@ -169,14 +169,26 @@ const STATES: [Remark; 3] = [
     },
 ];
 
-const NODES: [Remark; 7] = [
+const NODES: [Remark; 10] = [
     Remark {
         kind: "Syntax",
-        sentence: "It is no EVAL, MESSAGE, HELLO or RESTART with its words. A MESSAGE is read only as a node of the same plant writes it behind SEND.",
+        sentence: "It is no EVAL, MESSAGE, HELLO, RESTART or, with --field, INPUT with its words. A MESSAGE is read only as a node of the same plant writes it behind SEND.",
     },
     Remark {
         kind: "TooLong",
         sentence: "It has more than 16,777,216 bytes. It was read to its end.",
+    },
+    Remark {
+        kind: "NotFromThere",
+        sentence: "With --field, the field says INPUT, EVAL and RESTART alone, and standard input MESSAGE and HELLO.",
+    },
+    Remark {
+        kind: "Cycling",
+        sentence: "With --cycle, no EVAL is read: the node makes its evaluations by itself.",
+    },
+    Remark {
+        kind: "Twice",
+        sentence: "Two words of the INPUT have one address. None of its words was taken.",
     },
     Remark {
         kind: "NoSuchResource",

@@ -11,4 +11,5 @@ returns c =
     let one = c.in_ok-arg.ensures.shape c.plant_arg.ensures.local ∙ ap₂ with_rule top c.plant_arg.ensures.rule in
     let two = c.in_ok-arg-2.ensures.shape c.until_arg.ensures.local ∙ ap₂ with_rule one c.until_arg.ensures.rule in
     let three = c.in_ok-arg-3.ensures.shape c.state_arg.ensures.local ∙ ap₂ with_rule two c.state_arg.ensures.rule in
-    IfOk-weaker c.arg-4.result _ _ (λ new added. added.shape c.paced_arg.ensures.local ∙ ap₂ with_rule three c.paced_arg.ensures.rule) c.arg-4.ensures
+    let four = c.in_ok-arg-4.ensures.shape c.paced_arg.ensures.local ∙ ap₂ with_rule three c.paced_arg.ensures.rule in
+    IfOk-weaker c.arg-5.result _ _ (λ new added. added.shape c.clock_arg.ensures.local ∙ ap₂ with_rule four c.clock_arg.ensures.rule) c.arg-5.ensures
