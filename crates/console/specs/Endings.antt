@@ -4,8 +4,7 @@ use Rattle.std.specs.Prelude.{◌≡◌, ◌⊎◌, ℕ, if◌then◌else◌, Li
 use Rattle.clap.specs.declared.error.kind.ErrorKind.{ErrorKind}
 use Rattle.clap.specs.declared.error.kind.ErrorKind.TheVariants as words
 use Rattle.plant.specs.PlantValue.{PlantValue}
-use Rattle.plant.specs.PlantText.{IsPlantText}
-use Rattle.text_commands.specs.CheckText.{GivesNoPlant}
+use Rattle.text_commands.specs.CheckText.{GivesNoPlant, IsPlantOf}
 use Rattle.text_commands.specs.declared.difference.Difference.{Difference}
 use Rattle.text_commands.specs.declared.text_command_fault.TextCommandFault.{TextCommandFault}
 use Rattle.text_commands.specs.declared.traced.Traced.{Traced}
@@ -173,7 +172,7 @@ pub record AreLinesDone (plant : PlantValue) (request : SimRequest) (answered : 
 pub record IsSimulated (request : SimRequest) (answered : Answered) : Type 0 where
   pub text : List ℕ
   pub plant : PlantValue
-  pub read : IsPlantText text plant
+  pub read : IsPlantOf text plant
   pub done : EndsWith (status_of_unread request.schedule.now) answered
       ⊎ (IsScheduleDone plant request answered ⊎ (EndsWith 3 answered ⊎ AreLinesDone plant request answered))
 

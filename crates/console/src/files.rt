@@ -1,6 +1,5 @@
 ghost use Rattle.std.specs.Prelude.{◌≡◌, IfOk, IfErr, List, ℕ, MatchResult};
-ghost use Rattle.plant.specs.PlantText.{IsPlantText};
-ghost use Rattle.text_commands.specs.CheckText.{GivesNoPlant};
+ghost use Rattle.text_commands.specs.CheckText.{GivesNoPlant, IsPlantOf};
 ghost use Rattle.console.specs.Endings.{IsNoPlantStatus, status_of_unread};
 
 use crate::faults::print_fault;
@@ -87,7 +86,7 @@ pub fn file_bytes<R: Files + Eprint + AllocGlobal>(
 
 /// Reads a plant that is to be shared.
 fn shared_plant(alloc: Global, text: &str) -> Result<Arc<Plant>, TextCommandFault>
-    ensures ok { IfOk result (λ plant. IsPlantText text.now plant.value) }
+    ensures ok { IfOk result (λ plant. IsPlantOf text.now plant.value) }
     ensures err { IfErr result (GivesNoPlant text.now) }
 {
     let plant = read_plant(alloc, text)?;
@@ -100,7 +99,7 @@ pub fn file_plant<R: Files + Eprint + AllocGlobal>(
     file: &str,
 ) -> io::Result<Result<Arc<Plant>, u8>>
     ensures { IfOk result (λ read. MatchResult read
-        (λ plant. (text : List ℕ) × IsPlantText text plant.value)
+        (λ plant. (text : List ℕ) × IsPlantOf text plant.value)
         (IsNoPlantStatus file.now)) }
 {
     let text = match file_text(rt, file)? {

@@ -15,12 +15,21 @@ use network::Graph;
 use plant::PlantFault;
 use power_flow::{Declarations, Declared, Kind};
 use std::alloc::{AllocError, Global};
-use text_commands::TextFault;
+use text_commands::{TextFault, without_comments};
 use words::is_plain_name;
+
+/// The drawing of a text, if need be with its comments emptied. `None`: it is refused, or there was no memory left.
+fn drawing_of(alloc: Global, text: &str) -> Option<Drawing> {
+    if let Ok(drawing) = Drawing::read(alloc, text, 1) {
+        return Some(drawing);
+    }
+    let text = without_comments(alloc, text).ok()?;
+    Drawing::read(alloc, text.as_str(), 1).ok()
+}
 
 /// The names that a drawing declares by their use. `None`: its names aren't reached, or there was no memory left.
 fn names_of_a_drawing(alloc: Global, text: &str) -> Option<Declarations> {
-    let drawing = Drawing::read(alloc, text, 1).ok()?;
+    let drawing = drawing_of(alloc, text)?;
     let graph = Graph::build(alloc, &drawing).ok()?;
     Declarations::guess(alloc, &graph).ok()
 }
@@ -90,7 +99,8 @@ fn near_drawing(alloc: Global, text: &str, line: u64) -> Result<String, AllocErr
         return Ok(String::new(alloc));
     };
     let names = names_in(alloc, &declarations)?;
-    match unknown_near(text, line, &names) {
+    let plain = without_comments(alloc, text)?;
+    match unknown_near(plain.as_str(), line, &names) {
         Some(name) => nearest_to(alloc, name, &names),
         None => Ok(String::new(alloc)),
     }
@@ -136,7 +146,8 @@ pub fn help_with_a_word(alloc: Global, text: &str, word: &str) -> Result<String,
 fn near_body(alloc: Global, text: &str, line: u64) -> Result<String, AllocError> {
     let mentions = mentions_of(alloc, text.as_bytes())?;
     let names = declared_for_a_body(alloc, &mentions, line)?;
-    match unknown_near(text, line, &names) {
+    let plain = without_comments(alloc, text)?;
+    match unknown_near(plain.as_str(), line, &names) {
         Some(name) => nearest_to(alloc, name, &names),
         None => Ok(String::new(alloc)),
     }

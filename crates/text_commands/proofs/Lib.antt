@@ -13,3 +13,4 @@ pub mod Expecting
 pub mod TestReading
 pub mod TestAnswers
 pub mod TracedAnswers
+pub mod Joining

@@ -7,11 +7,11 @@ use Rattle.plant.specs.declared.plant_fault.PlantFault.{PlantFault}
 use Rattle.plant.specs.declared.plant_fault.PlantFaultKind.TheVariants.{Memory, Syntax}
 use Rattle.text_commands.specs.declared.text_command_fault.TextCommandFault.{TextCommandFault}
 use Rattle.text_commands.specs.declared.text_fault.TextFault.TheVariants.{Plant}
-use Rattle.text_commands.specs.CheckText.{GivesNoPlant}
+use Rattle.text_commands.specs.Steps.PlantRefusing.{GivesNoPlantOfText}
 use Rattle.text_commands.specs.Giving.{GivenFor}
 
 -- a refusal by the reader of plants is one of the text, or of memory
 pub plant_refused : {T : Type 0} (text : List ℕ) (found : PlantFault) (r : Result T TextCommandFault) → IsErrAnd r (GivenFor (found.kind ≡ Memory) (Plant found))
-    → IsPlantFault found → (found.kind ≢ Memory → IsNoPlant text) → (found.kind ≡ Syntax → IsSyntaxIn text found) → (IsOfBody found.kind → IsBodyFaultIn text found) → (IsOfDeclaredName found.kind → IsNameFaultIn text found) → IfErr r (GivesNoPlant text)
+    → IsPlantFault found → (found.kind ≢ Memory → IsNoPlant text) → (found.kind ≡ Syntax → IsSyntaxIn text found) → (IsOfBody found.kind → IsBodyFaultIn text found) → (IsOfDeclaredName found.kind → IsNameFaultIn text found) → IfErr r (GivesNoPlantOfText text)
 plant_refused text found (Ok x) given value refused syntax body name = tt
 plant_refused text found (Err fault) given value refused syntax body name = elim given [ inl w ↦ rw w.1 tt | inr w ↦ rw w.1 (record { not_memory = w.0; value = value; no_plant = refused w.0; syntax = syntax; body = body; name = name }) ]

@@ -1,5 +1,5 @@
 -- What `plc check` writes.
-use Rattle.std.specs.Prelude.{◌≡◌, ◌≢◌, ℕ, ◌++◌, List, Option, length, codes}
+use Rattle.std.specs.Prelude.{◌≡◌, ◌≢◌, ◌⊎◌, ℕ, ◌++◌, List, Option, length, codes}
 use Rattle.std.specs.Fmt.{decimal}
 use Rattle.std.specs.Io.KnownBytes.{Appends, Keeps}
 use Rattle.plant.specs.PlantValue.{PlantValue}
@@ -9,6 +9,7 @@ use Rattle.plant.specs.PlantText.{IsPlantText, IsNoPlant, IsSyntaxIn, IsBodyFaul
 use Rattle.plant.specs.declared.plant_fault.PlantFault.{PlantFault}
 use Rattle.plant.specs.declared.plant_fault.PlantFaultKind.TheVariants as plant
 use Rattle.text_lines.specs.Sending.{SendsLess}
+use Rattle.text_commands.specs.Comments.{without_comments}
 use Rattle.text_commands.specs.declared.text_command_fault.TextCommandFault.{TextCommandFault}
 use Rattle.text_commands.specs.declared.text_command_fault.TextCommandFault.TheVariants.{Text, Word, Write, Memory}
 use Rattle.text_commands.specs.declared.text_fault.TextFault.{TextFault}
@@ -24,13 +25,17 @@ check_lines plant =
     count_line (codes "resources") (length plant.resources) ++ count_line (codes "tasks") (task_count plant)
     ++ count_line (codes "programs") (program_count plant) ++ count_line (codes "connections") (connection_count plant)
 
+-- The plant of a text: as it stands; or, where that is no plant, with its comments emptied.
+abbrev pub IsPlantOf : List ℕ → PlantValue → Type 0
+IsPlantOf text plant = IsPlantText text plant ⊎ (IsNoPlant text × IsPlantText (without_comments text) plant)
+
 -- the text is a plant, and its four lines were written
 abbrev pub WritesCheck : (text : List ℕ) (old new : Option (List ℕ)) → Type 0
-WritesCheck text old new = (plant : PlantValue) × IsPlantText text plant × Appends old new (check_lines plant)
+WritesCheck text old new = (plant : PlantValue) × IsPlantOf text plant × Appends old new (check_lines plant)
 
 -- the text is a plant, and a beginning of its four lines was written, not all of them
 abbrev pub WritesCheckPart : (text : List ℕ) (old new : Option (List ℕ)) → Type 0
-WritesCheckPart text old new = (plant : PlantValue) × IsPlantText text plant × SendsLess (check_lines plant) old new
+WritesCheckPart text old new = (plant : PlantValue) × IsPlantOf text plant × SendsLess (check_lines plant) old new
 
 -- a refusal of the text of a plant: not want of memory, with what belongs to its kind, and of no faultless text; the
 -- fault of a body is that of the first body that is refused, Syntax is that of a text that isn't of the grammar, and any
@@ -43,12 +48,16 @@ pub record IsRefusal (text : List ℕ) (fault : PlantFault) : Type 0 where
   pub body : IsOfBody fault.kind → IsBodyFaultIn text fault
   pub name : IsOfDeclaredName fault.kind → IsNameFaultIn text fault
 
+-- what is told of a text that is no plant: the fault that it has with its comments emptied
+abbrev pub IsToldOf : List ℕ → PlantFault → Type 0
+IsToldOf text fault = IsNoPlant text × IsRefusal (without_comments text) fault
+
 -- only the reader of plants refuses a text here
 abbrev pub RefusesPlantText : List ℕ → TextFault → Type 0
 RefusesPlantText text (Draw fault) = ⊥
 RefusesPlantText text (Graph fault) = ⊥
 RefusesPlantText text (Bind fault) = ⊥
-RefusesPlantText text (Plant fault) = IsRefusal text fault
+RefusesPlantText text (Plant fault) = IsToldOf text fault
 RefusesPlantText text TooLong = ⊥
 
 -- no plant was read: its text is refused, or memory

@@ -31,6 +31,7 @@ use Rattle.text_commands.specs.declared.text_fault.TextFault.{TextFault}
 use Rattle.text_commands.specs.declared.text_fault.TextFault.TheVariants.{Draw, Graph, Bind, Plant, TooLong}
 use Rattle.text_commands.specs.Rows.{RowValue, SpellRows, SpellNoRows, IsFirstRefused, scans_of}
 use Rattle.text_commands.specs.Lines.{line_of}
+use Rattle.text_commands.specs.Comments.{without_comments}
 use Rattle.text_lines.specs.Sending.{Stops}
 use Rattle.text_lines.specs.declared.send_fault.SendFault.{SendFault}
 use Rattle.text_lines.specs.declared.send_fault.SendFault.TheVariants as sending
@@ -40,9 +41,9 @@ pub record IsPictureOf (text : List ℕ) (drawn : Picture) : Type 0 where
   pub well_drawn : IsWellDrawn (rows_of text)
   pub picture : drawn ≡ picture_of 1 (layout_of (rows_of text))
 
--- The ladder of a drawing: its networks in order, and its names, declared by their use. Each network meets the left
+-- The ladder of a text: its networks in order, and its names, declared by their use. Each network meets the left
 -- rail and has at most 200 rows, no two boxes have one name, and the names can be bound.
-pub record IsLadderOfDrawing (text : List ℕ) (ds : List Declaration) (networks : List Diagram) : Type 0 where
+pub record IsLadderOfText (text : List ℕ) (ds : List Declaration) (networks : List Diagram) : Type 0 where
   pub picture : Picture
   pub graph : GraphValue
   pub drawn : IsPictureOf text picture
@@ -51,6 +52,12 @@ pub record IsLadderOfDrawing (text : List ℕ) (ds : List Declaration) (networks
   pub guessed : AreGuessed graph ds
   pub diagrams : networks ≡ diagrams_of graph
   pub bound : CanBind ds networks
+
+-- The ladder of a drawing: of its text as it stands; or, where that is ill drawn, with its comments emptied.
+abbrev pub IsLadderOfDrawing : List ℕ → List Declaration → List Diagram → Type 0
+IsLadderOfDrawing drawing ds networks =
+    IsLadderOfText drawing ds networks
+    ⊎ (IsIllDrawn (rows_of drawing) × IsLadderOfText (without_comments drawing) ds networks)
 
 -- a variable is set to a digit, if there is one
 abbrev pub set_digit : List Slot → ℕ → Option ℕ → List Slot
@@ -142,14 +149,20 @@ pub record RefusesNetworksOf (drawing : List ℕ) (fault : GraphFault) : Type 0 
   pub first : IsFirstGraphFaultAt picture fault.kind place
   pub found : GraphFaultLiesAt picture.first_line place fault
 
--- what holds after a refusal by the text: the fault is the first one
+-- what holds after a refusal by a text: the fault is the first one
+abbrev pub RefusesText : List ℕ → TextFault → Type 0
+RefusesText text (Draw fault) =
+    IsIllDrawn (rows_of text) × (fault.kind ≢ draw.Memory) × TellsFirstFault text 1 fault
+RefusesText text (Graph fault) = RefusesNetworksOf text fault
+RefusesText text (Bind fault) = RefusesNamesOf text fault
+RefusesText text (Plant fault) = ⊥
+RefusesText text TooLong = ⊥
+
+-- What holds after a refusal by a drawing: of its text as it stands, if it is well drawn; else with its comments emptied.
 abbrev pub RefusesDrawing : List ℕ → TextFault → Type 0
-RefusesDrawing drawing (Draw fault) =
-    IsIllDrawn (rows_of drawing) × (fault.kind ≢ draw.Memory) × TellsFirstFault drawing 1 fault
-RefusesDrawing drawing (Graph fault) = RefusesNetworksOf drawing fault
-RefusesDrawing drawing (Bind fault) = RefusesNamesOf drawing fault
-RefusesDrawing drawing (Plant fault) = ⊥
-RefusesDrawing drawing TooLong = ⊥
+RefusesDrawing drawing fault =
+    (IsWellDrawn (rows_of drawing) × RefusesText drawing fault)
+    ⊎ (IsIllDrawn (rows_of drawing) × RefusesText (without_comments drawing) fault)
 
 -- why there was a fault, and what was written before: nothing before a fault of the text or of the words
 abbrev pub Explains : List ℕ → List (List ℕ) → ℕ → Option (List ℕ) → Option (List ℕ) → TextCommandFault → Type 0

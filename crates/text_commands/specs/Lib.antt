@@ -1,5 +1,6 @@
 pub mod Rows
 pub mod Lines
+pub mod Comments
 pub mod EvalText
 pub mod CheckText
 pub mod PlanText

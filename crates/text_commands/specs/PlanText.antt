@@ -5,10 +5,9 @@ use Rattle.std.specs.Fmt.{decimal}
 use Rattle.std.specs.Io.KnownBytes.{Appends, Keeps}
 use Rattle.task_codes.specs.declared.due.Due.{Due}
 use Rattle.plant.specs.PlantValue.{PlantValue}
-use Rattle.plant.specs.PlantText.{IsPlantText}
 use Rattle.plant.specs.Plan.{IsPlan}
 use Rattle.text_lines.specs.LineParts.{task_text}
-use Rattle.text_commands.specs.CheckText.{IsRefusal}
+use Rattle.text_commands.specs.CheckText.{IsPlantOf, IsToldOf}
 use Rattle.text_lines.specs.Sending.{Stops}
 use Rattle.text_lines.specs.declared.send_fault.SendFault.{SendFault}
 use Rattle.text_lines.specs.declared.send_fault.SendFault.TheVariants as sending
@@ -39,7 +38,7 @@ RefusesPlanOf plant until Memory = Unit {0}
 -- the text is a plant, and this is its plan
 pub record Planned (text : List ℕ) (until : ℕ) : Type 0 where
   pub plant : PlantValue
-  pub read : IsPlantText text plant
+  pub read : IsPlantOf text plant
   pub dues : List Due
   pub planned : IsPlan plant until dues
 
@@ -60,7 +59,7 @@ abbrev pub RefusesPlan : List ℕ → ℕ → TextFault → Type 0
 RefusesPlan text until (Draw fault) = ⊥
 RefusesPlan text until (Graph fault) = ⊥
 RefusesPlan text until (Bind fault) = ⊥
-RefusesPlan text until (Plant fault) = IsRefusal text fault
+RefusesPlan text until (Plant fault) = IsToldOf text fault
 RefusesPlan text until TooLong = (p : Planned text until) × (100000 < length p.dues)
 
 -- why there was a fault, and what was written before: nothing before a fault of the text

@@ -7,3 +7,4 @@ pub mod Testing
 pub mod Showing
 pub mod Tracing
 pub mod Setting
+pub mod PlantRefusing

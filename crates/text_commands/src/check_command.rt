@@ -1,9 +1,11 @@
 ghost use Rattle.std.specs.Prelude.{◌≡◌, ◌<◌, ◌^◌, OnOk, IfOk, IfErr, string_bytes};
 ghost use Rattle.plant.specs.PlantText.{IsPlantText};
 ghost use Rattle.text_lines.specs.Growing.{GrowsBy};
-ghost use Rattle.text_commands.specs.CheckText.{count_line, check_lines, GivesNoPlant, WritesCheck, ExplainsCheck};
+ghost use Rattle.text_commands.specs.CheckText.{count_line, check_lines, GivesNoPlant, IsPlantOf, WritesCheck, ExplainsCheck};
+ghost use Rattle.text_commands.specs.Steps.PlantRefusing.{GivesNoPlantOfText};
 ghost use Rattle.plant.specs.Counts.{AreCounts};
 
+use crate::comments::without_comments;
 use crate::plant_counts::{count_connections, count_programs, count_tasks};
 use crate::text_command_fault::TextCommandFault;
 use plant::{Plant, counts_are_small};
@@ -12,12 +14,27 @@ use std::fmt::Write as _;
 use std::io::Write;
 use text_lines::write_text;
 
-/// Reads the text of a plant.
-pub fn read_plant(alloc: Global, text: &str) -> Result<Plant, TextCommandFault>
+/// Reads the text of a plant as it stands.
+fn plant_of_text(alloc: Global, text: &str) -> Result<Plant, TextCommandFault>
     ensures ok { IfOk result (λ plant. IsPlantText text.now plant) }
-    ensures err { IfErr result (GivesNoPlant text.now) }
+    ensures err { IfErr result (GivesNoPlantOfText text.now) }
 {
     Ok(Plant::read(alloc, text)?)
+}
+
+/// Reads the text of a plant. One that is none is read with its comments emptied: rows that begin with `(*` and end with
+/// `*)`, so that drawings may have them too.
+pub fn read_plant(alloc: Global, text: &str) -> Result<Plant, TextCommandFault>
+    ensures ok { IfOk result (λ plant. IsPlantOf text.now plant) }
+    ensures err { IfErr result (GivesNoPlant text.now) }
+{
+    match plant_of_text(alloc, text) {
+        Err(TextCommandFault::Text(_)) => {
+            let text = without_comments(alloc, text)?;
+            plant_of_text(alloc, text.as_str())
+        }
+        read => read,
+    }
 }
 
 fn push_count(text: &mut String, what: &str, count: usize) -> Result<(), AllocError>

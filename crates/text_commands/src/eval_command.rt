@@ -2,13 +2,15 @@ ghost use Rattle.std.specs.Prelude.{◌≡◌, List, OnOk, IfOk, IfErr, All, sli
 ghost use Rattle.declared_names.specs.declared.declarations.Declaration.{Declaration};
 ghost use Rattle.scan_steps.specs.Slots.{AreSlotsOf};
 ghost use Rattle.text_commands.specs.Rows.{IsBoolAt, texts};
-ghost use Rattle.text_commands.specs.EvalText.{IsLadderOfDrawing, WritesScans, StopsScans, WritesAll, Explains, set_digit, set_before};
-ghost use Rattle.text_commands.specs.Steps.Refusing.{RefusesLadder};
+ghost use Rattle.text_commands.specs.EvalText.{IsLadderOfDrawing, IsLadderOfText, WritesScans, StopsScans, WritesAll, Explains, set_digit, set_before};
+ghost use Rattle.text_commands.specs.Steps.Refusing.{RefusesLadder, RefusesLadderOfText};
 
+use crate::comments::without_comments;
 use crate::line::state_line;
 use crate::row::Row;
 use crate::rows::{read_rows, scan_count};
 use crate::text_command_fault::TextCommandFault;
+use crate::text_fault::TextFault;
 use declared_names::Declarations;
 use drawings::Drawing;
 use ladder_text::ReadText;
@@ -20,15 +22,30 @@ use std::io::Write;
 use std_blocks::Value;
 use text_lines::{SendFault, write_text};
 
-/// The ladder of a drawing, its names declared by their use.
-pub fn read_ladder(alloc: Global, drawing: &str) -> Result<Ladder, TextCommandFault>
-    ensures ok { IfOk result (λ ladder. IsLadderOfDrawing drawing.now ladder.declarations ladder.networks) }
-    ensures err { IfErr result (RefusesLadder drawing.now) }
+/// The ladder of a text as it stands, its names declared by their use.
+fn ladder_of_text(alloc: Global, drawing: &str) -> Result<Ladder, TextCommandFault>
+    ensures ok { IfOk result (λ ladder. IsLadderOfText drawing.now ladder.declarations ladder.networks) }
+    ensures err { IfErr result (RefusesLadderOfText drawing.now) }
 {
     let drawing = Drawing::read(alloc, drawing, 1)?;
     let graph = Graph::build(alloc, &drawing)?;
     let declarations = Declarations::guess(alloc, &graph)?;
     Ok(Ladder::bind(alloc, graph, declarations)?)
+}
+
+/// The ladder of a drawing, its names declared by their use. A text that is ill drawn is read with its comments emptied:
+/// rows that begin with `(*` and end with `*)`.
+pub fn read_ladder(alloc: Global, drawing: &str) -> Result<Ladder, TextCommandFault>
+    ensures ok { IfOk result (λ ladder. IsLadderOfDrawing drawing.now ladder.declarations ladder.networks) }
+    ensures err { IfErr result (RefusesLadder drawing.now) }
+{
+    match ladder_of_text(alloc, drawing) {
+        Err(TextCommandFault::Text(TextFault::Draw(_))) => {
+            let text = without_comments(alloc, drawing)?;
+            ladder_of_text(alloc, text.as_str())
+        }
+        read => read,
+    }
 }
 
 /// Sets the variable of a row to its digit for scan k, counted from 0, if it has one.

@@ -3,6 +3,7 @@
 
 mod chart;
 mod check_command;
+mod comments;
 mod difference;
 mod eval_command;
 mod expectations;
@@ -24,8 +25,9 @@ mod tracks;
 mod word_fault;
 
 pub use check_command::{check, read_plant};
+pub use comments::without_comments;
 pub use difference::Difference;
-pub use eval_command::eval;
+pub use eval_command::{eval, read_ladder};
 pub use form::Form;
 pub use line::state_line;
 pub use plan_command::{plan_of, plan_text};

@@ -3,9 +3,8 @@ use Rattle.std.specs.Prelude.{◌≡◌, ℕ, ◌++◌, List, Option, map}
 use Rattle.std.specs.List.{AllZip, flat_map, zip}
 use Rattle.std.specs.Io.KnownBytes.{Appends, Keeps}
 use Rattle.plant.specs.PlantValue.{PlantValue}
-use Rattle.plant.specs.PlantText.{IsPlantText}
 use Rattle.text_lines.specs.Sending.{SendsLess}
-use Rattle.text_commands.specs.CheckText.{RefusesPlantText}
+use Rattle.text_commands.specs.CheckText.{IsPlantOf, RefusesPlantText}
 use Rattle.text_commands.specs.declared.text_command_fault.TextCommandFault.TheVariants.{Text, Word, Write, Memory}
 use Rattle.verifying.specs.declared.summary.Summary.{Summary}
 use Rattle.plant_claims.specs.declared.output.Output.{Output}
@@ -37,7 +36,7 @@ pub record IsAnswer (plant : PlantValue) (v : QuestionValue) (text : List ℕ) :
 -- the text of the plant was read, and such a text was written; this is its summary
 pub record WritesAnswer (file : List ℕ) (v : QuestionValue) (old new : Option (List ℕ)) (summary : Summary) : Type 0 where
   pub plant : PlantValue
-  pub read : IsPlantText file plant
+  pub read : IsPlantOf file plant
   pub text : List ℕ
   pub answer : IsAnswer plant v text
   pub appended : Appends old new text
@@ -46,7 +45,7 @@ pub record WritesAnswer (file : List ℕ) (v : QuestionValue) (old new : Option 
 -- a beginning of such a text was written, and not all of it
 pub record WritesLess (file : List ℕ) (v : QuestionValue) (old new : Option (List ℕ)) : Type 0 where
   pub plant : PlantValue
-  pub read : IsPlantText file plant
+  pub read : IsPlantOf file plant
   pub text : List ℕ
   pub answer : IsAnswer plant v text
   pub sent : SendsLess text old new
@@ -54,7 +53,7 @@ pub record WritesLess (file : List ℕ) (v : QuestionValue) (old new : Option (L
 -- the plant of the text
 pub record IsOfPlant (file : List ℕ) (P : PlantValue → Type 0) : Type 0 where
   pub plant : PlantValue
-  pub read : IsPlantText file plant
+  pub read : IsPlantOf file plant
   pub is : P plant
 
 -- Why there was a fault, and what was written before: nothing, but where the output failed. The words are read before the

@@ -1,6 +1,6 @@
 ghost use Rattle.std.specs.Prelude.{◌≡◌, IfOk, IfErr, string_bytes};
 ghost use Rattle.task_codes.specs.CodeValue.{lists_of};
-ghost use Rattle.plant.specs.PlantText.{IsPlantText};
+ghost use Rattle.text_commands.specs.CheckText.{IsPlantOf};
 ghost use Rattle.verifying_plants.specs.Questions.{IsAsked, question_of};
 ghost use Rattle.verifying_plants.specs.Summaries.{IsSummary};
 ghost use Rattle.verifying_plants.specs.VerifyPlant.{ExplainsAnswer, WritesAnswer};

@@ -3,8 +3,7 @@ use Rattle.std.specs.Prelude.{◌≡◌, ◌++◌, ℕ, List, Option}
 use Rattle.std.specs.Global.{Vec}
 use Rattle.std.specs.List.{AllZip, flat_map, zip}
 use Rattle.plant.specs.PlantValue.{PlantValue}
-use Rattle.plant.specs.PlantText.{IsPlantText}
-use Rattle.text_commands.specs.CheckText.{RefusesPlantText}
+use Rattle.text_commands.specs.CheckText.{IsPlantOf, RefusesPlantText}
 use Rattle.text_commands.specs.declared.text_command_fault.TextCommandFault.TheVariants.{Text, Word, Write, Memory}
 use Rattle.verifying.specs.declared.summary.Summary.{Summary}
 use Rattle.plant_claims.specs.declared.output.Output.{Output}
@@ -21,7 +20,7 @@ use Rattle.verifying_plants.specs.VerifyPlant.{IsAnswer, IsOfPlant}
 -- the plant of the text, and what is asked of it
 pub record IsPrepared (file : List ℕ) (v : QuestionValue) (q : Question) (claims : List (List Output)) : Type 0 where
   pub plant : PlantValue
-  pub read : IsPlantText file plant
+  pub read : IsPlantOf file plant
   pub asked : IsAsked plant v q claims
 
 -- a verdict on each claim
@@ -40,7 +39,7 @@ pub record IsTold (q : Question) (most_states : ℕ) (claims : List (List Output
 -- an answer about the plant of the text, and what comes of its verdicts
 pub record IsToldAnswer (file : List ℕ) (v : QuestionValue) (text : List ℕ) (summary : Summary) : Type 0 where
   pub plant : PlantValue
-  pub read : IsPlantText file plant
+  pub read : IsPlantOf file plant
   pub answer : IsAnswer plant v text
   pub summed : IsSummary answer.verdicts summary
 

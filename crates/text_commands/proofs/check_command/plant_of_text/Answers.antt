@@ -1,5 +1,5 @@
 use Rattle.text_commands.proofs.PlantRefusing.{plant_refused}
-use Rattle.text_commands.proofs.check_command.read_plant.Goals as goal
+use Rattle.text_commands.proofs.check_command.plant_of_text.Goals as goal
 
 pub returns-in_err-read-clause-err : goal.returns-in_err-read-clause-err
 returns-in_err-read-clause-err c =

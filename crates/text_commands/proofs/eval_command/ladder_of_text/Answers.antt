@@ -1,5 +1,5 @@
 use Rattle.text_commands.specs.Steps.Refusing.{names_refused, networks_refused, drawing_refused}
-use Rattle.text_commands.proofs.eval_command.read_ladder.Goals as goal
+use Rattle.text_commands.proofs.eval_command.ladder_of_text.Goals as goal
 
 pub returns-in_err-bind-clause-err : goal.returns-in_err-bind-clause-err
 returns-in_err-bind-clause-err c =
