@@ -9,6 +9,7 @@ from .traces import trace_words
 
 TIMERS, COUNTERS = ("TP", "TON", "TOF"), ("CTU", "CTD", "CTUD")
 CONTACTS = ["| |"] * 5 + ["|/|"] * 3 + ["|P|", "|N|", "|p|", "|n|"]
+COMMENTS = ["(* pump 1 *)"] * 3 + ["(**)", "   (* A | B ( ) *)  ", "(* C *) A", "(* A *) (* B *)", "(*)", "(* a", "\t(* b *)", "|(* c *)", "// d"]
 COILS = ["( )"] * 4 + ["(/)", "(S)", "(R)", "(P)", "(N)", "(s)", "(r)"]
 
 
@@ -255,10 +256,18 @@ def digits(chance, count):
     return row
 
 
+def with_comment(chance, rows):
+    """The rows with a comment above them, below them or between two of them."""
+    at = chance.choice([0, len(rows), chance.randint(0, len(rows))])
+    return rows[:at] + [chance.choice(COMMENTS)] + rows[at:]
+
+
 def drawing(chance):
     """A drawing, with words for its scans."""
     names = bench_names(chance) if chance.random() < 0.35 else free_names(chance)
     rows = Drawer(chance, names).drawing(len(names.boxes) if names.is_bench else chance.randint(1, 6))
+    for _ in range(chance.choice([0] * 8 + [1, 2])):
+        rows = with_comment(chance, rows)
     text = "\n".join(rows) + chance.choice(["\n", "\n", "\n", ""])
     if chance.random() < 0.05:
         text = text.replace("\n", "\r\n")

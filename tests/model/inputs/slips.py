@@ -1,7 +1,7 @@
 """Texts with a slip: a drawing, plant or schedule in which a few signs, words or lines are changed."""
 import re
 
-from .drawings import drawing
+from .drawings import drawing, with_comment
 from .plants import plant
 from .schedules import schedule
 
@@ -81,6 +81,10 @@ def with_retain(chance, text):
     return text[:at] + chance.choice([" RETAIN", " retain", "\nRETAIN", " (**)RETAIN ", "_RETAIN"]) + text[at:]
 
 
+def with_comment_row(chance, text):
+    return "\n".join(with_comment(chance, text.split("\n")))
+
+
 SLIPS = {
     with_sign_left_out: 2,
     with_sign_put_in: 2,
@@ -92,6 +96,7 @@ SLIPS = {
     with_other_word: 9,
     without_word: 4,
     with_retain: 1,
+    with_comment_row: 2,
 }
 
 

@@ -8,7 +8,7 @@ from .binding import guessed, refuse_names
 from .drawing_faults import read_drawing
 from .inputs import BadInput, Inputs, parts_of
 from .kept_files import BadFile, KeptFiles
-from .lines import lines_of
+from .lines import lines_of, without_comments
 from .networks import networks_of
 from .node import Node, NoFiles
 from .plan import plan_of
@@ -184,20 +184,36 @@ class Files:
 
     def plant(self, path):
         try:
-            return read_plant(self.text(path))
+            return plant_of(self.text(path))
         except Refusal as refusal:
             within = f"{refusal.within} " if refusal.within else ""
             raise Refused(REFUSED_TEXT, f"{path}:{refusal.line}: {within}{refusal.kind}") from None
 
     def ladder(self, path):
         try:
-            drawing = read_drawing(lines_of(self.text(path)))
+            drawing = drawing_of(self.text(path))
             networks = networks_of(drawing)
             declarations = guessed(drawing)
             refuse_names(drawing, declarations)
             return Ladder(drawing, networks, declarations)
         except Refusal as refusal:
             raise Refused(REFUSED_TEXT, f"{path}:{refusal.line}:{refusal.column}: {refusal.kind}") from None
+
+
+def drawing_of(text):
+    """The drawing of a text; of one that is refused, with its comments emptied."""
+    try:
+        return read_drawing(lines_of(text))
+    except Refusal:
+        return read_drawing(lines_of(without_comments(text)))
+
+
+def plant_of(text):
+    """The plant of a text; of one that is refused, with its comments emptied."""
+    try:
+        return read_plant(text)
+    except Refusal:
+        return read_plant(without_comments(text))
 
 
 def evaluate(write, files, paths, options, more):
