@@ -17,7 +17,8 @@ def main():
     time.sleep(0.5)
     print("it has ended" if node.poll() is not None else "it goes on")
     node.terminate()
-    print(node.communicate()[0], end="")
+    print(node.stdout.read(), end="")
+    node.wait()
 
 
 main()
