@@ -20,7 +20,7 @@ pub const TOO_LARGE_REFUSED: &str = "(a line of 241 signs, or 2,001 lines)";
 pub const TOO_LARGE_MENDED: &str = "(two drawings, or a longer line carried on in the rows below)";
 
 pub const NO_LEFT_RAIL: &str =
-    "The leftmost column is the left rail and has no other signs than | and +; draw the rail, and begin everything else on its right.";
+    "The leftmost column is the left rail and has no other signs than | and +; draw the rail, and begin everything else on its right. A comment is a row of its own: (* .. *).";
 
 pub const NO_LEFT_RAIL_REFUSED: &str = "\
 LAMP
@@ -49,7 +49,7 @@ pub const BAD_BOX_MENDED: &str = "\
 |  +-----+";
 
 pub const BAD_MARK: &str =
-    "This sign means nothing here: a contact is | |, |/|, |P| or |N| right behind a - or +, a coil is ( ), (/), (S), (R), (P) or (N), and a line at the side of a box stands in the row of a pin.";
+    "This sign means nothing here: a contact is | |, |/|, |P| or |N| right behind a - or +, a coil is ( ), (/), (S), (R), (P) or (N), and a line at the side of a box stands in the row of a pin. A comment is a row of its own: (* .. *).";
 
 pub const BAD_MARK_REFUSED: &str = "\
 |  A    Y
