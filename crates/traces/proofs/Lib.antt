@@ -1,3 +1,10 @@
+pub mod Changes
+pub mod Declarations
 pub mod Dumping
+pub mod Heads
+pub mod Moments
+pub mod Names
+pub mod Reading
 pub mod Stretches
 pub mod Tracks
+pub mod Words

@@ -1,5 +1,7 @@
 pub mod Tracks
 pub mod ValueChanges
+pub mod Reader
+pub mod Laws
 pub mod Segments
 pub mod Escaped
 pub mod Diagram

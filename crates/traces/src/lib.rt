@@ -7,6 +7,7 @@ mod diagram_parts;
 mod escaped;
 mod evaluated_moments;
 mod label;
+mod laws;
 mod output_texts;
 mod outputs;
 mod scale;
@@ -15,6 +16,7 @@ mod texts;
 mod track;
 mod value_changes;
 
+pub use laws::{dump_reads_back, names_are_words};
 pub use output_texts::{entry_texts, event_texts};
 pub use texts::{TraceTexts, Wanted, trace_texts};
 pub use track::{Scope, Track};
