@@ -50,7 +50,7 @@ class Account:
         start = noted and start_of(plant, noted[0])
         if not start or start.resource is not resource:
             raise Wrong(f"the journal begins with {noted[:1]}")
-        self.at, self.made, self.overruns = 0, [], 0
+        self.at, self.made, self.readings = 0, [], []
         self.model = FieldNode(Node(plant, resource, Opened(start), self.note), has_field, cycles)
         self.kept = start.kept
         self.steps = {origin: list(self.steps_of(origin, given.get(origin, ()))) for origin in (FIELD, NEIGHBOURS)}
@@ -90,10 +90,10 @@ class Account:
     def compare(self, found, expected):
         if found != expected:
             raise Wrong(f"{found}, and not {expected}")
-        if found[0].startswith("OVERRUN"):
-            self.overruns += 1
         if found[-1].startswith("EVAL"):
             self.made.append(found[-1])
+            if self.model.cycle:
+                self.readings.append(self.model.cycle.latest)
 
     def expected(self, closing):
         """What is to be written where this is the closing line."""
@@ -119,8 +119,10 @@ class Account:
 
     def next_of(self, origin):
         """The next line of an input that is done, by whichever way: each of them has done as many."""
-        places = sorted(place[origin == NEIGHBOURS] for place in self.places)
-        return next((step for step in self.steps[origin][places[-1] :] if callable(step)), None)
+        steps, at = self.steps[origin], max(place[origin == NEIGHBOURS] for place in self.places)
+        while at < len(steps) and not callable(steps[at]):
+            at += 1
+        return steps[at] if at < len(steps) else None
 
     def evaluated(self):
         """What is to be written of the evaluation that is noted next."""

@@ -23,7 +23,7 @@ SECONDS = 300
 # Where the files lie that a node writes, so that a slow disk costs no time.
 MEMORY = "/dev/shm" if os.access("/dev/shm", os.W_OK) else None
 # So many lines are a flood, of which so many are written at once.
-FLOOD, PIECE = 100_000, 500
+FLOOD, PIECE = int(os.environ.get("FLOOD", 100_000)), 500
 
 
 def wait_for(it, what):
@@ -67,8 +67,9 @@ class Input:
 class Place:
     """A folder with a plant, in which nodes of it run."""
 
-    def __init__(self, text):
-        self.text, self.plant = text, read_plant(text)
+    def __init__(self, text, judged_by=None):
+        """`judged_by` is a plant of the same meaning that is read in less time."""
+        self.plant = read_plant(judged_by or text)
         self.folder = tempfile.TemporaryDirectory(dir=MEMORY)
         with open(self.path("it.plant"), "w", encoding="utf-8", newline="") as file:
             file.write(text)
@@ -101,6 +102,7 @@ class Running:
         self.neighbours, self.field = Input(), Input()
         words = [*words, "--cycle"] if cycles else list(words)
         words = [PLC, "node", "it.plant", resource, *words, "--journal", journal]
+        self.began, self.seen = time.monotonic(), []
         how = {"stdin": subprocess.PIPE, "stdout": subprocess.PIPE, "stderr": subprocess.PIPE, "bufsize": 0}
         self.process = subprocess.Popen(words, cwd=place.folder.name, pass_fds=passed, **how)
         (self.field if input_is_field else self.neighbours).file = os.dup(self.process.stdin.fileno())
@@ -128,7 +130,7 @@ class Running:
         for it in (self.neighbours, self.field):
             if it.file is not None:
                 it.end()
-        if kind is None:
+        if kind in (None, Wrong):
             self.judge()
 
     # What it writes.
@@ -140,6 +142,7 @@ class Running:
             with self.news:
                 self.written += piece
                 self.counts.update(line.split(b" ", 1)[0].decode("ascii", "replace") for line in lines)
+                self.seen.append((self.counts["EVAL"], (time.monotonic() - self.began) * 1000))
                 self.news.notify()
         with self.news:
             self.has_ended = True
@@ -248,13 +251,10 @@ class Running:
     # How it ends.
 
     def kill(self):
-        self.was_killed = self.process.poll() is None
         self.process.kill()
-        self.finish()
-
-    def finish(self):
         self.process.wait()
-        self.reader.join()
+        if self.reader.is_alive():
+            self.reader.join()
 
     def wait_for_end(self):
         try:
@@ -274,9 +274,20 @@ class Running:
         self.account = Account(self.place.plant, self.resource, given, lives[-1] if lives else [], self.has_field, self.cycles)
         lines, rest = parted(bytes(self.written))
         self.account.follow(lines)
-        self.account.end(rest, self.was_killed)
+        self.account.end(rest, self.process.returncode != 0)
         if self.must_answer_all:
             self.account.must_be_answered()
+        self.must_not_be_ahead()
+
+    def must_not_be_ahead(self):
+        """Its clock began behind the process: when an evaluation is seen, it can't be later by that than by the one here."""
+        seen = iter(self.seen)
+        count, at = 0, 0
+        for number, reading in enumerate(self.account.readings, 1):
+            while count < number:
+                count, at = next(seen)
+            if reading > at:
+                raise Wrong(f"evaluation {number} is of {reading} ms, and was seen after {at:.3f} ms")
 
 
 def linked(path):
