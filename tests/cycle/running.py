@@ -22,8 +22,8 @@ PLC = os.path.abspath(os.environ.get("PLC", os.path.join(os.path.dirname(os.path
 SECONDS = 300
 # Where the files lie that a node writes, so that a slow disk costs no time.
 MEMORY = "/dev/shm" if os.access("/dev/shm", os.W_OK) else None
-# So many lines are a flood, of which so many are written at once.
-FLOOD, PIECE = int(os.environ.get("FLOOD", 100_000)), 500
+# So many lines are a flood.
+FLOOD = int(os.environ.get("FLOOD", 100_000))
 
 
 def wait_for(it, what):
@@ -185,15 +185,17 @@ class Running:
     # What is written to it.
 
     def flood(self, input, lines, between=lambda: None, word="EVAL"):
-        """Writes lines to an input, until there were as many as a flood has, the answer to what comes between, and evaluations."""
-        between()
+        """Writes these lines to an input, as many as a flood has; then on, until what comes between is answered, and evaluations are made."""
+        piece = "".join(f"{line}\n" for line in lines).encode()
+        for _ in range(0, FLOOD, len(lines)):
+            input.write(piece)
         wanted = {word: self.counts[word] + 1, "EVAL": self.counts["EVAL"] + 3}
-        for count in itertools.count(1):
-            is_over = all(self.counts[it] >= most for it, most in wanted.items())
-            if count * PIECE >= FLOOD and is_over:
+        between()
+        for _ in range(0, 50 * FLOOD, len(lines)):
+            if all(self.counts[it] >= most for it, most in wanted.items()):
                 return
-            if count * PIECE > 100 * FLOOD or not input.write("".join(itertools.islice(lines, PIECE))):
-                raise Wrong(f"waited for {wanted} in a flood, and there were {dict(self.counts)}")
+            input.write(piece)
+        raise Wrong(f"waited for {wanted} in a flood, and there were {dict(self.counts)}")
 
     def write_until_full(self, input, line):
         """Writes a line again and again, until a second goes by in which it isn't read, or a flood is; how often."""
