@@ -1,6 +1,7 @@
 """A node that runs, what is written to its inputs, and what it writes."""
 import contextlib
 import errno
+import glob
 import itertools
 import os
 import re
@@ -231,8 +232,8 @@ class Running:
         wait_for(self.opens, "the field's file is opened")
 
     def holds(self, name):
-        folder = f"/proc/{self.process.pid}/fd"
-        return any(linked(os.path.join(folder, it)) == self.place.path(name) for it in os.listdir(folder))
+        path = os.path.realpath(self.place.path(name))
+        return any(linked(it) == path for it in glob.glob(f"/proc/{self.process.pid}/fd/*"))
 
     def opens(self):
         try:
