@@ -170,7 +170,7 @@ class Running:
 
     def answered(self):
         others = ("SEND", "OVERRUN", "START", *(("EVAL",) if self.cycles else ()))
-        return self.counts.total() - sum(self.counts[it] for it in others)
+        return sum(self.counts.values()) - sum(self.counts[it] for it in others)
 
     def started(self):
         """The incarnation in which it began."""
