@@ -13,7 +13,7 @@ sys.path.insert(0, os.path.join(HERE, "..", "model"))
 from rules.cycle import FIELD, NEIGHBOURS, FieldNode
 from rules.inputs import parts_of
 from rules.journals import Evaluate, evaluate_of, start_of
-from rules.node import Node, Refused
+from rules.node import Node, Refused, is_silent, refuse_too_long
 from rules.plant_text import find
 
 # In the place of a line: the end of what was written to the field, which is told once.
@@ -179,6 +179,16 @@ class Account:
     def must_end_by(self, until):
         if self.model.cycle.latest > until:
             raise Wrong(f"an evaluation at {self.model.cycle.latest} ms, and the node ends at {until}")
+
+
+def has_answer(line):
+    """Whether anything is written of a line."""
+    try:
+        if line is not ENDED:
+            refuse_too_long(line)
+        return line is ENDED or not is_silent(line)
+    except Refused:
+        return True
 
 
 def groups_of(lines):

@@ -13,9 +13,8 @@ import threading
 import time
 from collections import Counter
 
-from account import ENDED, Account, Wrong, lines_in, lives_in, parted
+from account import ENDED, Account, Wrong, has_answer, lines_in, lives_in, parted
 from rules.cycle import FIELD, NEIGHBOURS
-from rules.node import is_silent
 from rules.plant_text import find, read_plant
 
 PLC = os.path.abspath(os.environ.get("PLC", os.path.join(os.path.dirname(os.path.abspath(__file__)), "..", "..", "plc")))
@@ -95,14 +94,14 @@ class Place:
 
 
 class Running:
-    """A node of a resource, with a journal. Without `with` it would go on; at the end of that it is killed, unless it has ended."""
+    """A node of a resource, with a journal. At the end of a `with` it is killed, unless it has ended, and what it did is judged."""
 
-    def __init__(self, place, resource, *words, has_field=True, cycles=True, journal="journal", input_is_field=False, is_read=True, passed=()):
+    def __init__(self, place, resource, *words, has_field=True, cycles=True, input_is_field=False, is_read=True, passed=()):
         self.place, self.resource = place, find(place.plant.resources, resource)
-        self.has_field, self.cycles, self.journal = has_field, cycles, journal
+        self.has_field, self.cycles = has_field, cycles
         self.neighbours, self.field = Input(), Input()
         words = [*words, "--cycle"] if cycles else list(words)
-        words = [PLC, "node", "it.plant", resource, *words, "--journal", journal]
+        words = [PLC, "node", "it.plant", resource, *words, "--journal", "journal"]
         self.began, self.seen = time.monotonic(), []
         how = {"stdin": subprocess.PIPE, "stdout": subprocess.PIPE, "stderr": subprocess.PIPE, "bufsize": 0}
         self.process = subprocess.Popen(words, cwd=place.folder.name, pass_fds=passed, **how)
@@ -164,7 +163,7 @@ class Running:
 
     def wait_answered(self):
         """Waits until each line that was given has its answer."""
-        count = sum(it is ENDED or not is_silent(it) for input in (self.field, self.neighbours) for it in input.given())
+        count = sum(has_answer(it) for input in (self.field, self.neighbours) for it in input.given())
         self.wait_until(lambda: self.answered() >= count, f"{count} answers")
         self.must_answer_all = True
 
@@ -176,17 +175,14 @@ class Running:
         """The incarnation in which it began."""
         return int(re.search(rb"(?m)^START \S+ (\d+)$", self.written)[1])
 
-    def must_tell_once(self, line):
-        if (count := bytes(self.written).split(b"\n").count(line.encode())) != 1:
-            raise Wrong(f"{line} is told {count} times")
-
     def must_be_answered(self):
         self.must_answer_all = True
 
     # What is written to it.
 
     def flood(self, input, lines, between=lambda: None, word="EVAL"):
-        """Writes these lines to an input, as many as a flood has; then on, until what comes between is answered, and evaluations are made."""
+        """Writes these lines to an input, as many as a flood has, and what comes between; then on, until that is answered, and
+        evaluations are made."""
         piece = "".join(f"{line}\n" for line in lines).encode()
         for _ in range(0, FLOOD, len(lines)):
             input.write(piece)
@@ -272,7 +268,7 @@ class Running:
         """Raises what is wrong with what it wrote and noted."""
         if self.process.returncode not in (0, -signal.SIGKILL):
             raise Wrong(f"status {self.process.returncode}{self.told()}")
-        lives = lives_in(self.place.read(self.journal))
+        lives = lives_in(self.place.read("journal"))
         given = {FIELD: self.field.lines, NEIGHBOURS: self.neighbours.lines}
         self.account = Account(self.place.plant, self.resource, given, lives[-1] if lives else [], self.has_field, self.cycles)
         lines, rest = parted(bytes(self.written))
