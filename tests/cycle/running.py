@@ -87,10 +87,11 @@ class Place:
         with open(self.path(name), encoding="utf-8", errors="surrogateescape", newline="") as file:
             return file.read()
 
-    def fifo(self):
-        if not os.path.exists(self.path("field")):
-            os.mkfifo(self.path("field"))
-        return ["--field", "field"]
+    def fifo(self, resource="R1"):
+        name = f"{resource}.field"
+        if not os.path.exists(self.path(name)):
+            os.mkfifo(self.path(name))
+        return ["--field", name]
 
 
 class Running:
@@ -101,13 +102,13 @@ class Running:
         self.has_field, self.cycles = has_field, cycles
         self.neighbours, self.field = Input(), Input()
         words = [*words, "--cycle"] if cycles else list(words)
-        words = [PLC, "node", "it.plant", resource, *words, "--journal", "journal"]
+        words = [PLC, "node", "it.plant", resource, *words, "--journal", f"{resource}.journal"]
         self.began, self.seen = time.monotonic(), []
         how = {"stdin": subprocess.PIPE, "stdout": subprocess.PIPE, "stderr": subprocess.PIPE, "bufsize": 0}
         self.process = subprocess.Popen(words, cwd=place.folder.name, pass_fds=passed, **how)
         (self.field if input_is_field else self.neighbours).file = os.dup(self.process.stdin.fileno())
         self.process.stdin.close()
-        self.written, self.counts, self.news = bytearray(), Counter(), threading.Condition()
+        self.written, self.sent, self.counts, self.news = bytearray(), [], Counter(), threading.Condition()
         self.has_ended, self.must_answer_all = False, False
         self.reader = threading.Thread(target=self.read, daemon=True)
         self.is_read = is_read
@@ -142,6 +143,7 @@ class Running:
             with self.news:
                 self.written += piece
                 self.counts.update(line.split(b" ", 1)[0].decode("ascii", "replace") for line in lines)
+                self.sent += [line for line in lines if line.startswith(b"SEND ")]
                 self.seen.append((self.counts["EVAL"], (time.monotonic() - self.began) * 1000))
                 self.news.notify()
         with self.news:
@@ -177,6 +179,11 @@ class Running:
 
     def must_be_answered(self):
         self.must_answer_all = True
+
+    def sent_since(self, count):
+        """What it sent to the other node behind so many lines."""
+        with self.news:
+            return [line.split(b" ", 2)[2] + b"\n" for line in self.sent[count:]]
 
     # What is written to it.
 
@@ -224,16 +231,18 @@ class Running:
 
     def open_field(self):
         """A writer of its FIFO, once the one before is forgotten."""
-        wait_for(lambda: not self.holds("field"), "the field's file is closed")
+        wait_for(lambda: not self.holds_field(), "the field's file is closed")
         wait_for(self.opens, "the field's file is opened")
 
-    def holds(self, name):
-        path = os.path.realpath(self.place.path(name))
-        return any(linked(it) == path for it in glob.glob(f"/proc/{self.process.pid}/fd/*"))
+    def field_path(self):
+        return os.path.realpath(self.place.path(f"{self.resource.name}.field"))
+
+    def holds_field(self):
+        return any(linked(it) == self.field_path() for it in glob.glob(f"/proc/{self.process.pid}/fd/*"))
 
     def opens(self):
         try:
-            self.field.file = os.open(self.place.path("field"), os.O_WRONLY | os.O_NONBLOCK)
+            self.field.file = os.open(self.field_path(), os.O_WRONLY | os.O_NONBLOCK)
         except OSError as why:
             if why.errno == errno.ENXIO:
                 return False
@@ -268,7 +277,7 @@ class Running:
         """Raises what is wrong with what it wrote and noted."""
         if self.process.returncode not in (0, -signal.SIGKILL):
             raise Wrong(f"status {self.process.returncode}{self.told()}")
-        lives = lives_in(self.place.read("journal"))
+        lives = lives_in(self.place.read(f"{self.resource.name}.journal"))
         given = {FIELD: self.field.lines, NEIGHBOURS: self.neighbours.lines}
         self.account = Account(self.place.plant, self.resource, given, lives[-1] if lives else [], self.has_field, self.cycles)
         lines, rest = parted(bytes(self.written))
