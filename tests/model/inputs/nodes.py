@@ -177,6 +177,29 @@ def nodes(chance):
     return files, [*runs, ["audit", "it.plant", *shuffled(chance, machines.journals)]]
 
 
+TOLD_BADLY = ["INPUT %IX0", "INPUT %IX0=2", "INPUT %IX0=1 %ix0=0", "INPUT %IW0=1 %IW1=x %IW0=1", "INPUT x", "INPUTS %IX0=1"]
+
+
+def fields(chance):
+    """A plant, with runs of a node over one folder whose standard input is the field; then the audit of its journal."""
+    machines = Machines(chance, PlantMaker(chance).text())
+    resource = chance.choice(machines.plant.resources)
+    files, runs = {"it.plant": machines.text}, []
+    for k in range(chance.choice([1, 2, 3])):
+        files[f"{k}.lines"] = "".join(f"{field_line(chance, machines, resource)}{chance.choice(['', '', chr(13)])}\n" for _ in range(chance.choice([5, 40, 100])))
+        until = chance.choice([[], [], ["--until", "4294967295"], ["--until=0"]])
+        runs.append(["node", "it.plant", resource.name, "--field", "-", *until, "--state", ".", "--journal", "journal", "<", f"{k}.lines"])
+    others = [["--until", "5"], ["--cycle", "--until", "0"], ["--cycle=1"], ["--cycle", "--cycle"], ["--field", "--cycle"], ["--until", "x", "--cycle"]]
+    runs.append(["node", "it.plant", resource.name, *chance.choice(others), "<", "0.lines"])
+    return files, [*runs, ["audit", "it.plant", "journal"]]
+
+
+def field_line(chance, machines, resource):
+    told = " ".join([cased(chance, "INPUT"), *inputs(chance)])
+    others = [f"{cased(chance, 'RESTART')} {resource.name}", machines.fault(resource), chance.choice(FOREIGN), chance.choice(NO_LINES)]
+    return chance.choice([told] * 3 + [machines.evaluation(resource)] * 6 + others + [chance.choice(TOLD_BADLY)])
+
+
 def shuffled(chance, names):
     return chance.sample(list(names), len(names))
 

@@ -5,6 +5,7 @@ from dataclasses import dataclass, field
 from . import words
 from .audit import Audit
 from .binding import guessed, refuse_names
+from .cycle import FIELD, FieldNode
 from .drawing_faults import read_drawing
 from .inputs import BadInput, Inputs, parts_of
 from .kept_files import BadFile, KeptFiles
@@ -67,7 +68,7 @@ SHAPES = {
     "plan": Shape(1, numbers=("--until",), needed=("--until",)),
     "sim": Shape(2, numbers=("--max-number",), names=("--vcd", "--svg")),
     "run": Shape(1, ("--until",), names=("--state", "--vcd", "--svg"), flags=("--paced",), needed=("--until",), has_more=True),
-    "node": Shape(2, names=("--state", "--journal")),
+    "node": Shape(2, numbers=("--until",), names=("--field", "--state", "--journal"), flags=("--cycle",)),
     "audit": Shape(2, has_more=True),
 }
 
@@ -91,7 +92,7 @@ def read_words(shape, given):
     options, plain, ahead, is_behind = {}, [], list(given), False
     while ahead:
         word = ahead.pop(0)
-        if is_behind or not word.startswith("-"):
+        if is_behind or not is_option(word):
             plain.append(word)
         elif word == "--":
             is_behind = True
@@ -119,10 +120,15 @@ def read_words(shape, given):
 
 
 def word_behind(ahead):
-    """The word behind an option; one that begins with a sign is an option of its own."""
-    if not ahead or ahead[0].startswith("-"):
+    """The word behind an option, which is none itself."""
+    if not ahead or is_option(ahead[0]):
         raise Refused(REFUSED_WORDS)
     return ahead.pop(0)
+
+
+def is_option(word):
+    """A sign alone stands for standard input."""
+    return word.startswith("-") and word != "-"
 
 
 def flag(equals):
@@ -436,6 +442,9 @@ def values_of(task, program, declared, made):
 
 
 def node(write, files, paths, options, _more):
+    """Without a clock: a node with a cycle runs for 0 ms, and a field is standard input."""
+    if "--until" in options and not {"--cycle", "--field"} & set(options):
+        raise Refused(REFUSED_WORDS)
     plant = files.plant(paths[0])
     resource = find(plant.resources, paths[1])
     if not resource:
@@ -445,11 +454,25 @@ def node(write, files, paths, options, _more):
         it = Node(plant, resource, keeper, lambda line: "--journal" in options and files.append(options["--journal"], f"{line};\n"))
         for line in it.first:
             write(line)
-        for line in files.lines_read():
-            for answered in it.answer(line):
-                write(answered)
+        for line in node_answers(it, files, options):
+            write(line)
     except (BadFile, OSError):
         raise Refused(NO_FILE) from None
+
+
+def node_answers(it, files, options):
+    """What a node writes behind its START."""
+    if options.get("--until") == 0:
+        return
+    assert "--cycle" not in options and options.get("--field", "-") == "-"
+    if "--field" in options:
+        it = FieldNode(it, has_field=True, cycles=False)
+        for line in files.lines_read():
+            yield from it.answer(FIELD, line)
+        yield from it.end_field()
+    else:
+        for line in files.lines_read():
+            yield from it.answer(line)
 
 
 def audit(write, files, paths, _options, more):

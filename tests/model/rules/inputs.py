@@ -7,7 +7,11 @@ MOST_ADDRESS = 65535
 
 
 class BadInput(Exception):
-    """A word that is no input, or an address that comes twice."""
+    """A word that is no input."""
+
+
+class AddressTwice(BadInput):
+    """An address that comes twice."""
 
 
 class Inputs:
@@ -18,7 +22,7 @@ class Inputs:
         read = [read_input(word) for word in listed]
         for address, value in read:
             if address in self.values:
-                raise BadInput
+                raise AddressTwice
             self.values[address] = value
 
     def get(self, space, number):

@@ -1,4 +1,6 @@
 """A node: a resource that reads lines, notes what it does, and answers."""
+from functools import partial
+
 from .core import Core, initial, message_in, message_of
 from .inputs import parts_of
 from .journals import evaluate_of, hello_of, start_line
@@ -55,26 +57,32 @@ class Node:
     def answer(self, line):
         """The lines that are written of a line; none of a blank line or a comment."""
         try:
-            if len(line.encode("utf-8", "surrogateescape")) > MOST_BYTES:
-                raise Refused("TooLong")
-            parts = parts_of(line)
-            if not parts or parts[0].startswith("#"):
-                return []
-            return self.done(line, parts)
+            return self.step_of(line)()
         except Refused as kind:
             return [f"REFUSED {kind}"]
 
-    def done(self, line, parts):
+    def step_of(self, line):
+        """What a line asks for: a function that does it, and gives what is written of it."""
+        refuse_too_long(line)
+        if is_silent(line):
+            return list
+        parts = parts_of(line)
         message, hello, event = message_of(self.plant, line), hello_of(self.plant, parts), evaluate_of(parts)
         if message:
-            return self.accept(line, message)
+            return partial(self.accept, line, message)
         if hello:
-            return self.hear(line, hello)
+            return partial(self.hear, line, self.known(hello))
         if event:
-            return self.evaluate(line, event)
+            return partial(self.evaluate, line, self.own_task(event), event)
         if len(parts) == 2 and words.fold(parts[0]) == "RESTART" and words.is_plain_name(parts[1]):
-            return self.restart(parts[1])
+            self.own(parts[1])
+            return self.restart
         raise Refused("Syntax")
+
+    def known(self, hello):
+        if not hello.resource:
+            raise Refused("NoSuchResource")
+        return hello
 
     def named(self, name):
         resource = find(self.plant.resources, name)
@@ -86,6 +94,13 @@ class Node:
         if self.named(name) is not self.resource:
             raise Refused("NotHere")
 
+    def own_task(self, event):
+        self.own(event.resource)
+        task = find(self.resource.tasks, event.task)
+        if not task:
+            raise Refused("NoSuchTask")
+        return task
+
     def accept(self, line, message):
         self.note(line)
         answer, at = self.core.answer_to(message), self.resource.place
@@ -95,19 +110,13 @@ class Node:
         return [*sent, f"MESSAGE {message.task.full_name} {pair(message.name)} {answer}"]
 
     def hear(self, line, hello):
-        if not hello.resource:
-            raise Refused("NoSuchResource")
         self.note(line)
         is_new = self.core.is_news(hello.resource, hello.incarnation)
         self.core.hear(hello.resource, hello.incarnation)
         sent = [self.greeting(hello.resource)] if is_new and feeds(hello.resource, self.resource) else []
         return [*sent, f"HELLO {hello.resource.name} {hello.incarnation} {'new' if is_new else 'old'}"]
 
-    def evaluate(self, line, event):
-        self.own(event.resource)
-        task = find(self.resource.tasks, event.task)
-        if not task:
-            raise Refused("NoSuchTask")
+    def evaluate(self, line, task, event):
         self.note(line)
         made = self.core.next(task, event.elapsed, event.inputs)
         self.core.make(made)
@@ -118,15 +127,25 @@ class Node:
         takers = [it for it in self.plant.resources if it is not self.resource and takes_from(it, task)]
         return [*(f"SEND {it.name} {message_in(made).line(self.plant)}" for it in takers), made.line()]
 
-    def restart(self, name):
-        self.own(name)
+    def restart(self):
         try:
             incarnation = self.keeper.raised(self.resource)
         except (BadFile, OSError):
             raise Refused("Keeper") from None
-        self.note(f"RESTART {self.resource.name} {incarnation}")
+        risen = f"RESTART {self.resource.name} {incarnation}"
+        self.note(risen)
         self.core.begin(incarnation)
-        return [*self.greetings(), f"RESTART {self.resource.name} {incarnation}"]
+        return [*self.greetings(), risen]
+
+
+def refuse_too_long(line):
+    if len(line.encode("utf-8", "surrogateescape")) > MOST_BYTES:
+        raise Refused("TooLong")
+
+
+def is_silent(line):
+    """Whether a line is blank or a comment."""
+    return line.lstrip(" \t")[:1] in ("", "#")
 
 
 def feeds(maker, taker):
