@@ -16,6 +16,7 @@ use Rattle.text_commands.specs.Rows.{RowValue, IsRow, SpellRows, texts}
 use Rattle.text_commands.specs.Steps.Refusing.{RefusesLadder, RefusesRows}
 use Rattle.text_commands.specs.declared.text_command_fault.TextCommandFault.{TextCommandFault}
 use Rattle.text_commands.specs.declared.text_command_fault.TextCommandFault.TheVariants.{Text, Word, Write, Memory}
+use Rattle.verifying.specs.declared.asked.Asked.{Asked}
 use Rattle.verifying.specs.declared.setup.Setting.{Setting}
 use Rattle.verifying.specs.declared.verdict.Verdict.{Verdict}
 use Rattle.verifying.specs.declared.verdict.Verdict.TheVariants.{Holds, Fails, Undecided}
@@ -27,16 +28,16 @@ use Rattle.verifying.specs.Inputs.{AreFree, AreInputs, IsInput}
 use Rattle.verifying.specs.Stores.{stored_places}
 use Rattle.verifying.specs.Premises.{HasTimer, IsTimed}
 use Rattle.verifying.specs.Questions.{HoldsInput, HoldsNoInput, IsClaim, IsNoClaim, QuestionValue}
-use Rattle.verifying.specs.VerifyText.{ExplainsAnswer}
+use Rattle.verifying.specs.VerifyText.{ExplainsAnswer, IsSetup}
 use Rattle.verifying.specs.Steps.Adding.{AreWholeRows, FitsSetup}
 use Rattle.verifying.specs.Steps.Asking.{AreHeldBy, IsAsked, IsPrepared, RefusesAsking, RefusesFree, RefusesHolding, RefusesPreparing}
-use Rattle.verifying.specs.Steps.Marks.{AreConstantsOf, AreMarksOf, AreUnmarked, ClaimsRead, ClaimsRefused, HeldRead, HeldRefused, HoldsOf, HoldsNoneOf, IsClaimOf, IsNoClaimOf}
+use Rattle.verifying.specs.Steps.Marks.{AreConstantsOf, AreMarksOf, AreUnmarked, ClaimsRead, ClaimsRefused, GivenRefused, HeldRead, HeldRefused, HoldsOf, HoldsNoneOf, IsClaimOf, IsNoClaimOf}
 use Rattle.verifying.specs.declared.verify_fault.ClaimFaultKind.{ClaimFaultKind}
 use Rattle.verifying.specs.declared.verify_fault.ClaimFaultKind.TheVariants.{NoVariable, NeverStored}
 use Rattle.verifying.specs.declared.verify_fault.HeldFaultKind.{HeldFaultKind}
 use Rattle.verifying.specs.declared.verify_fault.HeldFaultKind.TheVariants.{NotOneDigit, NoInput}
 use Rattle.verifying.specs.declared.verify_fault.VerifyFault.{VerifyFault}
-use Rattle.verifying.specs.declared.verify_fault.VerifyFault.TheVariants.{Command, Claim, Held, TooManyInputs, NoTime}
+use Rattle.verifying.specs.declared.verify_fault.VerifyFault.TheVariants.{Command, Claim, Given, Held, TooManyInputs, NoTime}
 
 -- the marks are those of a ladder
 abbrev pub AreLadderMarks : List Declaration → List Diagram → List Bool → Type 0
@@ -103,6 +104,7 @@ held_refused drawing q ds networks marks rows (Command (Word fault)) ladder are 
 held_refused drawing q ds networks marks rows (Command Write) ladder are read refused = absurd refused
 held_refused drawing q ds networks marks rows (Command Memory) ladder are read refused = tt
 held_refused drawing q ds networks marks rows (Claim fault) ladder are read refused = absurd refused
+held_refused drawing q ds networks marks rows (Given fault) ladder are read refused = absurd refused
 held_refused drawing q ds networks marks rows (TooManyInputs count) ladder are read refused = absurd refused
 held_refused drawing q ds networks marks rows NoTime ladder are read refused = absurd refused
 held_refused drawing q ds networks marks rows (Held fault) ladder are read refused =
@@ -124,13 +126,11 @@ held_refused drawing q ds networks marks rows (Held fault) ladder are read refus
 
 claims_refused : (drawing : List ℕ) (q : QuestionValue) (ds : List Declaration) (networks : List Diagram) (marks : List Bool) (held : List Setting) (fault : VerifyFault) → IsLadderOfDrawing drawing ds networks
     → AreLadderMarks ds networks marks → AreHeldBy ds marks q.words held → ClaimsRefused ds marks q.claims fault → RefusesPreparing drawing q fault
-claims_refused drawing q ds networks marks held (Command (Text fault)) ladder are by refused = absurd refused
-claims_refused drawing q ds networks marks held (Command (Word fault)) ladder are by refused = absurd refused
-claims_refused drawing q ds networks marks held (Command Write) ladder are by refused = absurd refused
-claims_refused drawing q ds networks marks held (Command Memory) ladder are by refused = tt
-claims_refused drawing q ds networks marks held (Held fault) ladder are by refused = absurd refused
-claims_refused drawing q ds networks marks held (TooManyInputs count) ladder are by refused = absurd refused
-claims_refused drawing q ds networks marks held NoTime ladder are by refused = absurd refused
+claims_refused drawing q ds networks marks held (Command fault) ladder are by memory = subst (RefusesPreparing drawing q) (sym memory) tt
+claims_refused drawing q ds networks marks held (Given fault) ladder are by memory = subst (RefusesPreparing drawing q) (sym memory) tt
+claims_refused drawing q ds networks marks held (Held fault) ladder are by memory = subst (RefusesPreparing drawing q) (sym memory) tt
+claims_refused drawing q ds networks marks held (TooManyInputs count) ladder are by memory = subst (RefusesPreparing drawing q) (sym memory) tt
+claims_refused drawing q ds networks marks held NoTime ladder are by memory = subst (RefusesPreparing drawing q) (sym memory) tt
 claims_refused drawing q ds networks marks held (Claim fault) ladder are by refused = record {
   declarations = ds;
   networks = networks;
@@ -144,6 +144,32 @@ claims_refused drawing q ds networks marks held (Claim fault) ladder are by refu
     at = refused.at;
     places = refused.places;
     before = claims_of ds networks marks (take fault.number q.claims) refused.places are refused.before;
+    refused = no_claim_of ds networks marks refused.name fault.kind are refused.refused;
+  };
+}
+
+given_refused : (drawing : List ℕ) (q : QuestionValue) (ds : List Declaration) (networks : List Diagram) (marks : List Bool) (held : List Setting) (places : List ℕ) (fault : VerifyFault) → IsLadderOfDrawing drawing ds networks
+    → AreLadderMarks ds networks marks → AreHeldBy ds marks q.words held → ClaimsRead ds marks q.claims places → GivenRefused ds marks q.given fault → RefusesPreparing drawing q fault
+given_refused drawing q ds networks marks held places (Command fault) ladder are by claimed memory = subst (RefusesPreparing drawing q) (sym memory) tt
+given_refused drawing q ds networks marks held places (Claim fault) ladder are by claimed memory = subst (RefusesPreparing drawing q) (sym memory) tt
+given_refused drawing q ds networks marks held places (Held fault) ladder are by claimed memory = subst (RefusesPreparing drawing q) (sym memory) tt
+given_refused drawing q ds networks marks held places (TooManyInputs count) ladder are by claimed memory = subst (RefusesPreparing drawing q) (sym memory) tt
+given_refused drawing q ds networks marks held places NoTime ladder are by claimed memory = subst (RefusesPreparing drawing q) (sym memory) tt
+given_refused drawing q ds networks marks held places (Given fault) ladder are by claimed refused = record {
+  declarations = ds;
+  networks = networks;
+  ladder = ladder;
+  rows = by.rows;
+  read = by.read;
+  held = held;
+  holds = held_of ds networks marks q.words by.rows held are by.read.each by.each;
+  places = places;
+  claims = claims_of ds networks marks q.claims places are claimed;
+  first = record {
+    name = refused.name;
+    at = refused.at;
+    places = refused.places;
+    before = claims_of ds networks marks (take fault.number q.given) refused.places are refused.before;
     refused = no_claim_of ds networks marks refused.name fault.kind are refused.refused;
   };
 }
@@ -174,6 +200,7 @@ settings_refused ds marks words rows (Err (Command (Word fault))) read refused =
 settings_refused ds marks words rows (Err (Command Write)) read refused = absurd refused
 settings_refused ds marks words rows (Err (Command Memory)) read refused = tt
 settings_refused ds marks words rows (Err (Claim fault)) read refused = absurd refused
+settings_refused ds marks words rows (Err (Given fault)) read refused = absurd refused
 settings_refused ds marks words rows (Err (Held fault)) read refused = record { rows = rows; read = read; first = refused }
 settings_refused ds marks words rows (Err (TooManyInputs count)) read refused = absurd refused
 settings_refused ds marks words rows (Err NoTime) read refused = absurd refused
@@ -191,20 +218,22 @@ holding_refused drawing q ds networks marks (Command (Word fault)) ladder are re
 holding_refused drawing q ds networks marks (Command Write) ladder are refused = absurd refused
 holding_refused drawing q ds networks marks (Command Memory) ladder are refused = tt
 holding_refused drawing q ds networks marks (Claim fault) ladder are refused = absurd refused
+holding_refused drawing q ds networks marks (Given fault) ladder are refused = absurd refused
 holding_refused drawing q ds networks marks (Held fault) ladder are refused = held_refused drawing q ds networks marks refused.rows (Held fault) ladder are refused.read refused.first
 holding_refused drawing q ds networks marks (TooManyInputs count) ladder are refused = absurd refused
 holding_refused drawing q ds networks marks NoTime ladder are refused = absurd refused
 
-free_refused : (drawing : List ℕ) (q : QuestionValue) (ds : List Declaration) (networks : List Diagram) (marks : List Bool) (held : List Setting) (places : List ℕ) (fault : VerifyFault) → IsLadderOfDrawing drawing ds networks
-    → AreLadderMarks ds networks marks → AreHeldBy ds marks q.words held → ClaimsRead ds marks q.claims places → RefusesFree ds marks held fault → RefusesPreparing drawing q fault
-free_refused drawing q ds networks marks held places (Command (Text fault)) ladder are by claimed refused = absurd refused
-free_refused drawing q ds networks marks held places (Command (Word fault)) ladder are by claimed refused = absurd refused
-free_refused drawing q ds networks marks held places (Command Write) ladder are by claimed refused = absurd refused
-free_refused drawing q ds networks marks held places (Command Memory) ladder are by claimed refused = tt
-free_refused drawing q ds networks marks held places (Claim fault) ladder are by claimed refused = absurd refused
-free_refused drawing q ds networks marks held places (Held fault) ladder are by claimed refused = absurd refused
-free_refused drawing q ds networks marks held places NoTime ladder are by claimed refused = absurd refused
-free_refused drawing q ds networks marks held places (TooManyInputs count) ladder are by claimed refused = record {
+free_refused : (drawing : List ℕ) (q : QuestionValue) (ds : List Declaration) (networks : List Diagram) (marks : List Bool) (held : List Setting) (places given : List ℕ) (fault : VerifyFault) → IsLadderOfDrawing drawing ds networks
+    → AreLadderMarks ds networks marks → AreHeldBy ds marks q.words held → ClaimsRead ds marks q.claims places → ClaimsRead ds marks q.given given → RefusesFree ds marks held fault → RefusesPreparing drawing q fault
+free_refused drawing q ds networks marks held places given (Command (Text fault)) ladder are by claimed givens refused = absurd refused
+free_refused drawing q ds networks marks held places given (Command (Word fault)) ladder are by claimed givens refused = absurd refused
+free_refused drawing q ds networks marks held places given (Command Write) ladder are by claimed givens refused = absurd refused
+free_refused drawing q ds networks marks held places given (Command Memory) ladder are by claimed givens refused = tt
+free_refused drawing q ds networks marks held places given (Claim fault) ladder are by claimed givens refused = absurd refused
+free_refused drawing q ds networks marks held places given (Given fault) ladder are by claimed givens refused = absurd refused
+free_refused drawing q ds networks marks held places given (Held fault) ladder are by claimed givens refused = absurd refused
+free_refused drawing q ds networks marks held places given NoTime ladder are by claimed givens refused = absurd refused
+free_refused drawing q ds networks marks held places given (TooManyInputs count) ladder are by claimed givens refused = record {
   declarations = ds;
   networks = networks;
   ladder = ladder;
@@ -214,6 +243,8 @@ free_refused drawing q ds networks marks held places (TooManyInputs count) ladde
   holds = held_of ds networks marks q.words by.rows held are by.read.each by.each;
   places = places;
   claims = claims_of ds networks marks q.claims places are claimed;
+  given = given;
+  givens = claims_of ds networks marks q.given given are givens;
   free = refused.free;
   are_free = free_of ds networks marks held refused.free are refused.are;
   many = refused.many;
@@ -224,7 +255,8 @@ pub asking_refused : (drawing : List ℕ) (q : QuestionValue) (ds : List Declara
     → AreLadderMarks ds networks marks → RefusesAsking ds marks q fault → RefusesPreparing drawing q fault
 asking_refused drawing q ds networks marks fault ladder are (inl refused) = holding_refused drawing q ds networks marks fault ladder are refused
 asking_refused drawing q ds networks marks fault ladder are (inr (inl refused)) = claims_refused drawing q ds networks marks refused.held fault ladder are refused.by refused.refused
-asking_refused drawing q ds networks marks fault ladder are (inr (inr refused)) = free_refused drawing q ds networks marks refused.held refused.claims fault ladder are refused.by refused.claimed refused.refused
+asking_refused drawing q ds networks marks fault ladder are (inr (inr (inl refused))) = given_refused drawing q ds networks marks refused.held refused.claims fault ladder are refused.by refused.claimed refused.refused
+asking_refused drawing q ds networks marks fault ladder are (inr (inr (inr refused))) = free_refused drawing q ds networks marks refused.held refused.claims refused.given fault ladder are refused.by refused.claimed refused.givens refused.refused
 
 inputs_of : (ds : List Declaration) (networks : List Diagram) (words : List (List ℕ)) (rows : List RowValue) (held : List Setting) (free : List ℕ) → AllZip (IsRow ds) words rows
     → AllZip (HoldsInput ds networks) rows held → AreFree ds networks held free → length free ≤ 20 → AreInputs ds networks free held
@@ -248,47 +280,50 @@ has_inputs ds networks free held are = record {
   held = λ k d lt. (are.are_held k d lt).bool;
 }
 
-asked_inputs : (ds : List Declaration) (networks : List Diagram) (marks : List Bool) (q : QuestionValue) (claims free : List ℕ) (held : List Setting) → AreLadderMarks ds networks marks → IsAsked ds marks q claims free held
-    → AreInputs ds networks free held
-asked_inputs ds networks marks q claims free held are asked =
-    inputs_of ds networks q.words asked.by.rows held free asked.by.read.each (held_of ds networks marks q.words asked.by.rows held are asked.by.read.each asked.by.each) (free_of ds networks marks held free are asked.few.0) asked.few.1
+asked_inputs : (ds : List Declaration) (networks : List Diagram) (marks : List Bool) (q : QuestionValue) (a : Asked) → AreLadderMarks ds networks marks → IsAsked ds marks q a
+    → AreInputs ds networks a.free.items a.held.items
+asked_inputs ds networks marks q a are asked =
+    inputs_of ds networks q.words asked.by.rows a.held.items a.free.items asked.by.read.each (held_of ds networks marks q.words asked.by.rows a.held.items are asked.by.read.each asked.by.each)
+    (free_of ds networks marks a.held.items a.free.items are asked.few.0) asked.few.1
 
-pub asked_has_inputs : (ds : List Declaration) (networks : List Diagram) (marks : List Bool) (q : QuestionValue) (claims free : List ℕ) (held : List Setting) → AreLadderMarks ds networks marks → IsAsked ds marks q claims free held
-    → HasInputs ds free held
-asked_has_inputs ds networks marks q claims free held are asked = has_inputs ds networks free held (asked_inputs ds networks marks q claims free held are asked)
+pub asked_has_inputs : (ds : List Declaration) (networks : List Diagram) (marks : List Bool) (q : QuestionValue) (a : Asked) → AreLadderMarks ds networks marks → IsAsked ds marks q a
+    → HasInputs ds a.free.items a.held.items
+asked_has_inputs ds networks marks q a are asked = has_inputs ds networks a.free.items a.held.items (asked_inputs ds networks marks q a are asked)
 
-pub asked_prepared : (drawing : List ℕ) (q : QuestionValue) (l : LadderValue) (marks : List Bool) (claims free constants : List ℕ) (held : List Setting) → IsLadderOfDrawing drawing l.declarations l.networks
-    → AreLadderMarks l.declarations l.networks marks → IsAsked l.declarations marks q claims free held → IsTimed l.declarations q.dt → AreConstantsOf l.declarations marks (length l.declarations) constants
-    → IsPrepared drawing q (record { ladder = l; dt = q.dt; free = free; held = held }) claims constants
-asked_prepared drawing q l marks claims free constants held ladder are asked timed found = record {
-  is = record {
-    ladder = ladder;
-    dt = refl;
-    rows = asked.by.rows;
-    read = asked.by.read;
-    held = held_of l.declarations l.networks marks q.words asked.by.rows held are asked.by.read.each asked.by.each;
-    inputs = asked_inputs l.declarations l.networks marks q claims free held are asked;
-  };
-  claims = claims_of l.declarations l.networks marks q.claims claims are asked.claimed;
+-- the ladder with what is asked
+abbrev pub setup_of : LadderValue → ℕ → Asked → SetupValue
+setup_of l dt a = record { ladder = l; dt = dt; free = a.free.items; held = a.held.items; given = a.given.items }
+
+asked_setup : (drawing : List ℕ) (q : QuestionValue) (l : LadderValue) (marks : List Bool) (a : Asked) → IsLadderOfDrawing drawing l.declarations l.networks
+    → AreLadderMarks l.declarations l.networks marks → IsAsked l.declarations marks q a → IsSetup drawing q (setup_of l q.dt a)
+asked_setup drawing q l marks a ladder are asked = record {
+  ladder = ladder;
+  dt = refl;
+  rows = asked.by.rows;
+  read = asked.by.read;
+  held = held_of l.declarations l.networks marks q.words asked.by.rows a.held.items are asked.by.read.each asked.by.each;
+  inputs = asked_inputs l.declarations l.networks marks q a are asked;
+  given = claims_of l.declarations l.networks marks q.given a.given.items are asked.givens;
+}
+
+pub asked_prepared : (drawing : List ℕ) (q : QuestionValue) (l : LadderValue) (marks : List Bool) (a : Asked) (constants : List ℕ) → IsLadderOfDrawing drawing l.declarations l.networks
+    → AreLadderMarks l.declarations l.networks marks → IsAsked l.declarations marks q a → IsTimed l.declarations q.dt → AreConstantsOf l.declarations marks (length l.declarations) constants
+    → IsPrepared drawing q (setup_of l q.dt a) a.claims.items constants
+asked_prepared drawing q l marks a constants ladder are asked timed found = record {
+  is = asked_setup drawing q l marks a ladder are asked;
+  claims = claims_of l.declarations l.networks marks q.claims a.claims.items are asked.claimed;
   timed = timed;
   are_constants = constants_of l.declarations l.networks marks constants are found;
 }
 
 -- a timer stands still where no time passes
-pub time_refused : (drawing : List ℕ) (q : QuestionValue) (l : LadderValue) (marks : List Bool) (claims free : List ℕ) (held : List Setting) (fault : VerifyFault) → IsLadderOfDrawing drawing l.declarations l.networks
-    → AreLadderMarks l.declarations l.networks marks → IsAsked l.declarations marks q claims free held → (fault ≡ NoTime) × (q.dt ≡ 0) × HasTimer l.declarations → RefusesPreparing drawing q fault
-time_refused drawing q l marks claims free held fault ladder are asked (none, still, timer) = subst (RefusesPreparing drawing q) (sym none) (record {
-  setup = record { ladder = l; dt = q.dt; free = free; held = held };
-  is = record {
-    ladder = ladder;
-    dt = refl;
-    rows = asked.by.rows;
-    read = asked.by.read;
-    held = held_of l.declarations l.networks marks q.words asked.by.rows held are asked.by.read.each asked.by.each;
-    inputs = asked_inputs l.declarations l.networks marks q claims free held are asked;
-  };
-  places = claims;
-  claims = claims_of l.declarations l.networks marks q.claims claims are asked.claimed;
+pub time_refused : (drawing : List ℕ) (q : QuestionValue) (l : LadderValue) (marks : List Bool) (a : Asked) (fault : VerifyFault) → IsLadderOfDrawing drawing l.declarations l.networks
+    → AreLadderMarks l.declarations l.networks marks → IsAsked l.declarations marks q a → (fault ≡ NoTime) × (q.dt ≡ 0) × HasTimer l.declarations → RefusesPreparing drawing q fault
+time_refused drawing q l marks a fault ladder are asked (none, still, timer) = subst (RefusesPreparing drawing q) (sym none) (record {
+  setup = setup_of l q.dt a;
+  is = asked_setup drawing q l marks a ladder are asked;
+  places = a.claims.items;
+  claims = claims_of l.declarations l.networks marks q.claims a.claims.items are asked.claimed;
   still = still;
   timer = timer;
 })
@@ -301,7 +336,7 @@ whole_more u row rows whole others (suc k) d lt = others k d (omega arith)
 
 leads_whole : (u : SetupValue) (s : Moment) (rows : List (List Bool)) (t : Moment) → Leads u s rows t → AreWholeRows u rows
 leads_whole u s [] t leads = λ k d lt. absurd (omega arith)
-leads_whole u s (row ∷ rows) t (between, scan, rest) = λ k d lt. whole_more u row rows scan.whole (leads_whole u between rows t rest) k d lt
+leads_whole u s (row ∷ rows) t (between, step, rest) = λ k d lt. whole_more u row rows step.scan.whole (leads_whole u between rows t rest) k d lt
 
 fits_of : (u : SetupValue) (most scans place : ℕ) (v : Verdict) → IsVerdict u most scans place v → FitsSetup u v
 fits_of u most scans place Holds is = tt
@@ -326,6 +361,7 @@ preparing_explained drawing q old (Command (Word fault)) refused = (refused, Kee
 preparing_explained drawing q old (Command Write) refused = absurd refused
 preparing_explained drawing q old (Command Memory) refused = Keeps-refl old
 preparing_explained drawing q old (Claim fault) refused = (refused, Keeps-refl old)
+preparing_explained drawing q old (Given fault) refused = (refused, Keeps-refl old)
 preparing_explained drawing q old (Held fault) refused = (refused, Keeps-refl old)
 preparing_explained drawing q old (TooManyInputs count) refused = (refused, Keeps-refl old)
 preparing_explained drawing q old NoTime refused = (refused, Keeps-refl old)

@@ -5,6 +5,7 @@ pub mod Leading
 pub mod Growing
 pub mod Tracing
 pub mod Answering
+pub mod Beginning
 pub mod Exploring
 pub mod Counting
 pub mod Chaining
@@ -15,4 +16,5 @@ pub mod Reading
 pub mod Wording
 pub mod Telling
 pub mod Joining
+pub mod Summing
 pub mod Asking

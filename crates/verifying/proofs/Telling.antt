@@ -5,6 +5,7 @@ use Rattle.std.proofs.lemmas.List.{length-map, take_more, get_or-map}
 use Rattle.power_flow.specs.Meaning.{Moment}
 use Rattle.text_commands.specs.Lines.{line_of}
 use Rattle.text_commands.specs.Rows.{texts}
+use Rattle.verifying.specs.declared.verdict.Tally.{Tally}
 use Rattle.verifying.specs.declared.verdict.Verdict.{Verdict}
 use Rattle.verifying.specs.Runs.{SetupValue, ScansWith, first}
 use Rattle.verifying.specs.VerdictLines.{AreTexts, RunLines}
@@ -25,21 +26,21 @@ lines_more u rows i d s t text line new within before scan written added =
     (subst (λ rs. RunLines u rs t (text ++ line_of u.ladder.declarations t.slots)) (sym (take_more rows i d within)) (after (take i rows) (get_or rows i d) s t text before scan))
 
 -- no text yet
-pub texts_none : (u : SetupValue) (file : List ℕ) (states scans : ℕ) (text : List ℕ) → text ≡ [] → AreTexts u file states scans [] [] text
-texts_none u file states scans text empty = subst (AreTexts u file states scans [] []) (sym empty) none
+pub texts_none : (u : SetupValue) (file : List ℕ) (t : Tally) (text : List ℕ) → text ≡ [] → AreTexts u file t [] [] text
+texts_none u file t text empty = subst (AreTexts u file t [] []) (sym empty) none
 
 -- the text of the next verdict
-pub texts_more : (u : SetupValue) (file : List ℕ) (states scans : ℕ) (names : List (Bor (List ℕ))) (verdicts : List Verdict) (k : ℕ) (d : Bor (List ℕ)) (e : Verdict) (old new : List ℕ)
-    → k < length names → k < length verdicts → AreTexts u file states scans (take k (texts names)) (take k verdicts) old
-    → AddsVerdictText u file states scans (get_or names k d).now (get_or verdicts k e) old new
-    → AreTexts u file states scans (take (k + 1) (texts names)) (take (k + 1) verdicts) new
-texts_more u file states scans names verdicts k d e old new inside also before adds =
+pub texts_more : (u : SetupValue) (file : List ℕ) (t : Tally) (names : List (Bor (List ℕ))) (verdicts : List Verdict) (k : ℕ) (d : Bor (List ℕ)) (e : Verdict) (old new : List ℕ)
+    → k < length names → k < length verdicts → AreTexts u file t (take k (texts names)) (take k verdicts) old
+    → AddsVerdictText u file t (get_or names k d).now (get_or verdicts k e) old new
+    → AreTexts u file t (take (k + 1) (texts names)) (take (k + 1) verdicts) new
+texts_more u file t names verdicts k d e old new inside also before adds =
     let long = length-map names (λ (w : Bor (List ℕ)). w.now) in
     let name = (get_or names k d).now in
     let within : k < length (texts names) = omega arith in
     let ns : take (k + 1) (texts names) ≡ take k (texts names) ++ name ∷ [] = take_more (texts names) k [] within ∙ ap (λ w. take k (texts names) ++ w ∷ []) (get_or-map (λ (w : Bor (List ℕ)). w.now) names k d [] inside) in
     let vs = take_more verdicts k e also in
-    subst (λ t. AreTexts u file states scans (take (k + 1) (texts names)) (take (k + 1) verdicts) t) (sym adds.added)
-    (subst (λ n. AreTexts u file states scans n (take (k + 1) verdicts) (old ++ adds.text)) (sym ns)
-    (subst (λ v. AreTexts u file states scans (take k (texts names) ++ name ∷ []) v (old ++ adds.text)) (sym vs)
+    subst (λ x. AreTexts u file t (take (k + 1) (texts names)) (take (k + 1) verdicts) x) (sym adds.added)
+    (subst (λ n. AreTexts u file t n (take (k + 1) verdicts) (old ++ adds.text)) (sym ns)
+    (subst (λ v. AreTexts u file t (take k (texts names) ++ name ∷ []) v (old ++ adds.text)) (sym vs)
     (more (take k (texts names)) name (take k verdicts) (get_or verdicts k e) old adds.text before adds.is)))

@@ -5,7 +5,6 @@ use Rattle.std.specs.List.{AllPairs, join_by}
 use Rattle.std.specs.Option.{option_map_or}
 use Rattle.std_blocks.specs.declared.block_type.BlockType.{BlockType}
 use Rattle.std_blocks.specs.declared.block_type.BlockType.TheVariants.{SR, RS, CTU, CTD, CTUD, TP, TON, TOF}
-use Rattle.std_blocks.specs.declared.value.Value.{Value}
 use Rattle.std_blocks.specs.declared.value.Value.TheVariants.{Bool as BoolValue}
 use Rattle.declared_names.specs.Kinds.{value_first}
 use Rattle.declared_names.specs.declared.declarations.Declaration.{Declaration}
@@ -93,10 +92,11 @@ first_of (Instance block) name = []
 abbrev pub constant_premise : List Declaration → ℕ → List ℕ
 constant_premise ds place = option_map_or (λ (e : Declaration). first_of e.declared e.name) (slice_get ds place) []
 
--- the time, the inputs that are held, in the order of the words, and the constants, in that of their declarations
+-- the time, the inputs that are held, in the order of the words, the constants, in that of their declarations, and the
+-- names that are given
 abbrev pub premises : SetupValue → List ℕ → List (List ℕ)
 premises u constants = dt_premises u.dt ++ map (held_premise u.ladder.declarations) u.held
-    ++ map (constant_premise u.ladder.declarations) constants
+    ++ map (constant_premise u.ladder.declarations) constants ++ map (name_at u.ladder.declarations) u.given
 
 -- a line of them, if there are any
 abbrev pub premise_line : List (List ℕ) → List ℕ

@@ -1,12 +1,13 @@
 -- How verdicts are written.
-use Rattle.std.specs.Prelude.{◌≡◌, ℕ, ◌==◌, ◌++◌, if◌then◌else◌, List, [], ◌∷◌, Bool, codes, length, map, slice_get, slice_index_or, false, nat_lt, ◌||◌, ◌&&◌, not}
+use Rattle.std.specs.Prelude.{◌≡◌, ℕ, ◌==◌, ◌++◌, if◌then◌else◌, List, [], ◌∷◌, Bool, codes, length, map, slice_get, slice_index_or, true, false, nat_lt, ◌||◌, ◌&&◌, not}
 use Rattle.std.specs.Fmt.{decimal}
-use Rattle.std.specs.List.{enumerate_from, flat_map}
+use Rattle.std.specs.List.{enumerate_from, flat_map, join_by}
 use Rattle.std.specs.Option.{option_map_or}
 use Rattle.declared_names.specs.declared.declarations.Declaration.{Declaration}
 use Rattle.power_flow.specs.Meaning.{Moment}
 use Rattle.text_commands.specs.Lines.{line_of}
 use Rattle.verifying.specs.declared.setup.Setting.{Setting}
+use Rattle.verifying.specs.declared.verdict.Tally.{Tally}
 use Rattle.verifying.specs.declared.verdict.Verdict.{Verdict}
 use Rattle.verifying.specs.declared.verdict.Verdict.TheVariants.{Holds, Fails, Undecided}
 use Rattle.verifying.specs.Runs.{SetupValue, ScansWith, first}
@@ -19,9 +20,6 @@ counted count what = decimal count ++ codes " " ++ what ++ (if count == 1 then [
 abbrev pub looked_at : ℕ → ℕ → List ℕ
 looked_at states scans = codes ": " ++ counted states (codes "state") ++ codes ", " ++ counted scans (codes "scan") ++ codes "\n"
 
-abbrev pub holds_line : List ℕ → ℕ → ℕ → List ℕ
-holds_line name states scans = codes "HOLDS " ++ name ++ codes " is never on" ++ looked_at states scans
-
 abbrev pub undecided_line : List ℕ → ℕ → ℕ → ℕ → List ℕ
 undecided_line name depth states scans =
     codes "UNDECIDED " ++ name ++ codes " is not on within " ++ counted depth (codes "scan") ++ looked_at states scans
@@ -29,13 +27,25 @@ undecided_line name depth states scans =
 abbrev pub fails_line : List ℕ → ℕ → List ℕ
 fails_line name scans = codes "FAILS " ++ name ++ codes " is on after " ++ counted scans (codes "scan") ++ codes "\n"
 
--- a digit for a value
-abbrev pub digit_of : Bool → ℕ
-digit_of on = if on then 49 else 48
-
 -- the name that is declared at a place
 abbrev pub name_at : List Declaration → ℕ → List ℕ
 name_at ds place = option_map_or (λ (d : Declaration). d.name) (slice_get ds place) []
+
+-- that no run meets what is given
+abbrev pub unmet : SetupValue → List ℕ
+unmet u = codes ": no run meets " ++ join_by (name_at u.ladder.declarations) (codes ", ") u.given ++ codes "\n"
+
+-- how much was looked at; or, where no run meets what is given, that
+abbrev pub held_in : SetupValue → Bool → ℕ → ℕ → List ℕ
+held_in u true states scans = looked_at states scans
+held_in u false states scans = unmet u
+
+abbrev pub holds_line : SetupValue → Bool → List ℕ → ℕ → ℕ → List ℕ
+holds_line u met name states scans = codes "HOLDS " ++ name ++ codes " is never on" ++ held_in u met states scans
+
+-- a digit for a value
+abbrev pub digit_of : Bool → ℕ
+digit_of on = if on then 49 else 48
 
 -- a word NAME=DIGITS behind a blank
 abbrev pub input_word : List ℕ → List ℕ → List ℕ
@@ -86,14 +96,14 @@ pub record IsFailText (u : SetupValue) (file name : List ℕ) (rows : List (List
       ++ (if can_be_words u (length rows) then eval_line u file rows else []) ++ lines
 
 -- the text of a verdict
-abbrev pub IsVerdictText : SetupValue → List ℕ → ℕ → ℕ → List ℕ → Verdict → List ℕ → Type 0
-IsVerdictText u file states scans name Holds text = text ≡ holds_line name states scans
-IsVerdictText u file states scans name (Fails rows) text = IsFailText u file name rows.items text
-IsVerdictText u file states scans name (Undecided depth) text = text ≡ undecided_line name depth states scans
+abbrev pub IsVerdictText : SetupValue → List ℕ → Tally → List ℕ → Verdict → List ℕ → Type 0
+IsVerdictText u file t name Holds text = text ≡ holds_line u t.met name t.states t.scans
+IsVerdictText u file t name (Fails rows) text = IsFailText u file name rows.items text
+IsVerdictText u file t name (Undecided depth) text = text ≡ undecided_line name depth t.states t.scans
 
 -- the texts of verdicts, one behind the other
-pub data AreTexts (u : SetupValue) (file : List ℕ) (states scans : ℕ) : List (List ℕ) → List Verdict → List ℕ → Type 0 where
-  none : AreTexts u file states scans [] [] []
+pub data AreTexts (u : SetupValue) (file : List ℕ) (t : Tally) : List (List ℕ) → List Verdict → List ℕ → Type 0 where
+  none : AreTexts u file t [] [] []
   more : (names : List (List ℕ)) (name : List ℕ) (verdicts : List Verdict) (verdict : Verdict) (text lines : List ℕ)
-      → AreTexts u file states scans names verdicts text → IsVerdictText u file states scans name verdict lines
-      → AreTexts u file states scans (names ++ name ∷ []) (verdicts ++ verdict ∷ []) (text ++ lines)
+      → AreTexts u file t names verdicts text → IsVerdictText u file t name verdict lines
+      → AreTexts u file t (names ++ name ∷ []) (verdicts ++ verdict ∷ []) (text ++ lines)

@@ -1,5 +1,5 @@
 -- What `plc verify` writes.
-use Rattle.std.specs.Prelude.{◌≡◌, ℕ, ◌<◌, ◌++◌, List, All, Option, length}
+use Rattle.std.specs.Prelude.{◌≡◌, ◌↔◌, ℕ, ◌<◌, ◌++◌, List, All, IsTrue, Option, length}
 use Rattle.std.specs.List.{AllZip}
 use Rattle.std.specs.Io.KnownBytes.{Appends, Keeps}
 use Rattle.network.specs.Links.{Diagram}
@@ -9,8 +9,9 @@ use Rattle.text_commands.specs.EvalText.{IsLadderOfDrawing, RefusesDrawing, Refu
 use Rattle.text_commands.specs.Rows.{RowValue, SpellRows}
 use Rattle.text_commands.specs.declared.text_command_fault.TextCommandFault.TheVariants.{Text, Word, Write, Memory}
 use Rattle.verifying.specs.declared.setup.Setting.{Setting}
+use Rattle.verifying.specs.declared.verdict.Tally.{Tally}
 use Rattle.verifying.specs.declared.verdict.Verdict.{Verdict}
-use Rattle.verifying.specs.Runs.{SetupValue}
+use Rattle.verifying.specs.Runs.{HasRun, SetupValue}
 use Rattle.verifying.specs.Verdicts.{AreVerdicts}
 use Rattle.verifying.specs.Counts.{AreCounts}
 use Rattle.verifying.specs.Inputs.{AreFree, AreInputs}
@@ -22,9 +23,9 @@ use Rattle.verifying.specs.declared.verify_fault.HeldFault.{HeldFault}
 use Rattle.verifying.specs.declared.summary.Summary.{Summary}
 use Rattle.verifying.specs.Summaries.{IsSummary}
 use Rattle.verifying.specs.declared.verify_fault.VerifyFault.{VerifyFault}
-use Rattle.verifying.specs.declared.verify_fault.VerifyFault.TheVariants.{Command, Claim, Held, TooManyInputs, NoTime}
+use Rattle.verifying.specs.declared.verify_fault.VerifyFault.TheVariants.{Command, Claim, Given, Held, TooManyInputs, NoTime}
 
--- The ladder of the drawing with its inputs: those that the words hold, and all others free.
+-- The ladder of the drawing with its inputs: those that the words hold, and all others free; and what is given.
 pub record IsSetup (drawing : List ℕ) (q : QuestionValue) (u : SetupValue) : Type 0 where
   pub ladder : IsLadderOfDrawing drawing u.ladder.declarations u.ladder.networks
   pub dt : u.dt ≡ q.dt
@@ -32,22 +33,23 @@ pub record IsSetup (drawing : List ℕ) (q : QuestionValue) (u : SetupValue) : T
   pub read : SpellRows u.ladder.declarations q.words rows
   pub held : AllZip (HoldsInput u.ladder.declarations u.ladder.networks) rows u.held
   pub inputs : AreInputs u.ladder.declarations u.ladder.networks u.free u.held
+  pub given : AllZip (IsClaim u.ladder.declarations u.ladder.networks) q.given u.given
 
 -- A text that answers the question: the ladder with its inputs, the claims at their places, a verdict for each that is
--- proved of all runs, with the numbers of states and scans, and the text of all that; and behind it a line of what the
--- answers depend on. Where there is a timer, time passes.
+-- proved of all runs, with the numbers of states and scans and whether there is a run at all, and the text of all that; and
+-- behind it a line of what the answers depend on. Where there is a timer, time passes.
 pub record IsAnswer (drawing : List ℕ) (q : QuestionValue) (text : List ℕ) : Type 0 where
   pub setup : SetupValue
   pub is : IsSetup drawing q setup
   pub places : List ℕ
   pub claims : AllZip (IsClaim setup.ladder.declarations setup.ladder.networks) q.claims places
   pub verdicts : List Verdict
-  pub states : ℕ
-  pub scans : ℕ
-  pub proved : AreVerdicts setup q.most_states scans places verdicts
-  pub counts : All (AreCounts setup q.most_states states scans) verdicts
+  pub tally : Tally
+  pub proved : AreVerdicts setup q.most_states tally.scans places verdicts
+  pub counts : All (AreCounts setup q.most_states tally.states tally.scans) verdicts
+  pub met : IsTrue tally.met ↔ HasRun setup
   pub lines : List ℕ
-  pub texts : AreTexts setup q.file states scans q.claims verdicts lines
+  pub texts : AreTexts setup q.file tally q.claims verdicts lines
   pub timed : IsTimed setup.ladder.declarations q.dt
   pub constants : List ℕ
   pub are_constants : AreConstants setup.ladder.declarations setup.ladder.networks constants
@@ -86,6 +88,20 @@ pub record RefusesHeld (drawing : List ℕ) (q : QuestionValue) (fault : HeldFau
   pub read : SpellRows declarations q.words rows
   pub first : IsFirstHeldFault declarations networks rows fault
 
+-- the words hold inputs of the drawing's ladder, the names are claims of it, a name that is given is none, and this is the
+-- first fault
+pub record RefusesGiven (drawing : List ℕ) (q : QuestionValue) (fault : ClaimFault) : Type 0 where
+  pub declarations : List Declaration
+  pub networks : List Diagram
+  pub ladder : IsLadderOfDrawing drawing declarations networks
+  pub rows : List RowValue
+  pub read : SpellRows declarations q.words rows
+  pub held : List Setting
+  pub holds : AllZip (HoldsInput declarations networks) rows held
+  pub places : List ℕ
+  pub claims : AllZip (IsClaim declarations networks) q.claims places
+  pub first : IsFirstClaimFault declarations networks q.given fault
+
 -- the words hold inputs of the drawing's ladder, the names are claims of it, and so many inputs are free, more than 20
 pub record HasManyInputs (drawing : List ℕ) (q : QuestionValue) (count : ℕ) : Type 0 where
   pub declarations : List Declaration
@@ -97,6 +113,8 @@ pub record HasManyInputs (drawing : List ℕ) (q : QuestionValue) (count : ℕ) 
   pub holds : AllZip (HoldsInput declarations networks) rows held
   pub places : List ℕ
   pub claims : AllZip (IsClaim declarations networks) q.claims places
+  pub given : List ℕ
+  pub givens : AllZip (IsClaim declarations networks) q.given given
   pub free : List ℕ
   pub are_free : AreFree declarations networks held free
   pub many : 20 < length free
@@ -111,13 +129,15 @@ pub record LacksTime (drawing : List ℕ) (q : QuestionValue) : Type 0 where
   pub still : q.dt ≡ 0
   pub timer : HasTimer setup.ladder.declarations
 
--- Why there was a fault, and what was written before: nothing, but where the output failed.
+-- Why there was a fault, and what was written before: nothing, but where the output failed. The words are read first, then
+-- the claims, then what is given.
 abbrev pub ExplainsAnswer : List ℕ → QuestionValue → Option (List ℕ) → Option (List ℕ) → VerifyFault → Type 0
 ExplainsAnswer drawing q old new (Command (Text fault)) = RefusesDrawing drawing fault × Keeps old new
 ExplainsAnswer drawing q old new (Command (Word fault)) = RefusesWords drawing q.words fault × Keeps old new
 ExplainsAnswer drawing q old new (Command Write) = WritesLess drawing q old new
 ExplainsAnswer drawing q old new (Command Memory) = Keeps old new
 ExplainsAnswer drawing q old new (Claim fault) = RefusesClaims drawing q fault × Keeps old new
+ExplainsAnswer drawing q old new (Given fault) = RefusesGiven drawing q fault × Keeps old new
 ExplainsAnswer drawing q old new (Held fault) = RefusesHeld drawing q fault × Keeps old new
 ExplainsAnswer drawing q old new (TooManyInputs count) = HasManyInputs drawing q count × Keeps old new
 ExplainsAnswer drawing q old new NoTime = LacksTime drawing q × Keeps old new

@@ -1,16 +1,16 @@
-//! The names behind `--never`.
+//! The names behind `--never` and `--given`.
 
 ghost use Rattle.std.specs.Prelude.{◌≡◌, IfOk, IfErr, MatchOption, ℕ, Some, map};
 ghost use Rattle.network.specs.Links.{Diagram};
 ghost use Rattle.text_commands.specs.Rows.{texts};
 ghost use Rattle.std.specs.Prelude.{List};
 ghost use Rattle.verifying.specs.Questions.{IsBoolNamed};
-ghost use Rattle.verifying.specs.Steps.Marks.{IsMarked, ClaimsRead, ClaimsRefused, IsClaimOf, IsNoClaimOf};
+ghost use Rattle.verifying.specs.Steps.Marks.{IsMarked, ClaimsRead, ClaimsRefused, GivenRefused, IsClaimFaultOf, IsClaimOf, IsNoClaimOf};
 
 use crate::inputs::{is_bool_at, is_marked};
 use crate::verify_fault::{ClaimFault, ClaimFaultKind, VerifyFault};
 use declared_names::Declarations;
-use std::alloc::Global;
+use std::alloc::{AllocError, Global};
 
 /// The place of the BOOL variable of this name.
 fn bool_named(declarations: &Declarations, name: &str) -> Option<usize>
@@ -26,8 +26,8 @@ fn bool_named(declarations: &Declarations, name: &str) -> Option<usize>
     }
 }
 
-/// The place of the variable that a claim names.
-fn read_claim(
+/// The place of the variable of this name, at which something stores.
+fn read_name(
     declarations: &Declarations,
     marks: &[bool],
     name: &str,
@@ -44,6 +44,26 @@ fn read_claim(
     Ok(place)
 }
 
+/// The places of the variables of these names, in order; or the first name that is refused.
+fn read_names(
+    alloc: Global,
+    declarations: &Declarations,
+    marks: &[bool],
+    names: &[&str],
+) -> Result<Result<Vec<usize>, ClaimFault>, AllocError>
+    ensures ok { IfOk result (λ read. IfOk read (λ places. ClaimsRead declarations.now marks.now (texts names.now) places.items)) }
+    ensures err { IfOk result (λ read. IfErr read (IsClaimFaultOf declarations.now marks.now (texts names.now))) }
+{
+    let mut places = Vec::new(alloc);
+    for (number, name) in names.iter().enumerate() {
+        match read_name(declarations, marks, name) {
+            Ok(place) => places.push(place)?,
+            Err(kind) => return Ok(Err(ClaimFault { number, kind })),
+        }
+    }
+    Ok(Ok(places))
+}
+
 /// The places of the variables that the claims name, in order.
 pub(crate) fn read_claims(
     alloc: Global,
@@ -54,12 +74,24 @@ pub(crate) fn read_claims(
     ensures ok { IfOk result (λ places. ClaimsRead declarations.now marks.now (texts names.now) places.items) }
     ensures err { IfErr result (ClaimsRefused declarations.now marks.now (texts names.now)) }
 {
-    let mut places = Vec::new(alloc);
-    for (number, name) in names.iter().enumerate() {
-        match read_claim(declarations, marks, name) {
-            Ok(place) => places.push(place)?,
-            Err(kind) => return Err(VerifyFault::Claim(ClaimFault { number, kind })),
-        }
+    match read_names(alloc, declarations, marks, names)? {
+        Ok(places) => Ok(places),
+        Err(fault) => Err(VerifyFault::Claim(fault)),
     }
-    Ok(places)
+}
+
+/// The places of the variables that are given, in order.
+pub(crate) fn read_given(
+    alloc: Global,
+    declarations: &Declarations,
+    marks: &[bool],
+    names: &[&str],
+) -> Result<Vec<usize>, VerifyFault>
+    ensures ok { IfOk result (λ places. ClaimsRead declarations.now marks.now (texts names.now) places.items) }
+    ensures err { IfErr result (GivenRefused declarations.now marks.now (texts names.now)) }
+{
+    match read_names(alloc, declarations, marks, names)? {
+        Ok(places) => Ok(places),
+        Err(fault) => Err(VerifyFault::Given(fault)),
+    }
 }

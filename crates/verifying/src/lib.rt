@@ -2,12 +2,15 @@
 //! it of a drawing, `verify`.
 #![tactic(auto)]
 
+mod asked;
 mod claim;
 mod claims;
 mod fault_from;
+mod first_scans;
 mod held;
 mod inputs;
 mod kept;
+mod names;
 mod premises;
 mod question;
 mod row;
@@ -27,6 +30,6 @@ pub use row::Row;
 pub use search::verify;
 pub use setup::{Setting, Setup};
 pub use summary::Summary;
-pub use verdict::{Outcome, Verdict};
+pub use verdict::{Outcome, Tally, Verdict};
 pub use verify_command::verify_text;
 pub use verify_fault::{ClaimFault, ClaimFaultKind, HeldFault, HeldFaultKind, VerifyFault};

@@ -4,9 +4,11 @@ ghost use Rattle.std.specs.Prelude.{◌≡◌, ◌↔◌, ◌++◌, IsTrue, IfOk
 ghost use Rattle.text_lines.specs.Growing.{GrowsBy};
 ghost use Rattle.text_commands.specs.Lines.{item_text};
 ghost use Rattle.verifying.specs.Premises.{HasTimer, IsNumber, IsNumberAt, IsTimed, IsTimer, IsTimerAt, constant_premise, dt_premises, held_premise, is_number, is_timer, premise_line, premises};
+ghost use Rattle.verifying.specs.VerdictLines.{name_at};
 ghost use Rattle.verifying.specs.Steps.Marks.{AreConstantsOf, IsConstantOf};
 
 use crate::inputs::is_marked;
+use crate::names::name_at;
 use crate::setup::{Setting, Setup};
 use crate::verify_fault::VerifyFault;
 use declared_names::{Declarations, Declared, Kind, first_value};
@@ -134,11 +136,11 @@ fn held_premise(
 ) -> Result<String, AllocError>
     ensures { IfOk result (λ text. string_bytes text ≡ held_premise declarations.now setting.now) }
 {
-    let name = match declarations.entry(setting.place) {
-        Some((name, _)) => name,
-        None => "",
-    };
-    item(alloc, name, Value::Bool(setting.value))
+    item(
+        alloc,
+        name_at(declarations, setting.place),
+        Value::Bool(setting.value),
+    )
 }
 
 fn constant_premise(
@@ -196,7 +198,22 @@ fn push_constants(
     Ok(())
 }
 
-/// The time, the inputs that are held, and the constants.
+fn push_given(
+    alloc: Global,
+    made: &mut Vec<String>,
+    declarations: &Declarations,
+    given: &[usize],
+) -> Result<(), AllocError>
+    ensures { OnOk result (map (λ p. string_bytes p) made.new.items
+        ≡ map (λ p. string_bytes p) made.old.items ++ map (name_at declarations.now) given.now) }
+{
+    for place in given {
+        made.push(String::from_str(alloc, name_at(declarations, *place))?)?;
+    }
+    Ok(())
+}
+
+/// The time, the inputs that are held, the constants, and what is given.
 fn premises(alloc: Global, setup: &Setup, constants: &[usize]) -> Result<Vec<String>, AllocError>
     ensures { IfOk result (λ made. map (λ p. string_bytes p) made.items ≡ premises setup.now constants.now) }
 {
@@ -204,6 +221,7 @@ fn premises(alloc: Global, setup: &Setup, constants: &[usize]) -> Result<Vec<Str
     let mut made = dt_premises(alloc, setup.dt())?;
     push_held(alloc, &mut made, declarations, setup.held())?;
     push_constants(alloc, &mut made, declarations, constants)?;
+    push_given(alloc, &mut made, declarations, setup.given())?;
     Ok(made)
 }
 

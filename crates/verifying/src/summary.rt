@@ -14,6 +14,22 @@ pub enum Summary {
     OneUndecided,
 }
 
+impl Summary {
+    ghost use Rattle.std.specs.Prelude.{◌≡◌};
+    ghost use Rattle.verifying.specs.Summaries.{summary_of};
+
+    /// What comes of all, where one fails or none does, and one is undecided or none is.
+    pub fn of(one_fails: bool, one_undecided: bool) -> Self
+        ensures { result ≡ summary_of one_fails one_undecided }
+    {
+        match (one_fails, one_undecided) {
+            (true, _) => Summary::OneFails,
+            (false, true) => Summary::OneUndecided,
+            (false, false) => Summary::AllHold,
+        }
+    }
+}
+
 fn is_failure(verdict: &Verdict) -> bool
     ensures { IsTrue result ↔ IsFailure verdict.now }
 {
@@ -26,15 +42,21 @@ fn is_open(verdict: &Verdict) -> bool
     matches!(verdict, Verdict::Undecided(_))
 }
 
+fn has_failure(verdicts: &[Verdict]) -> bool
+    ensures { IsTrue result ↔ Any IsFailure verdicts.now }
+{
+    verdicts.iter().any(|verdict| is_failure(verdict))
+}
+
+fn has_open(verdicts: &[Verdict]) -> bool
+    ensures { IsTrue result ↔ Any IsOpen verdicts.now }
+{
+    verdicts.iter().any(|verdict| is_open(verdict))
+}
+
 /// What comes of these verdicts together.
 pub(crate) fn summary_of(verdicts: &[Verdict]) -> Summary
     ensures { IsSummary verdicts.now result }
 {
-    if verdicts.iter().any(|verdict| is_failure(verdict)) {
-        return Summary::OneFails;
-    }
-    if verdicts.iter().any(|verdict| is_open(verdict)) {
-        return Summary::OneUndecided;
-    }
-    Summary::AllHold
+    Summary::of(has_failure(verdicts), has_open(verdicts))
 }

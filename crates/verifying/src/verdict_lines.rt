@@ -1,16 +1,19 @@
 //! The text of verdicts.
 
-ghost use Rattle.std.specs.Prelude.{◌≡◌, ◌++◌, ℕ, List, OnOk, IfOk, All, length, string_bytes};
+ghost use Rattle.std.specs.Prelude.{◌≡◌, ◌++◌, ℕ, List, OnOk, IfOk, All, codes, length, string_bytes};
 ghost use Rattle.text_lines.specs.Growing.{GrowsBy};
 ghost use Rattle.text_commands.specs.Rows.{texts};
-ghost use Rattle.verifying.specs.VerdictLines.{AreTexts, IsFailText, IsVerdictText, counted, fails_line, holds_line, looked_at, undecided_line};
+ghost use Rattle.std.specs.List.{join_by};
+ghost use Rattle.verifying.specs.VerdictLines.{AreTexts, IsFailText, IsVerdictText, counted, fails_line, held_in, holds_line, looked_at, name_at, undecided_line, unmet};
 ghost use Rattle.verifying.specs.Steps.Adding.{AddsFailText, AddsVerdictText, AreWholeRows, FitsSetup};
 
+use crate::names::name_at;
 use crate::row::Row;
 use crate::run_lines::run_lines;
 use crate::setup::Setup;
-use crate::verdict::{Outcome, Verdict};
+use crate::verdict::{Outcome, Tally, Verdict};
 use crate::verdict_words::{can_be_words, push_eval_line};
+use declared_names::Declarations;
 use std::alloc::{AllocError, Global};
 use std::fmt::Write;
 
@@ -33,13 +36,53 @@ fn push_looked_at(text: &mut String, states: usize, scans: usize) -> Result<(), 
     text.push_str("\n")
 }
 
-fn push_holds(text: &mut String, name: &str, states: usize, scans: usize) -> Result<(), AllocError>
-    ensures { OnOk result (GrowsBy text.old text.new (holds_line name.now states scans)) }
+/// Writes the names at places, parted by commas.
+fn push_names(
+    text: &mut String,
+    declarations: &Declarations,
+    places: &[usize],
+) -> Result<(), AllocError>
+    ensures { OnOk result (GrowsBy text.old text.new (join_by (name_at declarations.now) (codes ", ") places.now)) }
+{
+    let [first, others @ ..] = places else {
+        return Ok(());
+    };
+    text.push_str(name_at(declarations, *first))?;
+    for place in others {
+        text.push_str(", ")?;
+        text.push_str(name_at(declarations, *place))?;
+    }
+    Ok(())
+}
+
+/// Writes that no run meets what is given, and a line feed.
+fn push_unmet(text: &mut String, setup: &Setup) -> Result<(), AllocError>
+    ensures { OnOk result (GrowsBy text.old text.new (unmet setup.now)) }
+{
+    text.push_str(": no run meets ")?;
+    push_names(text, setup.ladder().declarations(), setup.given())?;
+    text.push_str("\n")?;
+    Ok(())
+}
+
+/// Writes how much was looked at, or that no run meets what is given.
+fn push_held_in(text: &mut String, setup: &Setup, tally: Tally) -> Result<(), AllocError>
+    ensures { OnOk result (GrowsBy text.old text.new (held_in setup.now tally.met tally.states tally.scans)) }
+{
+    if tally.met {
+        push_looked_at(text, tally.states, tally.scans)
+    } else {
+        push_unmet(text, setup)
+    }
+}
+
+fn push_holds(text: &mut String, setup: &Setup, name: &str, tally: Tally) -> Result<(), AllocError>
+    ensures { OnOk result (GrowsBy text.old text.new (holds_line setup.now tally.met name.now tally.states tally.scans)) }
 {
     text.push_str("HOLDS ")?;
     text.push_str(name)?;
     text.push_str(" is never on")?;
-    push_looked_at(text, states, scans)
+    push_held_in(text, setup, tally)
 }
 
 fn push_undecided(
@@ -94,8 +137,7 @@ fn push_run(
 struct Told<'a> {
     setup: &'a Setup,
     file: &'a str,
-    states: usize,
-    scans: usize,
+    tally: Tally,
 }
 
 fn push_verdict(
@@ -106,13 +148,19 @@ fn push_verdict(
     verdict: &Verdict,
 ) -> Result<(), AllocError>
     requires { FitsSetup told.now.setup.now verdict.now }
-    ensures { OnOk result (AddsVerdictText told.now.setup.now told.now.file.now told.now.states told.now.scans name.now verdict.now
+    ensures { OnOk result (AddsVerdictText told.now.setup.now told.now.file.now told.now.tally name.now verdict.now
         (string_bytes text.old) (string_bytes text.new)) }
 {
     match verdict {
-        Verdict::Holds => push_holds(text, name, told.states, told.scans),
+        Verdict::Holds => push_holds(text, told.setup, name, told.tally),
         Verdict::Fails(rows) => push_run(alloc, text, told.setup, told.file, name, rows),
-        Verdict::Undecided(depth) => push_undecided(text, name, *depth, told.states, told.scans),
+        Verdict::Undecided(depth) => push_undecided(
+            text,
+            name,
+            *depth,
+            told.tally.states,
+            told.tally.scans,
+        ),
     }
 }
 
@@ -126,14 +174,13 @@ pub(crate) fn verdict_texts(
 ) -> Result<String, AllocError>
     requires long { length outcome.now.verdicts.items ≡ length names.now }
     requires fits { All (FitsSetup setup.now) outcome.now.verdicts.items }
-    ensures { IfOk result (λ text. AreTexts setup.now file.now outcome.now.states outcome.now.scans (texts names.now)
+    ensures { IfOk result (λ text. AreTexts setup.now file.now outcome.now.tally (texts names.now)
         outcome.now.verdicts.items (string_bytes text)) }
 {
     let told = Told {
         setup,
         file,
-        states: outcome.states,
-        scans: outcome.scans,
+        tally: outcome.tally,
     };
     let mut text = String::new(alloc);
     for (k, verdict) in outcome.verdicts.iter().enumerate() {

@@ -4,6 +4,7 @@ ghost use Rattle.std.specs.Prelude.{◌≡◌, [], ◌∷◌, OnOk};
 ghost use Rattle.text_lines.specs.Growing.{GrowsBy};
 ghost use Rattle.verifying.specs.VerdictLines.{can_be_words, digit_of, digits_of_free, digits_of_held, dt_words, eval_line, free_words, held_words, input_word, name_at};
 
+use crate::names::name_at;
 use crate::row::Row;
 use crate::setup::{Setting, Setup};
 use declared_names::Declarations;
@@ -20,10 +21,7 @@ fn push_digit(text: &mut String, on: bool) -> Result<(), AllocError>
 fn push_name(text: &mut String, declarations: &Declarations, place: usize) -> Result<(), AllocError>
     ensures { OnOk result (GrowsBy text.old text.new (input_word (name_at declarations.now place) [])) }
 {
-    let name = match declarations.entry(place) {
-        Some((name, _)) => name,
-        None => "",
-    };
+    let name = name_at(declarations, place);
     write!(text, " {name}=")
 }
 

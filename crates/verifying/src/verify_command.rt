@@ -8,7 +8,8 @@ ghost use Rattle.verifying.specs.Steps.Marks.{AreMarksOf};
 ghost use Rattle.text_commands.specs.Rows.{texts};
 ghost use Rattle.verifying.specs.Steps.Asking.{AreFew, AreHeldBy, IsAsked, IsPrepared, IsToldAnswer, RefusesAsking, RefusesFree, RefusesHolding, RefusesPreparing};
 
-use crate::claims::read_claims;
+use crate::asked::Asked;
+use crate::claims::{read_claims, read_given};
 use crate::held::read_settings;
 use crate::inputs::{marks_of, unmarked_places};
 use crate::premises::{check_time, constant_places, push_premise_line};
@@ -79,28 +80,26 @@ fn free_inputs(
     Ok(free)
 }
 
-/// What a question is about, by the places of variables.
-#[derive(Drop)]
-struct Asked {
-    claims: Vec<usize>,
-    free: Vec<usize>,
-    held: Vec<Setting>,
-}
-
-/// The places of the claims, and the inputs.
+/// The places of the claims, of what is given, and of the inputs.
 fn read_question(
     alloc: Global,
     declarations: &Declarations,
     marks: &[bool],
     question: &Question<'_>,
 ) -> Result<Asked, VerifyFault>
-    ensures ok { IfOk result (λ asked. IsAsked declarations.now marks.now (question_of question.now) asked.claims.items asked.free.items asked.held.items) }
+    ensures ok { IfOk result (IsAsked declarations.now marks.now (question_of question.now)) }
     ensures err { IfErr result (RefusesAsking declarations.now marks.now (question_of question.now)) }
 {
     let held = held_inputs(alloc, declarations, marks, question.words)?;
     let claims = read_claims(alloc, declarations, marks, question.claims)?;
+    let given = read_given(alloc, declarations, marks, question.given)?;
     let free = free_inputs(alloc, declarations, marks, &held)?;
-    Ok(Asked { claims, free, held })
+    Ok(Asked {
+        claims,
+        given,
+        free,
+        held,
+    })
 }
 
 /// The ladder of a drawing with its inputs, the places of the claims, and the constants.
@@ -120,7 +119,7 @@ fn prepare(alloc: Global, drawing: &str, question: &Question<'_>) -> Result<Prep
     let asked = read_question(alloc, ladder.declarations(), &marks, question)?;
     check_time(ladder.declarations(), question.dt)?;
     let constants = constant_places(alloc, ladder.declarations(), &marks)?;
-    let setup = Setup::new(ladder, question.dt, asked.free, asked.held);
+    let setup = Setup::new(ladder, question.dt, asked.free, asked.held, asked.given);
     Ok(Prepared {
         setup,
         claims: asked.claims,
@@ -155,8 +154,8 @@ fn answer_text<P: Progress>(
 /// Tells of each claim about a drawing whether it holds, whatever the free inputs do, and what comes of all. How far the
 /// search is is told meanwhile.
 ///
-/// `Command(Text)`, `Command(Word)`, `Command(Memory)`, `Claim`, `Held`, `TooManyInputs` and `NoTime` come before anything
-/// is written. After `Command(Write)` what went out is a prefix, and not all.
+/// `Command(Text)`, `Command(Word)`, `Command(Memory)`, `Claim`, `Given`, `Held`, `TooManyInputs` and `NoTime` come before
+/// anything is written. After `Command(Write)` what went out is a prefix, and not all.
 pub fn verify_text<W: Write, P: Progress>(
     alloc: Global,
     drawing: &str,

@@ -1,7 +1,7 @@
 use text_commands::TextCommandFault;
 use thiserror::Error;
 
-/// Why a name behind `--never` is no claim.
+/// Why a name behind `--never` is no claim, or one behind `--given` can't be given.
 #[derive(Clone, Copy, Debug, PartialEq, Eq, Error)]
 pub enum ClaimFaultKind {
     /// The drawing has no BOOL variable of this name.
@@ -12,7 +12,7 @@ pub enum ClaimFaultKind {
     NeverStored,
 }
 
-/// Why the claim with a number, counted from 0, is refused.
+/// Why the name with a number, counted from 0, is refused.
 #[derive(Clone, Copy, Debug, PartialEq, Eq, Error)]
 #[error("{kind}")]
 pub struct ClaimFault {
@@ -48,6 +48,9 @@ pub enum VerifyFault {
     /// A name behind `--never` is no claim.
     #[error(transparent)]
     Claim(ClaimFault),
+    /// A name behind `--given` is none of a variable at which something stores.
+    #[error(transparent)]
+    Given(ClaimFault),
     /// A word holds no input.
     #[error(transparent)]
     Held(HeldFault),

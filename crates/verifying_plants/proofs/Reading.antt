@@ -2,34 +2,14 @@
 use Rattle.std.proofs.Common.{◌≡◌, ◌⊎◌, inl, inr, ℕ, zero, suc, ◌+◌, ◌<◌, ◌++◌, Any, List, [], ◌∷◌, Some, length, map, take, get_or, unwrap_or, refl, ap, ap₂, sym, ◌∙◌, arith}
 use Rattle.std.specs.Prelude.{slice_get}
 use Rattle.std.specs.Borrow.{Bor}
-use Rattle.std.specs.List.{AllZip}
 use Rattle.std.proofs.lemmas.List.{get_or-map, length-map, map-append, take_more}
 use Rattle.std.proofs.lemmas.Option.{same_Some, slice_get-get_or, slice_get_within, unwrap_or-slice_get}
 use Rattle.lists.proofs.Places.{slice_get-append}
-use Rattle.lists.proofs.Zips.{zip_push}
 use Rattle.text_commands.specs.Rows.{texts}
 use Rattle.plant_claims.specs.declared.field_range.FieldRange.{FieldRange}
 use Rattle.plant_claims.specs.Claims.{range_address}
 use Rattle.verifying_plants.specs.Ranges.{AreApart, AreRanges, range_of}
 use Rattle.verifying_plants.specs.Questions.{TellsTwice}
-
--- one more item has its partner
-pub zip_more : {X Y : Type 0} (R : X → Y → Type 0) (xs : List X) (ys : List Y) (i : ℕ) (d : X) (y : Y) → i < length xs → AllZip R (take i xs) ys
-    → R (get_or xs i d) y → AllZip R (take (i + 1) xs) (ys ++ y ∷ [])
-zip_more R xs ys i d y within each is = rw (take_more xs i d within) (zip_push R (take i xs) ys (get_or xs i d) y each is)
-
--- the text of a word at a place
-pub text_at : (words : List (Bor (List ℕ))) (i : ℕ) (d : Bor (List ℕ)) → i < length words → slice_get (texts words) i ≡ Some (get_or words i d).now
-text_at words i d within =
-    let long = length-map words (λ (w : Bor (List ℕ)). w.now) in
-    slice_get-get_or (texts words) i [] (omega arith) ∙ ap (λ w. Some w) (get_or-map (λ (w : Bor (List ℕ)). w.now) words i d [] within)
-
--- the next word has its partner
-pub word_more : {Y : Type 0} (R : List ℕ → Y → Type 0) (words : List (Bor (List ℕ))) (ys : List Y) (n : ℕ) (d : Bor (List ℕ)) (y : Y) → n < length words → AllZip R (take n (texts words)) ys
-    → R (get_or words n d).now y → AllZip R (take (n + 1) (texts words)) (ys ++ y ∷ [])
-word_more R words ys n d y within before is =
-    let long = length-map words (λ (w : Bor (List ℕ)). w.now) in
-    zip_more R (texts words) ys n [] y (omega arith) before (rw (get_or-map (λ (w : Bor (List ℕ)). w.now) words n d [] within) is)
 
 -- one more range of another address
 pub apart_more : (rs : List FieldRange) (r : FieldRange) → AreApart rs → (Any (λ o. range_address o ≡ range_address r) rs → ⊥) → AreApart (rs ++ r ∷ [])

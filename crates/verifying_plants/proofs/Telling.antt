@@ -1,17 +1,9 @@
 -- Texts are joined and put one behind the other.
-use Rattle.std.proofs.Common.{◌≡◌, ℕ, ◌+◌, ◌<◌, ◌++◌, List, [], ◌∷◌, length, map, take, get_or, ap, ap₂, sym, ◌∙◌, subst, refl, codes, zero, suc, add-one, arith}
+use Rattle.std.proofs.Common.{◌≡◌, ℕ, ◌+◌, ◌<◌, ◌++◌, List, [], ◌∷◌, length, map, take, get_or, ap, ap₂, sym, ◌∙◌, refl, codes, zero, suc, add-one, arith}
 use Rattle.std.specs.List.{flat_map, join_by, zip}
 use Rattle.std.proofs.lemmas.List.{append_assoc, append-nil, take_more}
 use Rattle.std.proofs.lemmas.Grind.{flat_map-append}
-
--- texts of values that are joined are joined texts
-behind_texts : {X : Type 0} (f : X → List ℕ) (sep : List ℕ) (xs : List X) → flat_map (λ x. sep ++ f x) xs ≡ flat_map (λ (t : List ℕ). sep ++ t) (map f xs)
-behind_texts f sep [] = refl
-behind_texts f sep (x ∷ xs) = ap (λ t. (sep ++ f x) ++ t) (behind_texts f sep xs)
-
-pub joined_texts : {X : Type 0} (f : X → List ℕ) (sep : List ℕ) (xs : List X) → join_by f sep xs ≡ join_by (λ (t : List ℕ). t) sep (map f xs)
-joined_texts f sep [] = refl
-joined_texts f sep (x ∷ xs) = ap (λ t. f x ++ t) (behind_texts f sep xs)
+use Rattle.verifying.proofs.Premising.{joined_texts}
 
 -- one more text behind the others
 pub texts_more : {X : Type 0} (f : X → List ℕ) (xs : List X) (i : ℕ) (d : X) (first : List ℕ) → i < length xs → (first ++ flat_map f (take i xs)) ++ f (get_or xs i d) ≡ first ++ flat_map f (take (i + 1) xs)

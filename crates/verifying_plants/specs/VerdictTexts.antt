@@ -1,5 +1,5 @@
 -- How verdicts on claims about a plant are written.
-use Rattle.std.specs.Prelude.{◌≡◌, ◌==◌, ◌++◌, ℕ, ℤ, int_le, Bool, true, false, List, [], ◌∷◌, Option, Some, None, codes, length, map, if◌then◌else◌, string_bytes}
+use Rattle.std.specs.Prelude.{◌==◌, ◌++◌, ℕ, ℤ, int_le, Bool, true, false, List, [], ◌∷◌, Option, Some, None, codes, length, map, if◌then◌else◌, string_bytes}
 use Rattle.std.specs.Fmt.{decimal}
 use Rattle.std.specs.List.{filter, join_by}
 use Rattle.std_blocks.specs.declared.value.Value.TheVariants.{Bool as BoolValue, Int as IntValue}

@@ -1,5 +1,5 @@
 -- What `plc verify` writes about a plant.
-use Rattle.std.specs.Prelude.{◌≡◌, ℕ, ◌++◌, List, Option, map}
+use Rattle.std.specs.Prelude.{◌≡◌, ℕ, ◌++◌, List, Option}
 use Rattle.std.specs.List.{AllZip, flat_map, zip}
 use Rattle.std.specs.Io.KnownBytes.{Appends, Keeps}
 use Rattle.plant.specs.PlantValue.{PlantValue}
@@ -13,7 +13,6 @@ use Rattle.plant_claims.specs.Claims.{Question}
 use Rattle.plant_claims.specs.Verdicts.{IsVerdict}
 use Rattle.verifying_plants.specs.declared.verify_plant_fault.VerifyPlantFault.{VerifyPlantFault}
 use Rattle.verifying_plants.specs.declared.verify_plant_fault.VerifyPlantFault.TheVariants.{Command, Claim, Given, Range}
-use Rattle.verifying_plants.specs.Names.{IsClaimWord}
 use Rattle.verifying_plants.specs.Questions.{QuestionValue, IsAsked, IsFirstNameFault, IsFirstGivenFault, IsFirstRangeFault}
 use Rattle.verifying_plants.specs.Summaries.{IsSummary}
 use Rattle.verifying_plants.specs.VerdictTexts.{verdict_text, premise_line}

@@ -1,4 +1,4 @@
-ghost use Rattle.std.specs.Prelude.{◌↔◌, IsTrue};
+ghost use Rattle.std.specs.Prelude.{◌↔◌, IsTrue, Any};
 ghost use Rattle.verifying_plants.specs.Summaries.{IsFailure, IsOpen, IsSummary};
 
 use plant_claims::PlantVerdict;
@@ -16,15 +16,21 @@ fn is_open(verdict: &PlantVerdict) -> bool
     matches!(verdict, PlantVerdict::Undecided(_))
 }
 
+fn has_failure(verdicts: &[PlantVerdict]) -> bool
+    ensures { IsTrue result ↔ Any IsFailure verdicts.now }
+{
+    verdicts.iter().any(|verdict| is_failure(verdict))
+}
+
+fn has_open(verdicts: &[PlantVerdict]) -> bool
+    ensures { IsTrue result ↔ Any IsOpen verdicts.now }
+{
+    verdicts.iter().any(|verdict| is_open(verdict))
+}
+
 /// What comes of these verdicts together.
 pub(crate) fn summary_of(verdicts: &[PlantVerdict]) -> Summary
     ensures { IsSummary verdicts.now result }
 {
-    if verdicts.iter().any(|verdict| is_failure(verdict)) {
-        return Summary::OneFails;
-    }
-    if verdicts.iter().any(|verdict| is_open(verdict)) {
-        return Summary::OneUndecided;
-    }
-    Summary::AllHold
+    Summary::of(has_failure(verdicts), has_open(verdicts))
 }

@@ -1,5 +1,6 @@
 -- A text that grows by that of a verdict.
 use Rattle.std.specs.Prelude.{◌≡◌, ℕ, ◌++◌, List, Bool, All, length}
+use Rattle.verifying.specs.declared.verdict.Tally.{Tally}
 use Rattle.verifying.specs.declared.verdict.Verdict.{Verdict}
 use Rattle.verifying.specs.declared.verdict.Verdict.TheVariants.{Holds, Fails, Undecided}
 use Rattle.verifying.specs.Runs.{SetupValue}
@@ -10,9 +11,9 @@ pub record AddsFailText (u : SetupValue) (file name : List ℕ) (rows : List (Li
   pub is : IsFailText u file name rows text
   pub added : new ≡ old ++ text
 
-pub record AddsVerdictText (u : SetupValue) (file : List ℕ) (states scans : ℕ) (name : List ℕ) (verdict : Verdict) (old new : List ℕ) : Type 0 where
+pub record AddsVerdictText (u : SetupValue) (file : List ℕ) (t : Tally) (name : List ℕ) (verdict : Verdict) (old new : List ℕ) : Type 0 where
   pub text : List ℕ
-  pub is : IsVerdictText u file states scans name verdict text
+  pub is : IsVerdictText u file t name verdict text
   pub added : new ≡ old ++ text
 
 -- each row has a value for each free input

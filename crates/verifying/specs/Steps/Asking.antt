@@ -10,12 +10,13 @@ use Rattle.verifying.specs.Runs.{SetupValue}
 use Rattle.verifying.specs.Questions.{IsClaim, QuestionValue}
 use Rattle.verifying.specs.Summaries.{IsSummary}
 use Rattle.verifying.specs.Premises.{AreConstants, IsTimed}
-use Rattle.verifying.specs.VerifyText.{HasManyInputs, IsAnswer, IsSetup, LacksTime, RefusesClaims, RefusesHeld}
-use Rattle.verifying.specs.Steps.Marks.{AreUnmarked, ClaimsRead, ClaimsRefused, HeldRead, IsHeldFaultOf}
+use Rattle.verifying.specs.VerifyText.{HasManyInputs, IsAnswer, IsSetup, LacksTime, RefusesClaims, RefusesGiven, RefusesHeld}
+use Rattle.verifying.specs.Steps.Marks.{AreUnmarked, ClaimsRead, ClaimsRefused, GivenRefused, HeldRead, IsHeldFaultOf}
+use Rattle.verifying.specs.declared.asked.Asked.{Asked}
 use Rattle.verifying.specs.declared.summary.Summary.{Summary}
 use Rattle.verifying.specs.declared.verify_fault.HeldFault.{HeldFault}
 use Rattle.verifying.specs.declared.verify_fault.VerifyFault.{VerifyFault}
-use Rattle.verifying.specs.declared.verify_fault.VerifyFault.TheVariants.{Command, Claim, Held, TooManyInputs, NoTime}
+use Rattle.verifying.specs.declared.verify_fault.VerifyFault.TheVariants.{Command, Claim, Given, Held, TooManyInputs, NoTime}
 
 -- the inputs that words hold, where the marks tell what is stored
 pub record AreHeldBy (ds : List Declaration) (marks : List Bool) (words : List (List ℕ)) (held : List Setting) : Type 0 where
@@ -35,6 +36,7 @@ RefusesHolding ds marks words (Command (Word fault)) = SpellNoRows ds words × I
 RefusesHolding ds marks words (Command Write) = ⊥
 RefusesHolding ds marks words (Command Memory) = Unit {0}
 RefusesHolding ds marks words (Claim fault) = ⊥
+RefusesHolding ds marks words (Given fault) = ⊥
 RefusesHolding ds marks words (Held fault) = IsHeldFaultIn ds marks words fault
 RefusesHolding ds marks words (TooManyInputs count) = ⊥
 RefusesHolding ds marks words NoTime = ⊥
@@ -56,6 +58,7 @@ RefusesFree ds marks held (Command (Word fault)) = ⊥
 RefusesFree ds marks held (Command Write) = ⊥
 RefusesFree ds marks held (Command Memory) = Unit {0}
 RefusesFree ds marks held (Claim fault) = ⊥
+RefusesFree ds marks held (Given fault) = ⊥
 RefusesFree ds marks held (Held fault) = ⊥
 RefusesFree ds marks held (TooManyInputs count) = AreMany ds marks held count
 RefusesFree ds marks held NoTime = ⊥
@@ -66,23 +69,35 @@ pub record RefusesClaimsOf (ds : List Declaration) (marks : List Bool) (q : Ques
   pub by : AreHeldBy ds marks q.words held
   pub refused : ClaimsRefused ds marks q.claims fault
 
--- the words hold inputs, the names are claims, and this is why there are no free inputs
+-- the words hold inputs, the names are claims, and this is why names can't be given
+pub record RefusesGivenOf (ds : List Declaration) (marks : List Bool) (q : QuestionValue) (fault : VerifyFault) : Type 0 where
+  pub held : List Setting
+  pub by : AreHeldBy ds marks q.words held
+  pub claims : List ℕ
+  pub claimed : ClaimsRead ds marks q.claims claims
+  pub refused : GivenRefused ds marks q.given fault
+
+-- the words hold inputs, the names are claims, names are given, and this is why there are no free inputs
 pub record RefusesFreeOf (ds : List Declaration) (marks : List Bool) (q : QuestionValue) (fault : VerifyFault) : Type 0 where
   pub held : List Setting
   pub by : AreHeldBy ds marks q.words held
   pub claims : List ℕ
   pub claimed : ClaimsRead ds marks q.claims claims
+  pub given : List ℕ
+  pub givens : ClaimsRead ds marks q.given given
   pub refused : RefusesFree ds marks held fault
 
--- the places of the claims and the inputs, where the marks tell what is stored
-pub record IsAsked (ds : List Declaration) (marks : List Bool) (q : QuestionValue) (claims free : List ℕ) (held : List Setting) : Type 0 where
-  pub by : AreHeldBy ds marks q.words held
-  pub claimed : ClaimsRead ds marks q.claims claims
-  pub few : AreFew ds marks held free
+-- the places of the claims, of what is given and of the inputs, where the marks tell what is stored
+pub record IsAsked (ds : List Declaration) (marks : List Bool) (q : QuestionValue) (a : Asked) : Type 0 where
+  pub by : AreHeldBy ds marks q.words a.held.items
+  pub claimed : ClaimsRead ds marks q.claims a.claims.items
+  pub givens : ClaimsRead ds marks q.given a.given.items
+  pub few : AreFew ds marks a.held.items a.free.items
 
 -- why there are none
 abbrev pub RefusesAsking : List Declaration → List Bool → QuestionValue → VerifyFault → Type 0
-RefusesAsking ds marks q fault = RefusesHolding ds marks q.words fault ⊎ (RefusesClaimsOf ds marks q fault ⊎ RefusesFreeOf ds marks q fault)
+RefusesAsking ds marks q fault = RefusesHolding ds marks q.words fault
+    ⊎ (RefusesClaimsOf ds marks q fault ⊎ (RefusesGivenOf ds marks q fault ⊎ RefusesFreeOf ds marks q fault))
 
 -- the ladder with its inputs, the places of the claims, and the constants
 pub record IsPrepared (drawing : List ℕ) (q : QuestionValue) (u : SetupValue) (places constants : List ℕ) : Type 0 where
@@ -98,6 +113,7 @@ RefusesPreparing drawing q (Command (Word fault)) = RefusesWords drawing q.words
 RefusesPreparing drawing q (Command Write) = ⊥
 RefusesPreparing drawing q (Command Memory) = Unit {0}
 RefusesPreparing drawing q (Claim fault) = RefusesClaims drawing q fault
+RefusesPreparing drawing q (Given fault) = RefusesGiven drawing q fault
 RefusesPreparing drawing q (Held fault) = RefusesHeld drawing q fault
 RefusesPreparing drawing q (TooManyInputs count) = HasManyInputs drawing q count
 RefusesPreparing drawing q NoTime = LacksTime drawing q

@@ -16,7 +16,7 @@ use Rattle.verifying.specs.declared.verify_fault.HeldFault.{HeldFault}
 use Rattle.verifying.specs.declared.verify_fault.HeldFaultKind.{HeldFaultKind}
 use Rattle.verifying.specs.declared.verify_fault.HeldFaultKind.TheVariants.{NotOneDigit, NoInput}
 use Rattle.verifying.specs.declared.verify_fault.VerifyFault.{VerifyFault}
-use Rattle.verifying.specs.declared.verify_fault.VerifyFault.TheVariants.{Command, Claim, Held, TooManyInputs, NoTime}
+use Rattle.verifying.specs.declared.verify_fault.VerifyFault.TheVariants.{Command, Claim, Given, Held, TooManyInputs, NoTime}
 
 -- the name at a place is marked
 abbrev pub IsMarked : List Bool → ℕ → Type 0
@@ -68,15 +68,15 @@ pub record IsClaimFaultOf (ds : List Declaration) (marks : List Bool) (names : L
   pub before : ClaimsRead ds marks (take fault.number names) places
   pub refused : IsNoClaimOf ds marks name fault.kind
 
-abbrev pub ClaimsRefused : (ds : List Declaration) (marks : List Bool) (names : List (List ℕ)) → VerifyFault → Type 0
-ClaimsRefused ds marks names (Command (Text fault)) = ⊥
-ClaimsRefused ds marks names (Command (Word fault)) = ⊥
-ClaimsRefused ds marks names (Command Write) = ⊥
-ClaimsRefused ds marks names (Command Memory) = Unit {0}
+-- a claim is refused, or there is no memory left
+abbrev pub ClaimsRefused : List Declaration → List Bool → List (List ℕ) → VerifyFault → Type 0
 ClaimsRefused ds marks names (Claim fault) = IsClaimFaultOf ds marks names fault
-ClaimsRefused ds marks names (Held fault) = ⊥
-ClaimsRefused ds marks names (TooManyInputs count) = ⊥
-ClaimsRefused ds marks names NoTime = ⊥
+ClaimsRefused ds marks names fault = fault ≡ Command Memory
+
+-- what is given is refused, or there is no memory left
+abbrev pub GivenRefused : List Declaration → List Bool → List (List ℕ) → VerifyFault → Type 0
+GivenRefused ds marks names (Given fault) = IsClaimFaultOf ds marks names fault
+GivenRefused ds marks names fault = fault ≡ Command Memory
 
 -- a row holds an input, where the marks tell what is stored
 pub record HoldsOf (marks : List Bool) (row : RowValue) (s : Setting) : Type 0 where
@@ -104,6 +104,7 @@ HeldRefused marks rows (Command (Word fault)) = ⊥
 HeldRefused marks rows (Command Write) = ⊥
 HeldRefused marks rows (Command Memory) = Unit {0}
 HeldRefused marks rows (Claim fault) = ⊥
+HeldRefused marks rows (Given fault) = ⊥
 HeldRefused marks rows (Held fault) = IsHeldFaultOf marks rows fault
 HeldRefused marks rows (TooManyInputs count) = ⊥
 HeldRefused marks rows NoTime = ⊥

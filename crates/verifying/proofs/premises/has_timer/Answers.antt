@@ -1,4 +1,4 @@
-use Rattle.std.proofs.Common.{◌+◌, ◌<◌, ◌≤◌, inl, inr, length, subst, arith}
+use Rattle.std.proofs.Common.{◌<◌, inl, inr, length, subst, arith}
 use Rattle.std.proofs.lemmas.Bool.{cases_eq}
 use Rattle.verifying.specs.Premises.{IsTimerAt}
 use Rattle.verifying.proofs.Premising.{timer_within}

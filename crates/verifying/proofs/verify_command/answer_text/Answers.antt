@@ -26,12 +26,12 @@ pub verdict_texts-requires-clause-long : goal.verdict_texts-requires-clause-long
 verdict_texts-requires-clause-long g c =
     let prepared = c.in_ok-prepared.ensures.ok in
     let are = rw c.deref.ensures.value at c.in_ok-outcome.ensures.verdicts in
-    names_long c.in_ok-prepared.prepared.setup c.args.question.now.most_states c.in_ok-outcome.outcome.scans c.args.question.now.claims.now c.in_ok-prepared.prepared.claims.items c.in_ok-outcome.outcome.verdicts.items prepared.claims are
+    names_long c.in_ok-prepared.prepared.setup c.args.question.now.most_states c.in_ok-outcome.outcome.tally.scans c.args.question.now.claims.now c.in_ok-prepared.prepared.claims.items c.in_ok-outcome.outcome.verdicts.items prepared.claims are
 
 pub verdict_texts-requires-clause-fits : goal.verdict_texts-requires-clause-fits
 verdict_texts-requires-clause-fits g c =
     let are = rw c.deref.ensures.value at c.in_ok-outcome.ensures.verdicts in
-    verdicts_fit c.in_ok-prepared.prepared.setup c.args.question.now.most_states c.in_ok-outcome.outcome.scans c.in_ok-prepared.prepared.claims.items c.in_ok-outcome.outcome.verdicts.items are
+    verdicts_fit c.in_ok-prepared.prepared.setup c.args.question.now.most_states c.in_ok-outcome.outcome.tally.scans c.in_ok-prepared.prepared.claims.items c.in_ok-outcome.outcome.verdicts.items are
 
 pub returns-clause-ok : goal.returns-clause-ok
 returns-clause-ok g c =
@@ -45,10 +45,10 @@ returns-clause-ok g c =
         places = c.in_ok-prepared.prepared.claims.items;
         claims = c.in_ok-prepared.ensures.ok.claims;
         verdicts = c.in_ok-outcome.outcome.verdicts.items;
-        states = c.in_ok-outcome.outcome.states;
-        scans = c.in_ok-outcome.outcome.scans;
+        tally = c.in_ok-outcome.outcome.tally;
         proved = are;
         counts = c.in_ok-outcome.ensures.counts;
+        met = c.in_ok-outcome.ensures.met;
         lines = string_bytes c.in_ok-text.text;
         texts = c.in_ok-text.ensures;
         timed = c.in_ok-prepared.ensures.ok.timed;

@@ -29,7 +29,7 @@ returns-in_err-check_time-clause-err c =
     let asked = rw c.declarations.ensures.list at (rw c.deref.ensures.value at c.in_ok-asked.ensures.ok) in
     let refused = rw c.declarations-2.ensures.list at c.in_err-check_time.ensures.err in
     kept_fault c.in_err-check_time.field-0.0 (RefusesPreparing c.args.drawing.now q) _ c.from_residual-in_err-check_time.ensures.1
-    (time_refused c.args.drawing.now q l c.in_ok-ladder.marks.items c.in_ok-asked.asked.claims.items c.in_ok-asked.asked.free.items c.in_ok-asked.asked.held.items
+    (time_refused c.args.drawing.now q l c.in_ok-ladder.marks.items c.in_ok-asked.asked
     c.in_err-check_time.field-0.0 c.in_ok-ladder.ensures.ladder c.in_ok-ladder.ensures.marks asked refused)
 
 pub returns-in_err-constants-clause-err : goal.returns-in_err-constants-clause-err
@@ -40,7 +40,7 @@ pub new-setup-requires : goal.new-setup-requires
 new-setup-requires c =
     let l = c.in_ok-ladder.ladder in
     let asked = rw c.declarations.ensures.list at (rw c.deref.ensures.value at c.in_ok-asked.ensures.ok) in
-    asked_has_inputs l.declarations l.networks c.in_ok-ladder.marks.items (question_of c.args.question.now) c.in_ok-asked.asked.claims.items c.in_ok-asked.asked.free.items c.in_ok-asked.asked.held.items
+    asked_has_inputs l.declarations l.networks c.in_ok-ladder.marks.items (question_of c.args.question.now) c.in_ok-asked.asked
     c.in_ok-ladder.ensures.marks asked
 
 pub returns-clause-ok : goal.returns-clause-ok
@@ -53,5 +53,5 @@ returns-clause-ok c =
     let timed = rw c.declarations-2.ensures.list at c.in_ok-check_time.ensures.ok in
     let found = rw c.declarations-3.ensures.list at (rw c.deref-2.ensures.value at c.in_ok-constants.ensures) in
     subst (λ (u : SetupValue). IsPrepared c.args.drawing.now q u claims constants) (sym c.new-setup.ensures)
-    (asked_prepared c.args.drawing.now q l c.in_ok-ladder.marks.items claims c.in_ok-asked.asked.free.items constants c.in_ok-asked.asked.held.items
+    (asked_prepared c.args.drawing.now q l c.in_ok-ladder.marks.items c.in_ok-asked.asked constants
     c.in_ok-ladder.ensures.ladder c.in_ok-ladder.ensures.marks asked timed found)

@@ -4,7 +4,7 @@ use Rattle.std.proofs.lemmas.List.{map-append}
 use Rattle.task_codes.specs.CodeValue.{lists_of}
 use Rattle.text_commands.specs.Rows.{texts}
 use Rattle.verifying_plants.specs.Names.{IsClaimWord}
-use Rattle.verifying_plants.proofs.Reading.{word_more}
+use Rattle.verifying.proofs.Reading.{word_more}
 use Rattle.verifying_plants.proofs.claim_words.read_claims.Goals as goal
 
 pub loop-number-preserved : goal.loop-number-preserved

@@ -2,13 +2,13 @@ use Rattle.std.proofs.Common.{◌+◌, refl, sym, subst, take}
 use Rattle.std.specs.List.{AllZip}
 use Rattle.text_commands.specs.Rows.{texts}
 use Rattle.verifying_plants.specs.Names.{IsNamed}
-use Rattle.verifying_plants.proofs.Reading.{text_at, word_more}
+use Rattle.verifying.proofs.Reading.{text_there, word_more}
 use Rattle.verifying_plants.proofs.claim_words.read_given.Goals as goal
 
 pub returns-in-None-clause-err : goal.returns-in-None-clause-err
 returns-in-None-clause-err c = record {
   name = c.as_bytes.result.now;
-  at = rw c.as_bytes.ensures.value (text_at c.args.words.now c.loop-number.number _ c.loop-number-test.true);
+  at = rw c.as_bytes.ensures.value (text_there c.args.words.now c.loop-number.number _ c.loop-number-test.true);
   part_is = refl;
   before = c.loop-number.given.items;
   named = c.loop-number.invariant;

@@ -1,13 +1,13 @@
 use Rattle.std.proofs.Common.{◌+◌, map, sym, subst, take}
 use Rattle.std.specs.List.{AllZip}
 use Rattle.verifying_plants.specs.Names.{IsNamed}
-use Rattle.verifying_plants.proofs.Reading.{text_at, word_more}
+use Rattle.verifying.proofs.Reading.{text_there, word_more}
 use Rattle.verifying_plants.proofs.claim_words.read_names.Goals as goal
 
 pub returns-in-None-clause-err : goal.returns-in-None-clause-err
 returns-in-None-clause-err c = record {
   name = _;
-  at = text_at c.args.names.now c.loop-place.place _ c.loop-place-test.true;
+  at = text_there c.args.names.now c.loop-place.place _ c.loop-place-test.true;
   outputs = c.loop-place.outputs.items;
   before = c.loop-place.invariant;
   unnamed = rw c.in-None.is at c.in_ok-output.ensures;

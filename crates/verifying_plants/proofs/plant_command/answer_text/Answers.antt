@@ -1,7 +1,7 @@
 use Rattle.std.proofs.Common.{◌∙◌, string_bytes, sym, subst}
 use Rattle.task_codes.specs.CodeValue.{lists_of}
 use Rattle.verifying_plants.specs.Questions.{question_of}
-use Rattle.verifying_plants.specs.Steps.Answering.{AreVerdicts, IsPrepared, IsTold}
+use Rattle.verifying_plants.specs.Steps.Answering.{AreVerdicts, IsTold}
 use Rattle.verifying_plants.proofs.Answering.{told_answer}
 use Rattle.verifying_plants.proofs.plant_command.answer_text.Goals as goal
 

@@ -4,13 +4,14 @@ use Rattle.text_commands.specs.Rows.{texts}
 use Rattle.plant_claims.specs.Claims.{range_address}
 use Rattle.verifying_plants.specs.Ranges.{AreRanges, range_of}
 use Rattle.verifying_plants.specs.Steps.Reading.{RefusesRanges}
-use Rattle.verifying_plants.proofs.Reading.{text_at, ranges_more, told_before}
+use Rattle.verifying.proofs.Reading.{text_there}
+use Rattle.verifying_plants.proofs.Reading.{ranges_more, told_before}
 use Rattle.verifying_plants.proofs.range_words.read_ranges.Goals as goal
 
 pub returns-in_default-clause-err : goal.returns-in_default-clause-err
 returns-in_default-clause-err c = subst (RefusesRanges (texts c.args.words.now)) (sym c.refused.ensures) (record {
   word = c.as_bytes.result.now;
-  at = rw c.as_bytes.ensures.value (text_at c.args.words.now c.loop-number.number _ c.loop-number-test.true);
+  at = rw c.as_bytes.ensures.value (text_there c.args.words.now c.loop-number.number _ c.loop-number-test.true);
   before = c.loop-number.ranges.items;
   ranges = c.loop-number.invariant;
   refused = sym c.in_ok-range.ensures ∙ c.in_default.is;
@@ -21,7 +22,7 @@ returns-then-is_told-clause-err c =
     let range : range_of c.as_bytes.result.now ≡ Some c.in-Some.range = sym c.in_ok-range.ensures ∙ c.in-Some.is in
     subst (RefusesRanges (texts c.args.words.now)) (sym c.refused-then-is_told.ensures) (record {
       word = c.as_bytes.result.now;
-      at = rw c.as_bytes.ensures.value (text_at c.args.words.now c.loop-number.number _ c.loop-number-test.true);
+      at = rw c.as_bytes.ensures.value (text_there c.args.words.now c.loop-number.number _ c.loop-number-test.true);
       before = c.loop-number.ranges.items;
       ranges = c.loop-number.invariant;
       refused = told_before c.as_bytes.result.now c.loop-number.ranges.items c.in-Some.range range (rw c.deref.ensures.value at (c.is_told.ensures.0 c.if-is_told.true));
