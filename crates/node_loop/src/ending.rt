@@ -1,0 +1,23 @@
+use cycle::Origin;
+
+/// When a loop ends: once its clock reads `until`, in ms since the start; or where the input `closing` is at its end.
+#[derive(Clone, Copy, Debug, PartialEq, Eq)]
+pub struct Ending {
+    pub until: Option<u32>,
+    pub closing: Option<Origin>,
+}
+
+impl Ending {
+    /// The moment at which it ends; 18,446,744,073,709,551,615 where none is given.
+    pub fn moment(self) -> u64 {
+        match self.until {
+            Some(until) => u64::from(until),
+            None => u64::MAX,
+        }
+    }
+
+    /// Whether it ends where an input is at its end.
+    pub fn is_closing(self, origin: Origin) -> bool {
+        self.closing == Some(origin)
+    }
+}
