@@ -14,6 +14,8 @@ use Rattle.console.specs.declared.request.View.{View}
 use Rattle.console.specs.declared.request.View.TheVariants.{Rows, Drawings, Chart}
 use Rattle.console.specs.declared.request.Color.{Color}
 use Rattle.console.specs.declared.request.Color.TheVariants.{Always, Auto, Never}
+use Rattle.console.specs.declared.request.Pace.{Pace}
+use Rattle.console.specs.declared.request.Pace.TheVariants.{Free, Paced, Clock}
 use Rattle.console.specs.declared.request.TraceFiles.{TraceFiles}
 use Rattle.console.specs.declared.request.Request.{Request}
 use Rattle.console.specs.declared.request.Request.TheVariants.{Text as OfText, Verify, Sim, Run, Node, Explain, Audit, Page}
@@ -68,6 +70,20 @@ flag_of id = record (new_rule id) { action = Some SetTrue; long = Some id }
 
 abbrev pub paced_rule : Rule
 paced_rule = flag_of (codes "paced")
+
+abbrev pub clock_rule : Rule
+clock_rule = flag_of (codes "clock")
+
+abbrev pub cycle_rule : Rule
+cycle_rule = flag_of (codes "cycle")
+
+-- an option `--field FILE`
+abbrev pub node_field_rule : Rule
+node_field_rule = option_of (codes "field")
+
+-- an option `--until MS` that may be left out
+abbrev pub end_rule : Rule
+end_rule = option_of (codes "until")
 
 abbrev pub chart_rule : Rule
 chart_rule = flag_of (codes "chart")
@@ -153,21 +169,22 @@ limited_app = with_rule (with_rule (with_rule (new_app (codes "sim")) plant_rule
 abbrev pub sim_app : App
 sim_app = traced limited_app
 
--- `run PLANT --until MS [--state DIR] [--paced]`
+-- `run PLANT --until MS [--state DIR] [--paced] [--clock]`
 abbrev pub paced_app : App
 paced_app =
     let until = with_rule (with_rule (new_app (codes "run")) plant_rule) until_rule in
-    with_rule (with_rule until state_rule) paced_rule
+    with_rule (with_rule (with_rule until state_rule) paced_rule) clock_rule
 
 -- .. `[--vcd FILE] [--svg FILE] [ADDRESS=VALUE]..`
 abbrev pub run_app : App
 run_app = with_rule (traced paced_app) words_rule
 
--- `node PLANT RESOURCE [--state DIR] [--journal FILE]`
+-- `node PLANT RESOURCE [--cycle] [--field FILE] [--until MS] [--state DIR] [--journal FILE]`
 abbrev pub node_app : App
 node_app =
     let resource = with_rule (with_rule (new_app (codes "node")) plant_rule) resource_rule in
-    with_rule (with_rule resource state_rule) journal_rule
+    let until = with_rule (with_rule (with_rule resource cycle_rule) node_field_rule) end_rule in
+    with_rule (with_rule until state_rule) journal_rule
 
 -- the names of journals, one or more
 abbrev pub journals_rule : Rule
@@ -257,6 +274,23 @@ GivesView show chart Rows = (show ≡ false) × (chart ≡ false)
 GivesView show chart Drawings = (show ≡ true) × (chart ≡ false)
 GivesView show chart Chart = (show ≡ false) × (chart ≡ true)
 
+-- `--paced` asks for one command after the other, and `--clock` for the clock; nothing asks for both
+abbrev pub GivesPace : Bool → Bool → Pace → Type 0
+GivesPace paced clock Free = (paced ≡ false) × (clock ≡ false)
+GivesPace paced clock Paced = (paced ≡ true) × (clock ≡ false)
+GivesPace paced clock Clock = (paced ≡ false) × (clock ≡ true)
+
+-- a node ends by the clock only where it cycles or the field has its own lines
+abbrev pub MayEnd : Bool → Option Text → Option ℕ → Type 0
+MayEnd cycles field None = Unit {0}
+MayEnd cycles field (Some end) = (cycles ≡ true) ⊎ (field ≡ None → ⊥)
+
+-- the number behind a node's `--until`, where it may be given
+abbrev pub GivesEnd : List Row → Option ℕ → Type 0
+GivesEnd found end =
+    GivesOption (first_of (codes "until") found) end
+    × MayEnd (is_given (codes "cycle") found) (first_of (codes "field") found) end
+
 -- the word behind `--color`; where there is none it is `auto`
 abbrev pub GivesColor : Option (List ℕ) → Color → Type 0
 GivesColor word Always = word ≡ Some (codes "always")
@@ -307,9 +341,12 @@ Asks found (Sim sim) =
 Asks found (Run run) =
     (run.plant.now ≡ given_word (codes "PLANT") found) × GivesNumber 0 (first_of (codes "until") found) run.until
     × (option_map (λ d. d.now) run.state ≡ first_of (codes "state") found)
-    × (run.paced ≡ is_given (codes "paced") found) × AsksFiles found run.files × (map (λ w. w.now) run.words.items ≡ words_given found)
+    × GivesPace (is_given (codes "paced") found) (is_given (codes "clock") found) run.pace
+    × AsksFiles found run.files × (map (λ w. w.now) run.words.items ≡ words_given found)
 Asks found (Node node) =
     (node.plant.now ≡ given_word (codes "PLANT") found) × (node.resource.now ≡ given_word (codes "RESOURCE") found)
+    × (node.cycles ≡ is_given (codes "cycle") found)
+    × (option_map (λ f. f.now) node.field ≡ first_of (codes "field") found) × GivesEnd found node.until
     × (option_map (λ d. d.now) node.state ≡ first_of (codes "state") found)
     × (option_map (λ f. f.now) node.journal ≡ first_of (codes "journal") found)
 Asks found (Page file) = file.now ≡ given_word (codes "FILE") found

@@ -3,12 +3,12 @@ ghost use Rattle.std.specs.Option.{option_map};
 ghost use Rattle.std.specs.Str.Parse.{digits_value};
 ghost use Rattle.clap.specs.Words.{rows_of, found_of, first_of, subcommand_of};
 ghost use Rattle.clap.specs.Takes.{takes};
-ghost use Rattle.console.specs.CommandLine.{plc_app, IsNumber, GivesNumber, GivesOption, AsksFiles, AsksFor, OnlyMemoryRefuses, given_word, words_given, claims_given, premises_given, journals_given, is_given, GivesView, GivesColor};
+ghost use Rattle.console.specs.CommandLine.{plc_app, IsNumber, GivesNumber, GivesOption, AsksFiles, AsksFor, OnlyMemoryRefuses, given_word, words_given, claims_given, premises_given, journals_given, is_given, GivesView, GivesColor, GivesPace, GivesEnd};
 
 use crate::commands::commands;
 use crate::request::{
-    AuditRequest, Color, NodeRequest, Request, RunRequest, SimRequest, TextRequest, TraceFiles,
-    VerifyRequest, View,
+    AuditRequest, Color, NodeRequest, Pace, Request, RunRequest, SimRequest, TextRequest,
+    TraceFiles, VerifyRequest, View,
 };
 use clap::error::ErrorKind;
 use clap::{ArgMatches, Command, Error};
@@ -162,6 +162,24 @@ fn view_of<'a>(command: &mut Command<'a>, show: bool, chart: bool) -> Result<Vie
     }
 }
 
+/// When a command goes, by the flags that were given.
+fn pace_of<'a>(command: &mut Command<'a>, paced: bool, clock: bool) -> Result<Pace, Error>
+    ensures ok { IfOk result (GivesPace paced clock) }
+    ensures refused { IfErr result (OnlyMemoryRefuses (GivesPace paced clock)) }
+{
+    match (paced, clock) {
+        (false, false) => Ok(Pace::Free),
+        (true, false) => Ok(Pace::Paced),
+        (false, true) => Ok(Pace::Clock),
+        (true, true) => {
+            Err(command.error(
+                ErrorKind::ArgumentConflict,
+                "--paced and --clock can't be given both",
+            )?)
+        }
+    }
+}
+
 /// When there is color, by the word behind `--color`.
 fn color_of<'a>(command: &mut Command<'a>, word: Option<&'a str>) -> Result<Color, Error>
     ensures ok { IfOk result (GivesColor (option_map (λ w. w.now) word.entry)) }
@@ -269,21 +287,40 @@ fn run_request<'a>(
         plant: given_word(inner, "PLANT"),
         until: number_of(command, inner, "until", 0, UNTIL_REFUSED)?,
         state: word_of(inner, "state"),
-        paced: is_given(inner, "paced"),
+        pace: pace_of(command, is_given(inner, "paced"), is_given(inner, "clock"))?,
         files: files_of(inner),
         words: words_given(alloc, inner)?,
     }))
 }
 
-fn node_request<'a>(inner: &ArgMatches<'a>) -> Request<'a>
-    ensures { AsksFor (Some (codes "node", rows_of (found_of inner.now))) result }
+/// How long a node runs, where that is given: it needs `--cycle` or `--field`.
+fn end_of<'a>(command: &mut Command<'a>, matches: &ArgMatches<'a>) -> Result<Option<u32>, Error>
+    ensures ok { IfOk result (GivesEnd (rows_of (found_of matches.now))) }
+    ensures refused { IfErr result (OnlyMemoryRefuses (GivesEnd (rows_of (found_of matches.now)))) }
 {
-    Request::Node(NodeRequest {
+    let end = number_if_given(command, matches, "until", UNTIL_REFUSED)?;
+    if end.is_none() || is_given(matches, "cycle") || word_of(matches, "field").is_some() {
+        return Ok(end);
+    }
+    Err(command.error(
+        ErrorKind::MissingRequiredArgument,
+        "--until needs --cycle or --field",
+    )?)
+}
+
+fn node_request<'a>(command: &mut Command<'a>, inner: &ArgMatches<'a>) -> Result<Request<'a>, Error>
+    ensures ok { IfOk result (AsksFor (Some (codes "node", rows_of (found_of inner.now)))) }
+    ensures refused { IfErr result (OnlyMemoryRefuses (AsksFor (Some (codes "node", rows_of (found_of inner.now))))) }
+{
+    Ok(Request::Node(NodeRequest {
         plant: given_word(inner, "PLANT"),
         resource: given_word(inner, "RESOURCE"),
+        cycles: is_given(inner, "cycle"),
+        field: word_of(inner, "field"),
+        until: end_of(command, inner)?,
         state: word_of(inner, "state"),
         journal: word_of(inner, "journal"),
-    })
+    }))
 }
 
 fn audit_request<'a>(alloc: Global, inner: &ArgMatches<'a>) -> Result<Request<'a>, Error>
@@ -315,7 +352,7 @@ fn request_of<'a>(
         "plan" => plan_request(command, inner),
         "sim" => sim_request(command, inner),
         "run" => run_request(alloc, command, inner),
-        "node" => Ok(node_request(inner)),
+        "node" => node_request(command, inner),
         "audit" => audit_request(alloc, inner),
         "page" => Ok(Request::Page(given_word(inner, "FILE"))),
         "explain" => Ok(Request::Explain(word_of(inner, "KIND"))),

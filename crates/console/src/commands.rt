@@ -1,6 +1,6 @@
 ghost use Rattle.std.specs.Prelude.{◌≡◌, false, IfOk, codes};
 ghost use Rattle.clap.specs.Words.{app_of, new_app, rule_of};
-ghost use Rattle.console.specs.CommandLine.{needed_word, option_of, flag_of, words_rule, plant_rule, file_rule, until_rule, state_rule, journal_rule, paced_rule, show_rule, chart_rule, color_rule, vcd_rule, svg_rule, traced, kind_rule, never_rule, given_rule, journals_rule, shown_app, eval_app, verify_app, check_app, plan_app, limited_app, sim_app, paced_app, run_app, node_app, explain_app, audit_app, page_app, versioned, commanded, plc_app, text_app};
+ghost use Rattle.console.specs.CommandLine.{needed_word, option_of, flag_of, words_rule, plant_rule, file_rule, until_rule, state_rule, journal_rule, paced_rule, clock_rule, cycle_rule, node_field_rule, end_rule, show_rule, chart_rule, color_rule, vcd_rule, svg_rule, traced, kind_rule, never_rule, given_rule, journals_rule, shown_app, eval_app, verify_app, check_app, plan_app, limited_app, sim_app, paced_app, run_app, node_app, explain_app, audit_app, page_app, versioned, commanded, plc_app, text_app};
 
 use crate::help::{
     AUDIT_HELP, CHECK_HELP, EVAL_HELP, EXPLAIN_HELP, FIRST_STEPS, NODE_HELP, PAGE_HELP, PLAN_HELP,
@@ -119,6 +119,53 @@ fn paced_arg<'a>(alloc: Global) -> Arg<'a>
         alloc,
         "paced",
         "Each command waits until the one before it is done",
+    )
+}
+
+fn clock_arg<'a>(alloc: Global) -> Arg<'a>
+    ensures rule { rule_of result ≡ clock_rule }
+    ensures local { result.global ≡ false }
+{
+    flag_arg(
+        alloc,
+        "clock",
+        "Each command waits until its moment in the plan has come, by the clock",
+    )
+}
+
+fn cycle_arg<'a>(alloc: Global) -> Arg<'a>
+    ensures rule { rule_of result ≡ cycle_rule }
+    ensures local { result.global ≡ false }
+{
+    flag_arg(
+        alloc,
+        "cycle",
+        "The node evaluates its tasks by itself, when the clock has them due",
+    )
+}
+
+fn node_field_arg<'a>(alloc: Global) -> Arg<'a>
+    ensures rule { rule_of result ≡ node_field_rule }
+    ensures local { result.global ≡ false }
+{
+    number_arg(
+        alloc,
+        "field",
+        "FILE",
+        "The file of the field's lines, as a FIFO, or - for standard input",
+    )
+}
+
+/// The moment at which a node ends.
+fn end_arg<'a>(alloc: Global) -> Arg<'a>
+    ensures rule { rule_of result ≡ end_rule }
+    ensures local { result.global ≡ false }
+{
+    number_arg(
+        alloc,
+        "until",
+        "MS",
+        "How long the node runs, in milliseconds, 0 to 4294967295; with --cycle or --field [default: it runs on]",
     )
 }
 
@@ -348,7 +395,8 @@ fn paced_command<'a>(alloc: Global) -> Result<Command<'a>, AllocError>
         .arg(plant_arg(alloc))?
         .arg(until_arg(alloc))?
         .arg(state_arg(alloc))?
-        .arg(paced_arg(alloc))
+        .arg(paced_arg(alloc))?
+        .arg(clock_arg(alloc))
 }
 
 fn run_command<'a>(alloc: Global) -> Result<Command<'a>, AllocError>
@@ -371,6 +419,9 @@ fn node_command<'a>(alloc: Global) -> Result<Command<'a>, AllocError>
         .after_help(NODE_HELP)
         .arg(plant_arg(alloc))?
         .arg(needed_arg(alloc, "RESOURCE", "The name of the resource"))?
+        .arg(cycle_arg(alloc))?
+        .arg(node_field_arg(alloc))?
+        .arg(end_arg(alloc))?
         .arg(state_arg(alloc))?
         .arg(journal_arg(alloc))
 }

@@ -35,8 +35,8 @@ pub use node_prepared::{PreparedNode, prepare_node};
 pub use page_answer::answer_page;
 pub use prepared::{Prepared, prepare};
 pub use request::{
-    AuditRequest, Color, NodeRequest, Request, RunRequest, SimRequest, TextRequest, TraceFiles,
-    VerifyRequest, View,
+    AuditRequest, Color, NodeRequest, Pace, Request, RunRequest, SimRequest, TextRequest,
+    TraceFiles, VerifyRequest, View,
 };
 pub use schedules::{answer_schedule, obey_lines, obey_schedule};
 pub use status::FAILED;

@@ -117,15 +117,26 @@ pub struct SimRequest<'a> {
     pub files: TraceFiles<'a>,
 }
 
-/// One thread for each resource of a plant, and a command for each entry of the plan, up to and with `until` (in ms).
-/// If they are paced, each command waits until the one before it is done. The words give the field inputs. The folder
-/// `state` keeps the incarnation of each resource; without it each is 1.
+/// When a command of a run goes to its resource.
+#[derive(Clone, Copy, Debug, PartialEq, Eq)]
+pub enum Pace {
+    /// At once.
+    Free,
+    /// Once the command before it is done.
+    Paced,
+    /// Once its moment in the plan has come, by the clock.
+    Clock,
+}
+
+/// One thread for each resource of a plant, and a command for each entry of the plan, up to and with `until` (in ms); when
+/// each goes is `pace`. The words give the field inputs. The folder `state` keeps the incarnation of each resource; without
+/// it each is 1.
 #[derive(Drop)]
 pub struct RunRequest<'a> {
     pub plant: &'a str,
     pub until: u32,
     pub state: Option<&'a str>,
-    pub paced: bool,
+    pub pace: Pace,
     pub files: TraceFiles<'a>,
     pub words: Vec<&'a str>,
 }
@@ -136,6 +147,12 @@ pub struct RunRequest<'a> {
 pub struct NodeRequest<'a> {
     pub plant: &'a str,
     pub resource: &'a str,
+    /// Whether it evaluates its tasks by itself, when the clock has them due.
+    pub cycles: bool,
+    /// The file of the field's lines, or `-` for standard input. None: they come by standard input, with all others.
+    pub field: Option<&'a str>,
+    /// How long it runs, in ms of the clock from its start on; with `cycles` or a `field` alone. None: it runs on.
+    pub until: Option<u32>,
     pub state: Option<&'a str>,
     pub journal: Option<&'a str>,
 }

@@ -2,6 +2,7 @@
 //! caller of it needs.
 #![tactic(auto)]
 
+mod clock_gate;
 mod free_gate;
 mod gate;
 mod out_of_turns;
@@ -9,6 +10,7 @@ mod paced_gate;
 mod running;
 mod threads;
 
+pub use clock_gate::ClockGate;
 pub use free_gate::FreeGate;
 pub use gate::Gate;
 pub use keepers::{Keeper, KeeperFault, MemoryKeeper};

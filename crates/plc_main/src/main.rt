@@ -20,7 +20,7 @@ ghost use Rattle.console.specs.declared.request.Request.TheVariants as asked;
 use audit::JournalFile;
 use audit_command::audit_text;
 use console::{
-    Answered, AuditRequest, CommandFault, FAILED, Prepared, Request, RunRequest, SimRequest,
+    Answered, AuditRequest, CommandFault, FAILED, Pace, Prepared, Request, RunRequest, SimRequest,
     TextRequest, answer_kind, answer_kinds, answer_page, answer_schedule, answer_text,
     answer_verify, file_bytes, file_plant, given_words, prepare, print_failure, print_fault,
     print_given_fault, print_usage, read_words, wanted_for,
@@ -28,7 +28,7 @@ use console::{
 use keepers::{
     BadLine, FileKeeper, FolderLock, Keeper, KeeperFault, LockFault, MemoryKeeper, SystemFolder,
 };
-use node::{FreeGate, Gate, PacedGate};
+use node::{ClockGate, FreeGate, Gate, PacedGate};
 use node_command::answer_node;
 use node_reports::RunFault;
 use plant::{Plant, TaskRef};
@@ -40,11 +40,12 @@ use std::process::ExitCode;
 use std::rt::{Clock, Env, Files};
 use std::sync::{Arc, Mutex, Wait};
 use std::thread::Threads;
+use text_commands::plan_of;
 use text_lines::{OnTerminal, resource_name};
 use told_run::{ToldGate, UntoldWriter};
 use trace_files::{SystemFiles, TextFiles, write_files};
 
-/// How often a paced command looks, at most, whether the one before it is done.
+/// How often a command looks, at most, whether it may go: with `--paced` or `--clock`.
 const TURNS: u64 = 10_000_000;
 
 /// A keeper for each resource, in memory. The first incarnations are 1, and no retained variables are kept yet.
@@ -148,8 +149,8 @@ fn run_through<R: Clock + Print + Eprint + AllocGlobal + Threads + Wait + Sync, 
     ran
 }
 
-/// Runs a plant with these keepers, paced or free, and writes what its threads did; whether there was a fault in them.
-/// `told` is whether it is told on standard error how far they are.
+/// Runs a plant with these keepers, at the pace that is asked for, and writes what its threads did; whether there was a
+/// fault in them. `told` is whether it is told on standard error how far they are.
 fn run_plant<R: Clock + Print + Eprint + AllocGlobal + Threads + Wait + Sync, K: Keeper>(
     rt: &R,
     told: bool,
@@ -160,11 +161,17 @@ fn run_plant<R: Clock + Print + Eprint + AllocGlobal + Threads + Wait + Sync, K:
     requires keepers { vec_len keepers ≡ length prepared.plant.value.resources }
     requires words { IsRead (one_text_of request.now.words.items) prepared.inputs }
 {
-    if request.paced {
-        let gate = PacedGate::new(TURNS);
-        run_through(rt, told, request, prepared, keepers, &gate)
-    } else {
-        run_through(rt, told, request, prepared, keepers, &FreeGate)
+    match request.pace {
+        Pace::Free => run_through(rt, told, request, prepared, keepers, &FreeGate),
+        Pace::Paced => {
+            let gate = PacedGate::new(TURNS);
+            run_through(rt, told, request, prepared, keepers, &gate)
+        }
+        Pace::Clock => {
+            let dues = plan_of(rt.alloc(), &prepared.plant, request.until)?;
+            let gate = ClockGate::new(rt, &dues, TURNS);
+            run_through(rt, told, request, prepared, keepers, &gate)
+        }
     }
 }
 
