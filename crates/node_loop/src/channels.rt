@@ -1,18 +1,16 @@
 //! What is between the readers and the loop.
 
-use crate::live_source::LiveSource;
 use crate::told::Told;
-use crate::turn_source::NoClock;
 use crossbeam_channel::{Receiver, Sender};
+use cycle::Origin;
 use std::alloc::{AllocError, Global};
-use std::rt::Clock;
 use std::sync::Wait;
-use std::time::Instant;
 
 /// How many lines of an input wait at most.
 const WAITING: usize = 512;
 
-/// A reader's end: what it hands on, the bell that wakes the loop, and whether a line that waits alone was taken.
+/// A reader's end: what it hands on; the bell that wakes the loop; and what tells that the loop started, and then each time
+/// that it took a line that waited alone.
 #[derive(Drop)]
 pub struct ReaderEnd {
     told: Sender<Told>,
@@ -21,6 +19,11 @@ pub struct ReaderEnd {
 }
 
 impl ReaderEnd {
+    /// Waits until the loop starts; whether it does.
+    pub(crate) fn is_started<R: Wait>(&self, rt: &R) -> bool {
+        self.taken.recv(rt).is_ok()
+    }
+
     /// Hands on what was read, and rings; whether somebody takes it. Where it is long it returns once it was taken.
     pub(crate) fn hand_on<R: Wait>(&self, rt: &R, told: Told) -> bool {
         let is_long = told.is_long();
@@ -33,8 +36,19 @@ impl ReaderEnd {
 /// The ends of the readers of both inputs.
 #[derive(Drop)]
 pub struct ReaderEnds {
-    pub neighbours: ReaderEnd,
-    pub field: ReaderEnd,
+    neighbours: ReaderEnd,
+    field: ReaderEnd,
+}
+
+impl ReaderEnds {
+    /// The end of the reader of standard input, which is this input's, and the one of the other input.
+    pub fn with_standard(self, standard: Origin) -> (ReaderEnd, ReaderEnd) {
+        let ReaderEnds { neighbours, field } = self;
+        match standard {
+            Origin::Neighbours => (neighbours, field),
+            Origin::Field => (field, neighbours),
+        }
+    }
 }
 
 /// The loop's end of an input.
@@ -45,6 +59,11 @@ pub(crate) struct LoopEnd {
 }
 
 impl LoopEnd {
+    /// Lets the reader begin, if there is one.
+    pub(crate) fn start<R: Wait>(&self, rt: &R) {
+        let _ = self.taken.send(rt, ());
+    }
+
     /// Takes what waits first, if something does.
     pub(crate) fn take<R: Wait>(&self, rt: &R) -> Option<Told> {
         let Ok(told) = self.told.try_recv(rt) else {
@@ -65,16 +84,6 @@ pub struct LoopEnds {
     pub(crate) field: LoopEnd,
     pub(crate) bell: Receiver<()>,
     pub(crate) kept: Sender<()>,
-}
-
-impl LoopEnds {
-    /// The source of a loop that starts now.
-    pub fn start<R: Clock>(self, rt: &R) -> Result<LiveSource<'_, R>, NoClock> {
-        match Instant::now(rt) {
-            Ok(start) => Ok(LiveSource::new(rt, start, self)),
-            Err(_) => Err(NoClock),
-        }
-    }
 }
 
 /// The ends of an input whose reader rings this bell.

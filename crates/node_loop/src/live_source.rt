@@ -6,7 +6,7 @@ use std::rt::Clock;
 use std::sync::Wait;
 use std::time::{Duration, Instant};
 
-/// The clock from a start on, and what the readers of both inputs hand on.
+/// A clock, and what the readers of both inputs hand on once it was started.
 #[derive(Drop)]
 pub struct LiveSource<'a, R> {
     rt: &'a R,
@@ -14,10 +14,19 @@ pub struct LiveSource<'a, R> {
     ends: LoopEnds,
 }
 
-impl<'a, R> LiveSource<'a, R> {
-    /// What goes by this clock from this start on.
-    pub(crate) fn new(rt: &'a R, start: Instant, ends: LoopEnds) -> Self {
-        LiveSource { rt, start, ends }
+/// What the clock reads.
+fn now<R: Clock>(rt: &R) -> Result<Instant, NoClock> {
+    match Instant::now(rt) {
+        Ok(now) => Ok(now),
+        Err(_) => Err(NoClock),
+    }
+}
+
+impl<'a, R: Clock> LiveSource<'a, R> {
+    /// What goes by this clock.
+    pub fn new(rt: &'a R, ends: LoopEnds) -> Result<Self, NoClock> {
+        let start = now(rt)?;
+        Ok(LiveSource { rt, start, ends })
     }
 
     /// The instant of a moment, in ms since the start; None where it is never.
@@ -30,11 +39,15 @@ impl<'a, R> LiveSource<'a, R> {
 }
 
 impl<R: Clock + Wait> TurnSource for LiveSource<'_, R> {
+    fn start(&mut self) -> Result<(), NoClock> {
+        self.start = now(self.rt)?;
+        self.ends.neighbours.start(self.rt);
+        self.ends.field.start(self.rt);
+        Ok(())
+    }
+
     fn reading(&mut self) -> Result<u64, NoClock> {
-        let Ok(now) = Instant::now(self.rt) else {
-            return Err(NoClock);
-        };
-        let since = now.saturating_duration_since(self.start);
+        let since = now(self.rt)?.saturating_duration_since(self.start);
         Ok(u64::try_from(since.as_millis()).unwrap_or(u64::MAX))
     }
 

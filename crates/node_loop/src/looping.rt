@@ -69,7 +69,7 @@ fn push_answer<K: Keeper, N: Notes>(
 }
 
 /// What was taken, where an input told this.
-fn took(ending: Ending, origin: Origin, told: &Told) -> Took {
+fn taken_of(ending: Ending, origin: Origin, told: &Told) -> Took {
     if told.is_end() && ending.is_closing(origin) {
         Took::Last
     } else {
@@ -92,7 +92,7 @@ fn take_one<K: Keeper, N: Notes, S: TurnSource, W: Write>(
     answer.clear();
     push_answer(node, origin, &told, answer)?;
     hand_on(answer.as_str(), out)?;
-    Ok(took(ending, origin, &told))
+    Ok(taken_of(ending, origin, &told))
 }
 
 /// A turn: it looks at the clock, makes an evaluation that is due, and answers a line of each input that has one; else it
@@ -133,6 +133,7 @@ pub fn run_loop<K: Keeper, N: Notes, S: TurnSource, W: Write>(
     out: &mut W,
 ) -> Result<(), LoopStop> {
     let mut answer = String::new(alloc);
+    source.start()?;
     hand_on(begun, out)?;
     for _ in 0..TURNS {
         if !turn(node, ending, &mut answer, source, out)? {

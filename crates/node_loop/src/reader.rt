@@ -58,10 +58,12 @@ fn hand_on_all<R: Wait, I: Read + Drop>(rt: &R, alloc: Global, input: I, to: &Re
     }
 }
 
-/// What the thread of standard input does: it hands on each line, and tells the end.
+/// What the thread of standard input does once the loop starts: it hands on each line, and tells the end.
 pub fn read_input<R: Input + Wait>(rt: &R, alloc: Global, to: ReaderEnd) {
-    let told = hand_on_all(rt, alloc, rt.reader(), &to);
-    to.hand_on(rt, told);
+    if to.is_started(rt) {
+        let told = hand_on_all(rt, alloc, rt.reader(), &to);
+        to.hand_on(rt, told);
+    }
 }
 
 /// Opens a file, and hands on its lines; what is told last, and whether it is a FIFO. A FIFO without a writer is waited for.
@@ -76,8 +78,12 @@ fn read_once<R: Files + Wait>(
     Ok((hand_on_all(rt, alloc, file, to), is_fifo))
 }
 
-/// What the thread of a field does: it hands on each line of a file, and tells its end. A FIFO is opened anew then.
+/// What the thread of a field does once the loop starts: it hands on each line of a file, and tells its end. A FIFO is opened
+/// anew then.
 pub fn read_field<R: Files + Wait>(rt: &R, alloc: Global, path: &str, to: ReaderEnd) {
+    if !to.is_started(rt) {
+        return;
+    }
     for _ in rt.forever() {
         let (told, is_fifo) = match read_once(rt, alloc, path, &to) {
             Ok(read) => read,

@@ -7,6 +7,9 @@ pub struct NoClock;
 
 /// What a loop goes by: its clock, and what waits of its inputs.
 pub trait TurnSource {
+    /// Starts: the clock counts from now on, and the inputs are read.
+    fn start(&mut self) -> Result<(), NoClock>;
+
     /// What the clock reads, in whole ms since the start.
     fn reading(&mut self) -> Result<u64, NoClock>;
 
