@@ -1,3 +1,5 @@
+ghost use Rattle.std.specs.Prelude.{None};
+
 use crate::channels::LoopEnds;
 use crate::told::Told;
 use crate::turn_source::{NoClock, TurnSource};
@@ -39,6 +41,8 @@ impl<'a, R: Clock> LiveSource<'a, R> {
 }
 
 impl<R: Clock + Wait> TurnSource for LiveSource<'_, R> {
+    ghost given = { λ _. None };
+
     fn start(&mut self) -> Result<(), NoClock> {
         self.start = now(self.rt)?;
         self.ends.neighbours.start(self.rt);

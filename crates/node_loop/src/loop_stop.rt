@@ -16,36 +16,70 @@ pub enum LoopStop {
 }
 
 impl From<LiveStop> for LoopStop {
+    ghost use Rattle.std.specs.Prelude.{◌≡◌};
+    ghost use Rattle.node_loop.specs.declared.loop_stop.LoopStop.TheVariants.{Live};
+
+    ghost from_gives = { λ found stop. stop ≡ Live found };
+
     fn from(stop: LiveStop) -> LoopStop {
         LoopStop::Live(stop)
     }
 }
 
 impl From<NodeStop> for LoopStop {
+    ghost use Rattle.std.specs.Prelude.{◌≡◌};
+    ghost use Rattle.live_node.specs.declared.live_stop.LiveStop.TheVariants.{Node};
+    ghost use Rattle.node_loop.specs.declared.loop_stop.LoopStop.TheVariants.{Live};
+
+    ghost from_gives = { λ found stop. stop ≡ Live (Node found) };
+
     fn from(stop: NodeStop) -> LoopStop {
         LoopStop::Live(LiveStop::Node(stop))
     }
 }
 
 impl From<WriteFault> for LoopStop {
+    ghost use Rattle.std.specs.Prelude.{◌≡◌};
+    ghost use Rattle.live_node.specs.declared.live_stop.LiveStop.TheVariants.{Write};
+    ghost use Rattle.node_loop.specs.declared.loop_stop.LoopStop.TheVariants.{Live};
+
+    ghost from_gives = { λ _ stop. stop ≡ Live Write };
+
     fn from(_fault: WriteFault) -> LoopStop {
         LoopStop::Live(LiveStop::Write)
     }
 }
 
 impl From<AllocError> for LoopStop {
+    ghost use Rattle.std.specs.Prelude.{◌≡◌};
+    ghost use Rattle.live_node.specs.declared.live_stop.LiveStop.TheVariants.{Node};
+    ghost use Rattle.live_node.specs.declared.node_stop.NodeStop.TheVariants.{Memory};
+    ghost use Rattle.node_loop.specs.declared.loop_stop.LoopStop.TheVariants.{Live};
+
+    ghost from_gives = { λ _ stop. stop ≡ Live (Node Memory) };
+
     fn from(_fault: AllocError) -> LoopStop {
         LoopStop::Live(LiveStop::Node(NodeStop::Memory))
     }
 }
 
 impl From<NoClock> for LoopStop {
+    ghost use Rattle.std.specs.Prelude.{◌≡◌};
+    ghost use Rattle.node_loop.specs.declared.loop_stop.LoopStop.TheVariants.{Clock};
+
+    ghost from_gives = { λ _ stop. stop ≡ Clock };
+
     fn from(_fault: NoClock) -> LoopStop {
         LoopStop::Clock
     }
 }
 
 impl From<ReadFault> for LoopStop {
+    ghost use Rattle.std.specs.Prelude.{◌≡◌};
+    ghost use Rattle.node_loop.specs.Stops.{stop_of};
+
+    ghost from_gives = { λ found stop. stop ≡ stop_of found };
+
     fn from(fault: ReadFault) -> LoopStop {
         match fault {
             ReadFault::Read => LoopStop::Live(LiveStop::Read),

@@ -1,5 +1,15 @@
 //! The loop.
 
+ghost use Rattle.std.specs.Prelude.{◌≡◌, ◌≢◌, ◌+◌, ◌<◌, ◌≤◌, ◌&&◌, true, IfOk, IfErr, OnOk, OnErr, string_bytes};
+ghost use Rattle.std.specs.Io.KnownBytes.{Appends};
+ghost use Rattle.live_node.specs.Keeping.{KeepsAllButOne, KeepsCore};
+ghost use Rattle.live_node.specs.NodeAnswers.{a_keeper_gives};
+ghost use Rattle.node_loop.specs.declared.looping.Took.TheVariants as took;
+ghost use Rattle.node_loop.specs.Given.{Reads, Takes, is_closing, is_end};
+ghost use Rattle.node_loop.specs.Turns.{is_open, moment_of};
+ghost use Rattle.node_loop.specs.Loops.{RunsLoop, StopsLoop};
+ghost use Rattle.node_loop.specs.Steps.Following.{goes_on, Follows, HasGone, HasLooked, IsUnwritten, MadeOf, NotMadeOf, Stops};
+
 use crate::ending::Ending;
 use crate::loop_stop::LoopStop;
 use crate::told::Told;
@@ -15,19 +25,47 @@ use text_lines::write_text;
 /// How many turns a loop makes at most.
 const TURNS: u64 = 4_611_686_018_427_387_904;
 
-/// What was taken of an input.
+/// What was looked for by the clock.
+#[derive(Clone, Copy, Debug, PartialEq, Eq)]
+enum Looked {
+    /// The loop is over.
+    Over,
+    /// No evaluation is asked for.
+    Idle,
+    /// One was made.
+    Evaluated,
+}
+
+/// What was taken of the inputs.
 #[derive(Clone, Copy, Debug, PartialEq, Eq)]
 enum Took {
     /// Nothing waited.
     Nothing,
     /// Something, and more may follow.
-    Some,
+    Something,
     /// The end that ends the loop.
     Last,
 }
 
+impl Took {
+    /// What was taken of two inputs.
+    fn and(self, other: Took) -> Took
+        requires { self ≢ took.Last }
+        ensures { goes_on result ≡ goes_on other }
+    {
+        match (self, other) {
+            (_, Took::Last) => Took::Last,
+            (Took::Nothing, Took::Nothing) => Took::Nothing,
+            _ => Took::Something,
+        }
+    }
+}
+
 /// Writes an answer, and hands it on.
-fn hand_on<W: Write>(answer: &str, out: &mut W) -> Result<(), LoopStop> {
+fn hand_on<W: Write>(answer: &str, out: &mut W) -> Result<(), LoopStop>
+    ensures whole { OnOk result (Appends (W.contents out.old) (W.contents out.new) answer.now) }
+    ensures part { IfErr result (IsUnwritten answer.now (W.contents out.old) (W.contents out.new)) }
+{
     write_text(out, answer)?;
     match out.flush() {
         Ok(()) => Ok(()),
@@ -35,30 +73,79 @@ fn hand_on<W: Write>(answer: &str, out: &mut W) -> Result<(), LoopStop> {
     }
 }
 
-/// Makes the evaluation that is asked for at a reading, and writes its answer; whether one is.
-fn evaluate<K: Keeper, N: Notes, W: Write>(
+/// Makes the evaluation that is asked for at a reading, if one is, and gives its answer in the place of what was in `answer`;
+/// whether one is.
+fn push_evaluation<K: Keeper, N: Notes>(
     node: &mut FieldNode<K, N>,
     reading: u64,
     answer: &mut String,
-    out: &mut W,
-) -> Result<bool, LoopStop> {
+) -> Result<bool, LoopStop>
+    requires few { node.old.node.state.lines < 18446744073709551615 }
+    requires kept { K.last node.old.node.keeper ≡ node.old.node.state.core.incarnation }
+    ensures made { OnOk result (MadeOf (a_keeper_gives K.last K.raise_gives) node.old node.new (Reads reading)
+        (N.noted node.old.node.notes) (N.noted node.new.node.notes) (string_bytes answer.new)) }
+    ensures stopped { IfErr result (NotMadeOf (a_keeper_gives K.last K.raise_gives) node.old (Reads reading) (N.noted node.old.node.notes) (N.noted node.new.node.notes)) }
+    ensures kept { OnOk result (K.last node.new.node.keeper ≡ node.new.node.state.core.incarnation) }
+    ensures keeps { OnOk result (KeepsCore (K.kept_gives node.old.node.keeper) node.old.node.state.core → KeepsCore (K.kept_gives node.new.node.keeper) node.new.node.state.core) }
+    ensures rest { OnErr result (KeepsCore (K.kept_gives node.old.node.keeper) node.old.node.state.core → KeepsAllButOne (K.kept_gives node.new.node.keeper) node.new.node.state.core) }
+    ensures few { OnOk result (node.new.node.state.lines ≤ node.old.node.state.lines + 1) }
+{
     answer.clear();
-    match node.evaluate(reading, answer)? {
-        Some(_asked) => {
-            hand_on(answer.as_str(), out)?;
-            Ok(true)
-        }
-        None => Ok(false),
-    }
+    Ok(node.evaluate(reading, answer)?.is_some())
 }
 
-/// Answers what an input told.
+/// Looks at the clock, and makes the evaluation that is asked for then, if one is, and the loop isn't over.
+fn look<K: Keeper, N: Notes, S: TurnSource, W: Write>(
+    node: &mut FieldNode<K, N>,
+    ending: Ending,
+    answer: &mut String,
+    source: &mut S,
+    out: &mut W,
+) -> Result<Looked, LoopStop>
+    requires few { node.old.node.state.lines < 18446744073709551615 }
+    requires kept { K.last node.old.node.keeper ≡ node.old.node.state.core.incarnation }
+    ensures looked { IfOk result (HasLooked (a_keeper_gives K.last K.raise_gives) ending node.old node.new
+        (S.given source.old) (S.given source.new) (N.noted node.old.node.notes) (N.noted node.new.node.notes)
+        (W.contents out.old) (W.contents out.new)) }
+    ensures stopped { IfErr result (Stops (a_keeper_gives K.last K.raise_gives) ending node.old
+        (S.given source.old) (S.given source.new) (N.noted node.old.node.notes) (N.noted node.new.node.notes)
+        (W.contents out.old) (W.contents out.new)) }
+    ensures kept { OnOk result (K.last node.new.node.keeper ≡ node.new.node.state.core.incarnation) }
+    ensures keeps { OnOk result (KeepsCore (K.kept_gives node.old.node.keeper) node.old.node.state.core → KeepsCore (K.kept_gives node.new.node.keeper) node.new.node.state.core) }
+    ensures rest { OnErr result (KeepsCore (K.kept_gives node.old.node.keeper) node.old.node.state.core → KeepsAllButOne (K.kept_gives node.new.node.keeper) node.new.node.state.core) }
+    ensures few { OnOk result (node.new.node.state.lines ≤ node.old.node.state.lines + 1) }
+{
+    let reading = source.reading()?;
+    if reading >= ending.moment() {
+        return Ok(Looked::Over);
+    }
+    let evaluated = push_evaluation(node, reading, answer)?;
+    hand_on(answer.as_str(), out)?;
+    Ok(if evaluated {
+        Looked::Evaluated
+    } else {
+        Looked::Idle
+    })
+}
+
+/// Gives the answer to what an input told in the place of what was in `answer`.
 fn push_answer<K: Keeper, N: Notes>(
     node: &mut FieldNode<K, N>,
     origin: Origin,
     told: &Told,
     answer: &mut String,
-) -> Result<(), LoopStop> {
+) -> Result<(), LoopStop>
+    requires few { node.old.node.state.lines < 18446744073709551615 }
+    requires kept { K.last node.old.node.keeper ≡ node.old.node.state.core.incarnation }
+    ensures made { OnOk result (MadeOf (a_keeper_gives K.last K.raise_gives) node.old node.new (Takes origin told.now)
+        (N.noted node.old.node.notes) (N.noted node.new.node.notes) (string_bytes answer.new)) }
+    ensures stopped { IfErr result (NotMadeOf (a_keeper_gives K.last K.raise_gives) node.old (Takes origin told.now) (N.noted node.old.node.notes) (N.noted node.new.node.notes)) }
+    ensures kept { OnOk result (K.last node.new.node.keeper ≡ node.new.node.state.core.incarnation) }
+    ensures keeps { OnOk result (KeepsCore (K.kept_gives node.old.node.keeper) node.old.node.state.core → KeepsCore (K.kept_gives node.new.node.keeper) node.new.node.state.core) }
+    ensures rest { OnErr result (KeepsCore (K.kept_gives node.old.node.keeper) node.old.node.state.core → KeepsAllButOne (K.kept_gives node.new.node.keeper) node.new.node.state.core) }
+    ensures few { OnOk result (node.new.node.state.lines ≤ node.old.node.state.lines + 1) }
+{
+    answer.clear();
     match (told, origin) {
         (Told::Line(line), _) => Ok(node.answer(origin, line.as_slice(), answer)?),
         (Told::TooLong, _) => Ok(push_field_refused(answer, FieldRefusal::TooLong)?),
@@ -69,11 +156,13 @@ fn push_answer<K: Keeper, N: Notes>(
 }
 
 /// What was taken, where an input told this.
-fn taken_of(ending: Ending, origin: Origin, told: &Told) -> Took {
+fn taken_of(ending: Ending, origin: Origin, told: &Told) -> Took
+    ensures { goes_on result ≡ is_open ending.closing (Takes origin told.now) }
+{
     if told.is_end() && ending.is_closing(origin) {
         Took::Last
     } else {
-        Took::Some
+        Took::Something
     }
 }
 
@@ -85,14 +174,55 @@ fn take_one<K: Keeper, N: Notes, S: TurnSource, W: Write>(
     answer: &mut String,
     source: &mut S,
     out: &mut W,
-) -> Result<Took, LoopStop> {
+) -> Result<Took, LoopStop>
+    requires few { node.old.node.state.lines < 18446744073709551615 }
+    requires kept { K.last node.old.node.keeper ≡ node.old.node.state.core.incarnation }
+    ensures taken { IfOk result (λ took. Follows (a_keeper_gives K.last K.raise_gives) ending node.old node.new (goes_on took)
+        (S.given source.old) (S.given source.new) (N.noted node.old.node.notes) (N.noted node.new.node.notes)
+        (W.contents out.old) (W.contents out.new)) }
+    ensures stopped { IfErr result (Stops (a_keeper_gives K.last K.raise_gives) ending node.old
+        (S.given source.old) (S.given source.new) (N.noted node.old.node.notes) (N.noted node.new.node.notes)
+        (W.contents out.old) (W.contents out.new)) }
+    ensures kept { OnOk result (K.last node.new.node.keeper ≡ node.new.node.state.core.incarnation) }
+    ensures keeps { OnOk result (KeepsCore (K.kept_gives node.old.node.keeper) node.old.node.state.core → KeepsCore (K.kept_gives node.new.node.keeper) node.new.node.state.core) }
+    ensures rest { OnErr result (KeepsCore (K.kept_gives node.old.node.keeper) node.old.node.state.core → KeepsAllButOne (K.kept_gives node.new.node.keeper) node.new.node.state.core) }
+    ensures few { OnOk result (node.new.node.state.lines ≤ node.old.node.state.lines + 1) }
+{
     let Some(told) = source.take(origin) else {
         return Ok(Took::Nothing);
     };
-    answer.clear();
     push_answer(node, origin, &told, answer)?;
     hand_on(answer.as_str(), out)?;
     Ok(taken_of(ending, origin, &told))
+}
+
+/// Takes what waits first of each input, if something does, and answers it.
+fn take_both<K: Keeper, N: Notes, S: TurnSource, W: Write>(
+    node: &mut FieldNode<K, N>,
+    ending: Ending,
+    answer: &mut String,
+    source: &mut S,
+    out: &mut W,
+) -> Result<Took, LoopStop>
+    requires few { node.old.node.state.lines < 18446744073709551614 }
+    requires kept { K.last node.old.node.keeper ≡ node.old.node.state.core.incarnation }
+    ensures taken { IfOk result (λ took. Follows (a_keeper_gives K.last K.raise_gives) ending node.old node.new (goes_on took)
+        (S.given source.old) (S.given source.new) (N.noted node.old.node.notes) (N.noted node.new.node.notes)
+        (W.contents out.old) (W.contents out.new)) }
+    ensures stopped { IfErr result (Stops (a_keeper_gives K.last K.raise_gives) ending node.old
+        (S.given source.old) (S.given source.new) (N.noted node.old.node.notes) (N.noted node.new.node.notes)
+        (W.contents out.old) (W.contents out.new)) }
+    ensures kept { OnOk result (K.last node.new.node.keeper ≡ node.new.node.state.core.incarnation) }
+    ensures keeps { OnOk result (KeepsCore (K.kept_gives node.old.node.keeper) node.old.node.state.core → KeepsCore (K.kept_gives node.new.node.keeper) node.new.node.state.core) }
+    ensures rest { OnErr result (KeepsCore (K.kept_gives node.old.node.keeper) node.old.node.state.core → KeepsAllButOne (K.kept_gives node.new.node.keeper) node.new.node.state.core) }
+    ensures few { OnOk result (node.new.node.state.lines ≤ node.old.node.state.lines + 2) }
+{
+    let first = take_one(node, ending, Origin::Neighbours, answer, source, out)?;
+    if first == Took::Last {
+        return Ok(Took::Last);
+    }
+    let second = take_one(node, ending, Origin::Field, answer, source, out)?;
+    Ok(first.and(second))
 }
 
 /// A turn: it looks at the clock, makes an evaluation that is due, and answers a line of each input that has one; else it
@@ -103,27 +233,37 @@ fn turn<K: Keeper, N: Notes, S: TurnSource, W: Write>(
     answer: &mut String,
     source: &mut S,
     out: &mut W,
-) -> Result<bool, LoopStop> {
-    let reading = source.reading()?;
-    if reading >= ending.moment() {
+) -> Result<bool, LoopStop>
+    requires few { node.old.node.state.lines < 18446744073709551613 }
+    requires kept { K.last node.old.node.keeper ≡ node.old.node.state.core.incarnation }
+    ensures gone { IfOk result (HasGone (a_keeper_gives K.last K.raise_gives) ending node.old node.new
+        (S.given source.old) (S.given source.new) (N.noted node.old.node.notes) (N.noted node.new.node.notes)
+        (W.contents out.old) (W.contents out.new)) }
+    ensures stopped { IfErr result (Stops (a_keeper_gives K.last K.raise_gives) ending node.old
+        (S.given source.old) (S.given source.new) (N.noted node.old.node.notes) (N.noted node.new.node.notes)
+        (W.contents out.old) (W.contents out.new)) }
+    ensures kept { OnOk result (K.last node.new.node.keeper ≡ node.new.node.state.core.incarnation) }
+    ensures keeps { OnOk result (KeepsCore (K.kept_gives node.old.node.keeper) node.old.node.state.core → KeepsCore (K.kept_gives node.new.node.keeper) node.new.node.state.core) }
+    ensures rest { OnErr result (KeepsCore (K.kept_gives node.old.node.keeper) node.old.node.state.core → KeepsAllButOne (K.kept_gives node.new.node.keeper) node.new.node.state.core) }
+    ensures few { OnOk result (node.new.node.state.lines ≤ node.old.node.state.lines + 3) }
+{
+    let looked = look(node, ending, answer, source, out)?;
+    if looked == Looked::Over {
         return Ok(false);
     }
-    let evaluated = evaluate(node, reading, answer, out)?;
-    let neighbours = take_one(node, ending, Origin::Neighbours, answer, source, out)?;
-    if neighbours == Took::Last {
-        return Ok(false);
-    }
-    let field = take_one(node, ending, Origin::Field, answer, source, out)?;
-    if field == Took::Last {
-        return Ok(false);
-    }
-    if !evaluated && neighbours == Took::Nothing && field == Took::Nothing {
+    let took = take_both(node, ending, answer, source, out)?;
+    if looked == Looked::Idle && took == Took::Nothing {
         source.wait(node.next_due().min(ending.moment()));
     }
-    Ok(true)
+    Ok(took != Took::Last)
 }
 
-/// Writes what a node that begun writes at its start, and makes turns to the end.
+/// Writes what a node that begun writes at its start, and then makes turns, to the end: at each it makes the evaluation that
+/// its cycle asks for at what the clock reads, and answers the first line that waits of each input, by that input.
+///
+/// After a stop all turns before the last one are made. Of that one nothing is written after `Node`, `Read`, `Memory` and
+/// `Clock`, and a beginning of its answer after `Write`, or of what is written at the start. A loop of
+/// 4,611,686,018,427,387,904 turns stops with `Clock`.
 pub fn run_loop<K: Keeper, N: Notes, S: TurnSource, W: Write>(
     alloc: Global,
     node: &mut FieldNode<K, N>,
@@ -131,10 +271,22 @@ pub fn run_loop<K: Keeper, N: Notes, S: TurnSource, W: Write>(
     ending: Ending,
     source: &mut S,
     out: &mut W,
-) -> Result<(), LoopStop> {
+) -> Result<(), LoopStop>
+    requires fresh { node.old.node.state.lines ≡ 0 }
+    requires kept { K.last node.old.node.keeper ≡ node.old.node.state.core.incarnation }
+    ensures ok { OnOk result (RunsLoop (a_keeper_gives K.last K.raise_gives) ending node.old node.new begun.now
+        (S.given source.old) (S.given source.new) (N.noted node.old.node.notes) (N.noted node.new.node.notes)
+        (W.contents out.old) (W.contents out.new)) }
+    ensures stopped { IfErr result (StopsLoop (a_keeper_gives K.last K.raise_gives) ending node.old begun.now
+        (S.given source.old) (S.given source.new) (N.noted node.old.node.notes) (N.noted node.new.node.notes)
+        (W.contents out.old) (W.contents out.new)) }
+    ensures kept { OnOk result (K.last node.new.node.keeper ≡ node.new.node.state.core.incarnation) }
+    ensures keeps { OnOk result (KeepsCore (K.kept_gives node.old.node.keeper) node.old.node.state.core → KeepsCore (K.kept_gives node.new.node.keeper) node.new.node.state.core) }
+    ensures rest { OnErr result (KeepsCore (K.kept_gives node.old.node.keeper) node.old.node.state.core → KeepsAllButOne (K.kept_gives node.new.node.keeper) node.new.node.state.core) }
+{
     let mut answer = String::new(alloc);
-    source.start()?;
     hand_on(begun, out)?;
+    source.start()?;
     for _ in 0..TURNS {
         if !turn(node, ending, &mut answer, source, out)? {
             return Ok(());

@@ -1,3 +1,6 @@
+ghost use Rattle.std.specs.Prelude.{◌≡◌};
+ghost use Rattle.node_loop.specs.Given.{is_end};
+
 use text_lines::ReadFault;
 
 /// A line of more bytes waits alone.
@@ -26,7 +29,9 @@ impl Told {
     }
 
     /// Whether its input is at its end, or can't be read.
-    pub(crate) fn is_end(&self) -> bool {
+    pub(crate) fn is_end(&self) -> bool
+        ensures { result ≡ is_end self.now }
+    {
         match self {
             Told::Line(_) | Told::TooLong => false,
             Told::End | Told::Unread(_) => true,

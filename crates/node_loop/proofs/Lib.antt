@@ -1,0 +1,3 @@
+mod ByOne
+mod LineTaking
+mod Turning
