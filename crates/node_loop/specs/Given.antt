@@ -1,6 +1,6 @@
 -- What is given to a loop: what its clock reads, and what its inputs tell.
 use Rattle.std.specs.Prelude.{ℕ, Bool, true, false, List, ◌∷◌, Option, Some, None}
-use Rattle.core.specs.Option.{option_map}
+use Rattle.std.specs.Option.{option_map}
 use Rattle.cycle.specs.declared.origin.Origin.{Origin}
 use Rattle.cycle.specs.declared.origin.Origin.TheVariants.{Field, Neighbours}
 use Rattle.node_loop.specs.declared.told.Told.{Told}

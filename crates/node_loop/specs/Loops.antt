@@ -22,19 +22,19 @@ condition_of node noted = record { node = node.node.state; field = node.field; c
 
 -- where a loop stands with this node
 abbrev pub stands : {K N : Type 0} → FieldNode K N → Bool → Option (List Turn) → Option (List ℕ) → Option (List ℕ) → Standing
-stands node open given noted written =
-    record { condition = condition_of node noted; open = open; given = given; written = written }
+stands node going given noted written =
+    record { condition = condition_of node noted; going = going; given = given; written = written }
 
 -- What the start writes was written, and then turns were made, one after the other, to the end.
 pub record RunsLoop {K N : Type 0} (raising : Raising) (ending : Ending) (old new : FieldNode K N) (begun : List ℕ)
     (given_old given_new : Option (List Turn)) (noted_old noted_new from to : Option (List ℕ)) : Type 0 where
   pub mid : Option (List ℕ)
   pub written : Appends from mid begun
-  pub open : Bool
+  pub going : Bool
   pub given : Option (List Turn)
   pub turns : List Turn
-  pub turned : HaveTurned raising (setting_of old) ending (stands old true given_old noted_old mid) turns (stands new open given noted_new to)
-  pub over : IsOver (moment_of ending.until) open given given_new
+  pub turned : HaveTurned raising (setting_of old) ending (stands old true given_old noted_old mid) turns (stands new going given noted_new to)
+  pub over : IsOver (moment_of ending.until) going given given_new
 
 -- no more than a beginning of what the start writes was written, and nothing was given or noted
 pub record StopsAtStart (begun : List ℕ) (given_old given_new : Option (List Turn)) (noted_old noted_new from to : Option (List ℕ))

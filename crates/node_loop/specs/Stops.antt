@@ -74,13 +74,13 @@ StopsTurn raising set ending s given noted written (Live Write) = StopsUnwritten
 StopsTurn raising set ending s given noted written (Live Memory) = (given ≡ with_turn (Takes Neighbours (Unread reading.Memory)) s.given) × StopsIdle s noted written
 StopsTurn raising set ending s given noted written Clock = (given ≡ s.given) × StopsIdle s noted written
 
--- Turns were made, one after the other; then a loop that was open stopped at the next one.
+-- Turns were made, one after the other; then a loop that was going stopped at the next one.
 pub record StopsBehind (raising : Raising) (set : Setting) (ending : Ending) (first : Standing) (given : Option (List Turn))
     (noted written : Option (List ℕ)) (stop : LoopStop) : Type 0 where
   pub turns : List Turn
   pub last : Standing
   pub turned : HaveTurned raising set ending first turns last
-  pub was_open : last.open ≡ true
+  pub was_going : last.going ≡ true
   pub stops : StopsTurn raising set ending last given noted written stop
 
 -- the stop at an input of the neighbours' that can't be read

@@ -33,11 +33,11 @@ pub record Condition : Type 0 where
   pub cycle : Option CycleValue
   pub noted : Option (List ℕ)
 
--- Where a loop stands: what its node is; whether it is open, that is, the input whose end ends it isn't at its end; and as far
+-- Where a loop stands: what its node is; whether it is going, that is, the input whose end ends it isn't at its end; and as far
 -- as that is known what it was given, the newest first, and what it wrote.
 pub record Standing : Type 0 where
   pub condition : Condition
-  pub open : Bool
+  pub going : Bool
   pub given : Option (List Turn)
   pub written : Option (List ℕ)
 
@@ -92,23 +92,23 @@ abbrev pub Makes : Raising → Setting → Condition → Condition → Turn → 
 Makes raising set old new (Reads reading) text = MakesEvaluation raising set old new reading text
 Makes raising set old new (Takes origin told) text = AnswersTold raising set old new origin told text
 
--- a loop is open behind a turn
-abbrev pub is_open : Option Origin → Turn → Bool
-is_open closing (Reads reading) = true
-is_open closing (Takes origin told) = not (is_end told && is_closing closing origin)
+-- a loop is going behind a turn
+abbrev pub is_going : Option Origin → Turn → Bool
+is_going closing (Reads reading) = true
+is_going closing (Takes origin told) = not (is_end told && is_closing closing origin)
 
 -- the clock didn't read the moment at which a loop ends
 abbrev pub IsBefore : ℕ → Turn → Type 0
 IsBefore moment (Reads reading) = reading < moment
 IsBefore moment (Takes origin told) = Unit {0}
 
--- A turn of a loop that is open: it is given, and nothing else; what is to be made of it is made; and its text is written
+-- A turn of a loop that is going: it is given, and nothing else; what is to be made of it is made; and its text is written
 -- behind what was written, and nothing else.
 pub record IsTurn (raising : Raising) (set : Setting) (ending : Ending) (old : Standing) (turn : Turn) (new : Standing)
     : Type 0 where
-  pub was_open : old.open ≡ true
+  pub was_going : old.going ≡ true
   pub before : IsBefore (moment_of ending.until) turn
-  pub open_is : new.open ≡ is_open ending.closing turn
+  pub going_is : new.going ≡ is_going ending.closing turn
   pub given_is : new.given ≡ with_turn turn old.given
   pub text : List ℕ
   pub made : Makes raising set old.condition new.condition turn text
@@ -120,7 +120,7 @@ HaveTurned raising set ending first [] last = last ≡ first
 HaveTurned raising set ending first (turn ∷ before) last =
     (mid : Standing) × HaveTurned raising set ending first before mid × IsTurn raising set ending mid turn last
 
--- a loop is at its end: it isn't open; or the clock read the moment at which it ends, and nothing was made of that
+-- a loop is at its end: it isn't going; or the clock read the moment at which it ends, and nothing was made of that
 abbrev pub IsOver : ℕ → Bool → Option (List Turn) → Option (List Turn) → Type 0
 IsOver moment false given last = last ≡ given
 IsOver moment true given last = (reading : ℕ) × (moment ≤ reading) × (last ≡ with_turn (Reads reading) given)

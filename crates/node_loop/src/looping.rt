@@ -6,7 +6,7 @@ ghost use Rattle.live_node.specs.Keeping.{KeepsAllButOne, KeepsCore};
 ghost use Rattle.live_node.specs.NodeAnswers.{a_keeper_gives};
 ghost use Rattle.node_loop.specs.declared.looping.Took.TheVariants as took;
 ghost use Rattle.node_loop.specs.Given.{Reads, Takes, is_closing, is_end};
-ghost use Rattle.node_loop.specs.Turns.{is_open, moment_of};
+ghost use Rattle.node_loop.specs.Turns.{is_going, moment_of};
 ghost use Rattle.node_loop.specs.Loops.{RunsLoop, StopsLoop};
 ghost use Rattle.node_loop.specs.Steps.Following.{goes_on, Follows, HasGone, HasLooked, IsUnwritten, MadeOf, NotMadeOf, Stops};
 
@@ -157,7 +157,7 @@ fn push_answer<K: Keeper, N: Notes>(
 
 /// What was taken, where an input told this.
 fn taken_of(ending: Ending, origin: Origin, told: &Told) -> Took
-    ensures { goes_on result ≡ is_open ending.closing (Takes origin told.now) }
+    ensures { goes_on result ≡ is_going ending.closing (Takes origin told.now) }
 {
     if told.is_end() && ending.is_closing(origin) {
         Took::Last

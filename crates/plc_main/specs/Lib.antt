@@ -1,4 +1,5 @@
 pub mod RunText
 pub mod AuditCommand
 pub mod NodeCommand
+pub mod AloneCommand
 pub mod Files

@@ -1,17 +1,29 @@
 //! The command `node` where the node has a field, or runs by itself.
 
+ghost use Rattle.std.specs.Prelude.{◌≡◌, ◌<◌, length, IfOk};
+ghost use Rattle.live_node.specs.Keeping.{KeepsCore};
+ghost use Rattle.plc_main.specs.AloneCommand.{RunsAlone};
+
 use crate::node_command::NodeFault;
 use console::{NodeRequest, PreparedNode};
 use cycle::Origin;
 use field_node::FieldNode;
 use keepers::Keeper;
-use live_node::{LiveStop, Node, Notes};
+use live_node::{Node, Notes};
 use node_loop::{Ending, LiveSource, LoopStop, ReaderEnds, TurnSource, connect, run_loop};
 use std::alloc::Global;
 use std::io;
 use std::io::Write;
 use std::rt::Clock;
 use std::sync::{Arc, Wait};
+
+/// How a node runs: whether it has a field, whether it makes its evaluations by itself, and when it ends.
+#[derive(Clone, Copy, Debug)]
+pub struct Alone {
+    pub has_field: bool,
+    pub cycles: bool,
+    pub ending: Ending,
+}
 
 /// Which inputs are read: standard input, as one of them, and the file of the field.
 #[derive(Drop)]
@@ -43,11 +55,20 @@ fn inputs_of(alloc: Global, request: &NodeRequest<'_>) -> Result<Inputs, LoopSto
     }
 }
 
-/// When the loop ends: without a cycle at the end of standard input.
-fn ending_of(request: &NodeRequest<'_>, standard: Origin) -> Ending {
-    Ending {
-        until: request.until,
-        closing: if request.cycles { None } else { Some(standard) },
+/// How it is asked for that a node runs. Without a cycle it ends at the end of standard input.
+fn alone_of(request: &NodeRequest<'_>, standard: Origin) -> Alone {
+    let closing = if request.cycles {
+        None
+    } else {
+        Some(standard)
+    };
+    Alone {
+        has_field: request.field.is_some(),
+        cycles: request.cycles,
+        ending: Ending {
+            until: request.until,
+            closing,
+        },
     }
 }
 
@@ -55,14 +76,19 @@ fn ending_of(request: &NodeRequest<'_>, standard: Origin) -> Ending {
 fn run_turns<K: Keeper, N: Notes, S: TurnSource, W: Write>(
     alloc: Global,
     prepared: PreparedNode,
-    has_field: bool,
-    cycles: bool,
-    ending: Ending,
+    alone: Alone,
     keeper: K,
     notes: N,
     source: &mut S,
     writer: &mut W,
-) -> Result<FieldNode<K, N>, LoopStop> {
+) -> Result<FieldNode<K, N>, LoopStop>
+    requires { prepared.resource < length prepared.plant.value.resources }
+    ensures ok { IfOk result (λ node. RunsAlone K.last K.raise_gives K.kept_gives keeper prepared.plant.value prepared.resource alone node
+        (S.given source.old) (S.given source.new) (N.noted notes) (N.noted node.node.notes)
+        (W.contents writer.old) (W.contents writer.new)) }
+    ensures kept { IfOk result (λ node. K.last node.node.keeper ≡ node.node.state.core.incarnation) }
+    ensures keeps { IfOk result (λ node. KeepsCore (K.kept_gives node.node.keeper) node.node.state.core) }
+{
     let PreparedNode { plant, resource } = prepared;
     let shared = Arc::try_clone(&plant)?;
     let mut begun = String::new(alloc);
@@ -70,8 +96,15 @@ fn run_turns<K: Keeper, N: Notes, S: TurnSource, W: Write>(
         Ok(node) => node,
         Err((_notes, stop)) => return Err(LoopStop::from(stop)),
     };
-    let mut node = FieldNode::of(alloc, plant, resource, has_field, cycles, node)?;
-    run_loop(alloc, &mut node, begun.as_str(), ending, source, writer)?;
+    let mut node = FieldNode::of(alloc, plant, resource, alone.has_field, alone.cycles, node)?;
+    run_loop(
+        alloc,
+        &mut node,
+        begun.as_str(),
+        alone.ending,
+        source,
+        writer,
+    )?;
     Ok(node)
 }
 
@@ -90,11 +123,12 @@ pub fn run_alone<
     notes: N,
     readers: S,
 ) -> Result<(), NodeFault>
+    requires exists { prepared.resource < length prepared.plant.value.resources }
     requires readers { (inputs : _) → (ends : _) → S.pre readers inputs ends }
 {
     let alloc = rt.alloc();
     let inputs = inputs_of(alloc, request)?;
-    let ending = ending_of(request, inputs.standard);
+    let alone = alone_of(request, inputs.standard);
     let (ends, of_readers) = connect(alloc)?;
     if !readers(inputs, of_readers) {
         return Err(NodeFault::Unread);
@@ -104,9 +138,7 @@ pub fn run_alone<
     run_turns(
         alloc,
         prepared,
-        request.field.is_some(),
-        request.cycles,
-        ending,
+        alone,
         keeper,
         notes,
         &mut source,

@@ -22,20 +22,20 @@ use Rattle.node_loop.specs.Turns.{Makes, HaveTurned, IsOver, moment_of}
 use Rattle.node_loop.specs.Stops.{StopsBehind, Undoes}
 use Rattle.node_loop.specs.Loops.{setting_of, condition_of, stands}
 
--- turns were made from an open loop on
-pub record Follows {K N : Type 0} (raising : Raising) (ending : Ending) (old new : FieldNode K N) (open : Bool)
+-- turns were made from an going loop on
+pub record Follows {K N : Type 0} (raising : Raising) (ending : Ending) (old new : FieldNode K N) (going : Bool)
     (given_old given_new : Option (List Turn)) (noted_old noted_new from to : Option (List ℕ)) : Type 0 where
   pub same : IsSameSetting old new
   pub turns : List Turn
-  pub turned : HaveTurned raising (setting_of old) ending (stands old true given_old noted_old from) turns (stands new open given_new noted_new to)
+  pub turned : HaveTurned raising (setting_of old) ending (stands old true given_old noted_old from) turns (stands new going given_new noted_new to)
 
--- turns were made from an open loop on, to its end
+-- turns were made from an going loop on, to its end
 pub record Ends {K N : Type 0} (raising : Raising) (ending : Ending) (old new : FieldNode K N)
     (given_old given_new : Option (List Turn)) (noted_old noted_new from to : Option (List ℕ)) : Type 0 where
-  pub open : Bool
+  pub going : Bool
   pub given : Option (List Turn)
-  pub follows : Follows raising ending old new open given_old given noted_old noted_new from to
-  pub over : IsOver (moment_of ending.until) open given given_new
+  pub follows : Follows raising ending old new going given_old given noted_old noted_new from to
+  pub over : IsOver (moment_of ending.until) going given given_new
 
 -- what was looked for by the clock: an evaluation, or none; or the loop is over
 abbrev pub HasLooked : {K N : Type 0} → Raising → Ending → FieldNode K N → FieldNode K N → Option (List Turn) → Option (List Turn)
@@ -47,7 +47,7 @@ HasLooked raising ending old new given_old given_new noted_old noted_new from to
 HasLooked raising ending old new given_old given_new noted_old noted_new from to Evaluated =
     Follows raising ending old new true given_old given_new noted_old noted_new from to
 
--- a loop that took this is open
+-- a loop that took this is going
 abbrev pub goes_on : Took → Bool
 goes_on Nothing = true
 goes_on Something = true
@@ -78,7 +78,7 @@ NotMadeOf raising s turn noted_old noted_new (Live Memory) =
     (turn ≡ Takes Neighbours (Unread reading.Memory)) × (noted_new ≡ noted_old)
 NotMadeOf raising s turn noted_old noted_new Clock = ⊥
 
--- turns were made from an open loop on, and it stopped
+-- turns were made from an going loop on, and it stopped
 abbrev pub Stops : {K N : Type 0} → Raising → Ending → FieldNode K N → Option (List Turn) → Option (List Turn) → Option (List ℕ)
     → Option (List ℕ) → Option (List ℕ) → Option (List ℕ) → LoopStop → Type 0
 Stops raising ending old given_old given_new noted_old noted_new from to stop =
