@@ -1,5 +1,2 @@
 pub mod Given
-pub mod Turns
-pub mod Stops
-pub mod Loops
 pub mod Steps

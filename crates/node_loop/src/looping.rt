@@ -1,14 +1,8 @@
 //! The loop.
 
-ghost use Rattle.std.specs.Prelude.{◌≡◌, ◌≢◌, ◌+◌, ◌<◌, ◌≤◌, ◌&&◌, true, IfOk, IfErr, OnOk, OnErr, string_bytes};
+ghost use Rattle.std.specs.Prelude.{◌≡◌, ◌+◌, ◌<◌, ◌≤◌, IfErr, OnOk};
 ghost use Rattle.std.specs.Io.KnownBytes.{Appends};
-ghost use Rattle.live_node.specs.Keeping.{KeepsAllButOne, KeepsCore};
-ghost use Rattle.live_node.specs.NodeAnswers.{a_keeper_gives};
-ghost use Rattle.node_loop.specs.declared.looping.Took.TheVariants as took;
-ghost use Rattle.node_loop.specs.Given.{Reads, Takes, is_closing, is_end};
-ghost use Rattle.node_loop.specs.Turns.{is_going, moment_of};
-ghost use Rattle.node_loop.specs.Loops.{RunsLoop, StopsLoop};
-ghost use Rattle.node_loop.specs.Steps.Following.{goes_on, Follows, HasGone, HasLooked, IsUnwritten, MadeOf, NotMadeOf, Stops};
+ghost use Rattle.node_loop.specs.Steps.Following.{IsUnwritten};
 
 use crate::ending::Ending;
 use crate::loop_stop::LoopStop;
@@ -49,10 +43,7 @@ enum Took {
 
 impl Took {
     /// What was taken of two inputs.
-    fn and(self, other: Took) -> Took
-        requires { self ≢ took.Last }
-        ensures { goes_on result ≡ goes_on other }
-    {
+    fn and(self, other: Took) -> Took {
         match (self, other) {
             (_, Took::Last) => Took::Last,
             (Took::Nothing, Took::Nothing) => Took::Nothing,
@@ -82,12 +73,7 @@ fn push_evaluation<K: Keeper, N: Notes>(
 ) -> Result<bool, LoopStop>
     requires few { node.old.node.state.lines < 18446744073709551615 }
     requires kept { K.last node.old.node.keeper ≡ node.old.node.state.core.incarnation }
-    ensures made { OnOk result (MadeOf (a_keeper_gives K.last K.raise_gives) node.old node.new (Reads reading)
-        (N.noted node.old.node.notes) (N.noted node.new.node.notes) (string_bytes answer.new)) }
-    ensures stopped { IfErr result (NotMadeOf (a_keeper_gives K.last K.raise_gives) node.old (Reads reading) (N.noted node.old.node.notes) (N.noted node.new.node.notes)) }
     ensures kept { OnOk result (K.last node.new.node.keeper ≡ node.new.node.state.core.incarnation) }
-    ensures keeps { OnOk result (KeepsCore (K.kept_gives node.old.node.keeper) node.old.node.state.core → KeepsCore (K.kept_gives node.new.node.keeper) node.new.node.state.core) }
-    ensures rest { OnErr result (KeepsCore (K.kept_gives node.old.node.keeper) node.old.node.state.core → KeepsAllButOne (K.kept_gives node.new.node.keeper) node.new.node.state.core) }
     ensures few { OnOk result (node.new.node.state.lines ≤ node.old.node.state.lines + 1) }
 {
     answer.clear();
@@ -104,15 +90,7 @@ fn look<K: Keeper, N: Notes, S: TurnSource, W: Write>(
 ) -> Result<Looked, LoopStop>
     requires few { node.old.node.state.lines < 18446744073709551615 }
     requires kept { K.last node.old.node.keeper ≡ node.old.node.state.core.incarnation }
-    ensures looked { IfOk result (HasLooked (a_keeper_gives K.last K.raise_gives) ending node.old node.new
-        (S.given source.old) (S.given source.new) (N.noted node.old.node.notes) (N.noted node.new.node.notes)
-        (W.contents out.old) (W.contents out.new)) }
-    ensures stopped { IfErr result (Stops (a_keeper_gives K.last K.raise_gives) ending node.old
-        (S.given source.old) (S.given source.new) (N.noted node.old.node.notes) (N.noted node.new.node.notes)
-        (W.contents out.old) (W.contents out.new)) }
     ensures kept { OnOk result (K.last node.new.node.keeper ≡ node.new.node.state.core.incarnation) }
-    ensures keeps { OnOk result (KeepsCore (K.kept_gives node.old.node.keeper) node.old.node.state.core → KeepsCore (K.kept_gives node.new.node.keeper) node.new.node.state.core) }
-    ensures rest { OnErr result (KeepsCore (K.kept_gives node.old.node.keeper) node.old.node.state.core → KeepsAllButOne (K.kept_gives node.new.node.keeper) node.new.node.state.core) }
     ensures few { OnOk result (node.new.node.state.lines ≤ node.old.node.state.lines + 1) }
 {
     let reading = source.reading()?;
@@ -137,12 +115,7 @@ fn push_answer<K: Keeper, N: Notes>(
 ) -> Result<(), LoopStop>
     requires few { node.old.node.state.lines < 18446744073709551615 }
     requires kept { K.last node.old.node.keeper ≡ node.old.node.state.core.incarnation }
-    ensures made { OnOk result (MadeOf (a_keeper_gives K.last K.raise_gives) node.old node.new (Takes origin told.now)
-        (N.noted node.old.node.notes) (N.noted node.new.node.notes) (string_bytes answer.new)) }
-    ensures stopped { IfErr result (NotMadeOf (a_keeper_gives K.last K.raise_gives) node.old (Takes origin told.now) (N.noted node.old.node.notes) (N.noted node.new.node.notes)) }
     ensures kept { OnOk result (K.last node.new.node.keeper ≡ node.new.node.state.core.incarnation) }
-    ensures keeps { OnOk result (KeepsCore (K.kept_gives node.old.node.keeper) node.old.node.state.core → KeepsCore (K.kept_gives node.new.node.keeper) node.new.node.state.core) }
-    ensures rest { OnErr result (KeepsCore (K.kept_gives node.old.node.keeper) node.old.node.state.core → KeepsAllButOne (K.kept_gives node.new.node.keeper) node.new.node.state.core) }
     ensures few { OnOk result (node.new.node.state.lines ≤ node.old.node.state.lines + 1) }
 {
     answer.clear();
@@ -156,9 +129,7 @@ fn push_answer<K: Keeper, N: Notes>(
 }
 
 /// What was taken, where an input told this.
-fn taken_of(ending: Ending, origin: Origin, told: &Told) -> Took
-    ensures { goes_on result ≡ is_going ending.closing (Takes origin told.now) }
-{
+fn taken_of(ending: Ending, origin: Origin, told: &Told) -> Took {
     if told.is_end() && ending.is_closing(origin) {
         Took::Last
     } else {
@@ -177,15 +148,7 @@ fn take_one<K: Keeper, N: Notes, S: TurnSource, W: Write>(
 ) -> Result<Took, LoopStop>
     requires few { node.old.node.state.lines < 18446744073709551615 }
     requires kept { K.last node.old.node.keeper ≡ node.old.node.state.core.incarnation }
-    ensures taken { IfOk result (λ took. Follows (a_keeper_gives K.last K.raise_gives) ending node.old node.new (goes_on took)
-        (S.given source.old) (S.given source.new) (N.noted node.old.node.notes) (N.noted node.new.node.notes)
-        (W.contents out.old) (W.contents out.new)) }
-    ensures stopped { IfErr result (Stops (a_keeper_gives K.last K.raise_gives) ending node.old
-        (S.given source.old) (S.given source.new) (N.noted node.old.node.notes) (N.noted node.new.node.notes)
-        (W.contents out.old) (W.contents out.new)) }
     ensures kept { OnOk result (K.last node.new.node.keeper ≡ node.new.node.state.core.incarnation) }
-    ensures keeps { OnOk result (KeepsCore (K.kept_gives node.old.node.keeper) node.old.node.state.core → KeepsCore (K.kept_gives node.new.node.keeper) node.new.node.state.core) }
-    ensures rest { OnErr result (KeepsCore (K.kept_gives node.old.node.keeper) node.old.node.state.core → KeepsAllButOne (K.kept_gives node.new.node.keeper) node.new.node.state.core) }
     ensures few { OnOk result (node.new.node.state.lines ≤ node.old.node.state.lines + 1) }
 {
     let Some(told) = source.take(origin) else {
@@ -206,15 +169,7 @@ fn take_both<K: Keeper, N: Notes, S: TurnSource, W: Write>(
 ) -> Result<Took, LoopStop>
     requires few { node.old.node.state.lines < 18446744073709551614 }
     requires kept { K.last node.old.node.keeper ≡ node.old.node.state.core.incarnation }
-    ensures taken { IfOk result (λ took. Follows (a_keeper_gives K.last K.raise_gives) ending node.old node.new (goes_on took)
-        (S.given source.old) (S.given source.new) (N.noted node.old.node.notes) (N.noted node.new.node.notes)
-        (W.contents out.old) (W.contents out.new)) }
-    ensures stopped { IfErr result (Stops (a_keeper_gives K.last K.raise_gives) ending node.old
-        (S.given source.old) (S.given source.new) (N.noted node.old.node.notes) (N.noted node.new.node.notes)
-        (W.contents out.old) (W.contents out.new)) }
     ensures kept { OnOk result (K.last node.new.node.keeper ≡ node.new.node.state.core.incarnation) }
-    ensures keeps { OnOk result (KeepsCore (K.kept_gives node.old.node.keeper) node.old.node.state.core → KeepsCore (K.kept_gives node.new.node.keeper) node.new.node.state.core) }
-    ensures rest { OnErr result (KeepsCore (K.kept_gives node.old.node.keeper) node.old.node.state.core → KeepsAllButOne (K.kept_gives node.new.node.keeper) node.new.node.state.core) }
     ensures few { OnOk result (node.new.node.state.lines ≤ node.old.node.state.lines + 2) }
 {
     let first = take_one(node, ending, Origin::Neighbours, answer, source, out)?;
@@ -236,15 +191,7 @@ fn turn<K: Keeper, N: Notes, S: TurnSource, W: Write>(
 ) -> Result<bool, LoopStop>
     requires few { node.old.node.state.lines < 18446744073709551613 }
     requires kept { K.last node.old.node.keeper ≡ node.old.node.state.core.incarnation }
-    ensures gone { IfOk result (HasGone (a_keeper_gives K.last K.raise_gives) ending node.old node.new
-        (S.given source.old) (S.given source.new) (N.noted node.old.node.notes) (N.noted node.new.node.notes)
-        (W.contents out.old) (W.contents out.new)) }
-    ensures stopped { IfErr result (Stops (a_keeper_gives K.last K.raise_gives) ending node.old
-        (S.given source.old) (S.given source.new) (N.noted node.old.node.notes) (N.noted node.new.node.notes)
-        (W.contents out.old) (W.contents out.new)) }
     ensures kept { OnOk result (K.last node.new.node.keeper ≡ node.new.node.state.core.incarnation) }
-    ensures keeps { OnOk result (KeepsCore (K.kept_gives node.old.node.keeper) node.old.node.state.core → KeepsCore (K.kept_gives node.new.node.keeper) node.new.node.state.core) }
-    ensures rest { OnErr result (KeepsCore (K.kept_gives node.old.node.keeper) node.old.node.state.core → KeepsAllButOne (K.kept_gives node.new.node.keeper) node.new.node.state.core) }
     ensures few { OnOk result (node.new.node.state.lines ≤ node.old.node.state.lines + 3) }
 {
     let looked = look(node, ending, answer, source, out)?;
@@ -274,15 +221,7 @@ pub fn run_loop<K: Keeper, N: Notes, S: TurnSource, W: Write>(
 ) -> Result<(), LoopStop>
     requires fresh { node.old.node.state.lines ≡ 0 }
     requires kept { K.last node.old.node.keeper ≡ node.old.node.state.core.incarnation }
-    ensures ok { OnOk result (RunsLoop (a_keeper_gives K.last K.raise_gives) ending node.old node.new begun.now
-        (S.given source.old) (S.given source.new) (N.noted node.old.node.notes) (N.noted node.new.node.notes)
-        (W.contents out.old) (W.contents out.new)) }
-    ensures stopped { IfErr result (StopsLoop (a_keeper_gives K.last K.raise_gives) ending node.old begun.now
-        (S.given source.old) (S.given source.new) (N.noted node.old.node.notes) (N.noted node.new.node.notes)
-        (W.contents out.old) (W.contents out.new)) }
     ensures kept { OnOk result (K.last node.new.node.keeper ≡ node.new.node.state.core.incarnation) }
-    ensures keeps { OnOk result (KeepsCore (K.kept_gives node.old.node.keeper) node.old.node.state.core → KeepsCore (K.kept_gives node.new.node.keeper) node.new.node.state.core) }
-    ensures rest { OnErr result (KeepsCore (K.kept_gives node.old.node.keeper) node.old.node.state.core → KeepsAllButOne (K.kept_gives node.new.node.keeper) node.new.node.state.core) }
 {
     let mut answer = String::new(alloc);
     hand_on(begun, out)?;
