@@ -1,5 +1,4 @@
 pub mod RunText
 pub mod AuditCommand
 pub mod NodeCommand
-pub mod AloneCommand
 pub mod Files

