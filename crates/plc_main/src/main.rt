@@ -4,6 +4,7 @@
 mod audit_command;
 mod node_command;
 mod run_command;
+mod running_alone;
 mod told_run;
 mod trace_files;
 
@@ -30,16 +31,18 @@ use keepers::{
 };
 use node::{ClockGate, FreeGate, Gate, PacedGate};
 use node_command::answer_node;
+use node_loop::{ReaderEnds, read_field, read_input};
 use node_reports::RunFault;
 use plant::{Plant, TaskRef};
 use run_command::{Ran, run_text};
+use running_alone::Inputs;
 use std::alloc::{AllocError, Global};
-use std::io;
 use std::io::{IsTerminal, Write};
 use std::process::ExitCode;
 use std::rt::{Clock, Env, Files};
 use std::sync::{Arc, Mutex, Wait};
 use std::thread::Threads;
+use std::{io, thread};
 use text_commands::plan_of;
 use text_lines::{OnTerminal, resource_name};
 use told_run::{ToldGate, UntoldWriter};
@@ -447,13 +450,16 @@ fn obey_threads<
 fn obey_request<
     R: Files + Clock + Input + Print + Eprint + AllocGlobal + Threads + Wait + Sync,
     F: TextFiles,
+    S: FnOnce(Inputs, ReaderEnds) -> bool,
 >(
     rt: &R,
     host: &HostRuntime,
     terminals: Terminals,
     request: &Request<'_>,
     to: &mut F,
+    readers: S,
 ) -> io::Result<u8>
+    requires { (inputs : _) → (ends : _) → S.pre readers inputs ends }
     ensures { IfOk result (EndsRequest terminals.output request.now (F.came to.old) (F.came to.new)) }
 {
     match request {
@@ -461,7 +467,7 @@ fn obey_request<
         Request::Verify(request) => answer_verify(rt, terminals.errors, request),
         Request::Sim(request) => obey_sim(rt, terminals, request, to),
         Request::Run(request) => obey_threads(rt, host, terminals, request, to),
-        Request::Node(request) => answer_node(rt, host, request),
+        Request::Node(request) => answer_node(rt, host, request, readers),
         Request::Audit(request) => answer_audit(rt, request),
         Request::Page(file) => answer_page(rt, file),
         Request::Explain(Some(kind)) => answer_kind(rt, kind),
@@ -473,20 +479,31 @@ fn obey_request<
 fn answer_words<
     R: Files + Clock + Input + Print + Eprint + AllocGlobal + Threads + Wait + Sync,
     F: TextFiles,
->(rt: &R, host: &HostRuntime, terminals: Terminals, words: &[String], to: &mut F) -> io::Result<u8>
+    S: FnOnce(Inputs, ReaderEnds) -> bool,
+>(
+    rt: &R,
+    host: &HostRuntime,
+    terminals: Terminals,
+    words: &[String],
+    to: &mut F,
+    readers: S,
+) -> io::Result<u8>
+    requires { (inputs : _) → (ends : _) → S.pre readers inputs ends }
     ensures { IfOk result (EndsWords terminals.output (map (λ word. string_bytes word) words.now) (F.came to.old) (F.came to.new)) }
 {
     match read_words(rt.alloc(), words) {
-        Ok(request) => obey_request(rt, host, terminals, &request, to),
+        Ok(request) => obey_request(rt, host, terminals, &request, to, readers),
         Err(error) => print_usage(rt, &error),
     }
 }
 
-/// Reads what it is asked, and obeys; the status.
-fn answer<R: Env + Files + Clock + Input + Print + Eprint + AllocGlobal + Threads + Wait + Sync>(
-    rt: &R,
-    host: &HostRuntime,
-) -> io::Result<u8> {
+/// Reads what it is asked, and obeys; the status. `readers` starts the readers of a node's inputs; whether all are started.
+fn answer<
+    R: Env + Files + Clock + Input + Print + Eprint + AllocGlobal + Threads + Wait + Sync,
+    S: FnOnce(Inputs, ReaderEnds) -> bool,
+>(rt: &R, host: &HostRuntime, readers: S) -> io::Result<u8>
+    requires { (inputs : _) → (ends : _) → S.pre readers inputs ends }
+{
     let given = match given_words(rt) {
         Ok(given) => given,
         Err(error) => return print_given_fault(rt, &error),
@@ -501,9 +518,22 @@ fn answer<R: Env + Files + Clock + Input + Print + Eprint + AllocGlobal + Thread
         terminals,
         given.as_slice(),
         &mut SystemFiles { rt, host },
+        readers,
     )
 }
 
 fn main(rt: HostRuntime) -> ExitCode {
-    ExitCode::from(answer(&rt, &rt).unwrap_or(FAILED))
+    let alloc = rt.alloc();
+    let readers = move |inputs: Inputs, ends: ReaderEnds| -> bool {
+        let Inputs { standard, field } = inputs;
+        let (of_standard, of_file) = ends.with_standard(standard);
+        if let Some(path) = field {
+            let reads = move || read_field(&rt, alloc, path.as_str(), of_file);
+            if thread::spawn(&rt, reads).is_err() {
+                return false;
+            }
+        }
+        thread::spawn(&rt, move || read_input(&rt, alloc, of_standard)).is_ok()
+    };
+    ExitCode::from(answer(&rt, &rt, readers).unwrap_or(FAILED))
 }

@@ -8,24 +8,52 @@ ghost use Rattle.live_node.specs.Stops.{StopsNode};
 ghost use Rattle.console.specs.NodeWords.{NamesResource};
 ghost use Rattle.plc_main.specs.NodeCommand.{RunsNode, StopsRunning};
 
+use crate::running_alone::{Inputs, is_alone, run_alone};
 use crate::{keeper_in, print_lock_fault, print_resource_faults};
 use console::{FAILED, NodeRequest, PreparedNode, prepare_node};
 use keepers::{Keeper, MemoryKeeper, ResourceLock};
 use live_node::{FileNotes, JournalFault, LiveStop, NoNotes, Node, NodeStop, Notes, live};
-use std::alloc::Global;
+use node_loop::{LoopStop, NoClock, ReaderEnds};
+use std::alloc::{AllocError, Global};
 use std::io;
 use std::io::{BufReader, Read, Write};
-use std::rt::Files;
-use std::sync::Arc;
+use std::rt::{Clock, Files};
+use std::sync::{Arc, Wait};
 use text_lines::resource_name;
 
 /// Why a node isn't run to the end of its lines.
 #[derive(Clone, Copy, Debug, PartialEq, Eq)]
-enum NodeFault {
+pub enum NodeFault {
     /// Its journal isn't opened.
     Journal(JournalFault),
     /// It ended before.
-    Stop(LiveStop),
+    Stop(LoopStop),
+    /// There is no thread for an input.
+    Unread,
+}
+
+impl From<LoopStop> for NodeFault {
+    fn from(stop: LoopStop) -> NodeFault {
+        NodeFault::Stop(stop)
+    }
+}
+
+impl From<NoClock> for NodeFault {
+    fn from(fault: NoClock) -> NodeFault {
+        NodeFault::Stop(LoopStop::from(fault))
+    }
+}
+
+impl From<AllocError> for NodeFault {
+    fn from(fault: AllocError) -> NodeFault {
+        NodeFault::Stop(LoopStop::from(fault))
+    }
+}
+
+impl From<LiveStop> for NodeFault {
+    fn from(stop: LiveStop) -> NodeFault {
+        NodeFault::Stop(LoopStop::Live(stop))
+    }
 }
 
 /// Writes what a node that begun writes at its start, and answers the lines of a reader, to its end; it answers with the
@@ -86,8 +114,8 @@ fn run_node<K: Keeper, N: Notes, I: Read, W: Write>(
     }
 }
 
-/// Runs a node on standard input and output.
-fn run_with<R: Input + Print + AllocGlobal, K: Keeper, N: Notes>(
+/// Runs a node on standard input and output, line by line.
+fn run_lines<R: Input + Print + AllocGlobal, K: Keeper, N: Notes>(
     rt: &R,
     prepared: PreparedNode,
     keeper: K,
@@ -96,30 +124,60 @@ fn run_with<R: Input + Print + AllocGlobal, K: Keeper, N: Notes>(
     requires { prepared.resource < length prepared.plant.value.resources }
 {
     let Ok(mut input) = BufReader::new(rt.alloc(), rt.reader()) else {
-        return Err(NodeFault::Stop(LiveStop::Memory));
+        return Err(NodeFault::from(LiveStop::Memory));
     };
     let mut writer = io::writer(rt);
     match run_node(rt.alloc(), prepared, keeper, notes, &mut input, &mut writer) {
         Ok(_node) => Ok(()),
-        Err((_notes, stop)) => Err(NodeFault::Stop(stop)),
+        Err((_notes, stop)) => Err(NodeFault::from(stop)),
+    }
+}
+
+/// Runs a node, line by line or by itself.
+fn run_with<
+    R: Clock + Input + Print + AllocGlobal + Wait,
+    K: Keeper,
+    N: Notes,
+    S: FnOnce(Inputs, ReaderEnds) -> bool,
+>(
+    rt: &R,
+    request: &NodeRequest<'_>,
+    prepared: PreparedNode,
+    keeper: K,
+    notes: N,
+    readers: S,
+) -> Result<(), NodeFault>
+    requires exists { prepared.resource < length prepared.plant.value.resources }
+    requires readers { (inputs : _) → (ends : _) → S.pre readers inputs ends }
+{
+    if is_alone(request) {
+        run_alone(rt, request, prepared, keeper, notes, readers)
+    } else {
+        run_lines(rt, prepared, keeper, notes)
     }
 }
 
 /// Runs a node that notes to the journal that was asked for, if one was.
-fn run_noting<R: Input + Print + AllocGlobal, K: Keeper>(
+fn run_noting<
+    R: Clock + Input + Print + AllocGlobal + Wait,
+    K: Keeper,
+    S: FnOnce(Inputs, ReaderEnds) -> bool,
+>(
     rt: &R,
     host: &HostRuntime,
     request: &NodeRequest<'_>,
     prepared: PreparedNode,
     keeper: K,
+    readers: S,
 ) -> Result<(), NodeFault>
-    requires { NamesResource prepared.plant.value request.now.resource.now prepared.resource }
+    requires names { NamesResource prepared.plant.value request.now.resource.now prepared.resource }
+    requires readers { (inputs : _) → (ends : _) → S.pre readers inputs ends }
 {
     let Some(journal) = request.journal else {
-        return run_with(rt, prepared, keeper, NoNotes);
+        return run_with(rt, request, prepared, keeper, NoNotes, readers);
     };
     match FileNotes::open(host, journal) {
-        Ok(notes) => run_with(rt, prepared, keeper, notes),
+        Ok(notes) => run_with(rt, request, prepared, keeper, notes, readers),
         Err(fault) => Err(NodeFault::Journal(fault)),
     }
 }
@@ -133,6 +191,7 @@ fn tell_node<R: Eprint>(
     match ran {
         Ok(()) => return Ok(0),
         Err(NodeFault::Stop(stop)) => eprintln!(rt; "plc: {stop}")?,
+        Err(NodeFault::Unread) => eprintln!(rt; "plc: there is no thread for an input")?,
         Err(NodeFault::Journal(fault)) => {
             let journal = request.journal.unwrap_or("");
             eprintln!(rt; "plc: {journal}: {fault}")?;
@@ -142,14 +201,19 @@ fn tell_node<R: Eprint>(
 }
 
 /// Runs a node whose incarnation and retained variables are kept in a folder; the status.
-fn run_kept<R: Input + Print + Eprint + AllocGlobal>(
+fn run_kept<
+    R: Clock + Input + Print + Eprint + AllocGlobal + Wait,
+    S: FnOnce(Inputs, ReaderEnds) -> bool,
+>(
     rt: &R,
     host: &HostRuntime,
     request: &NodeRequest<'_>,
     prepared: PreparedNode,
     folder: &str,
+    readers: S,
 ) -> io::Result<u8>
-    requires { NamesResource prepared.plant.value request.now.resource.now prepared.resource }
+    requires names { NamesResource prepared.plant.value request.now.resource.now prepared.resource }
+    requires readers { (inputs : _) → (ends : _) → S.pre readers inputs ends }
 {
     let resource = prepared.resource;
     let plant = Arc::try_clone(&prepared.plant)?;
@@ -159,9 +223,9 @@ fn run_kept<R: Input + Print + Eprint + AllocGlobal>(
         Err(fault) => return print_lock_fault(rt, folder, fault),
     };
     let keeper = keeper_in(rt.alloc(), host, &plant, resource, folder)?;
-    let ran = run_noting(rt, host, request, prepared, keeper);
+    let ran = run_noting(rt, host, request, prepared, keeper, readers);
     let status = tell_node(rt, request, ran)?;
-    if let Err(NodeFault::Stop(LiveStop::Node(NodeStop::Keeper(_)))) = ran {
+    if let Err(NodeFault::Stop(LoopStop::Live(LiveStop::Node(NodeStop::Keeper(_))))) = ran {
         let keeper = keeper_in(rt.alloc(), host, &plant, resource, folder)?;
         print_resource_faults(rt, &plant, resource, folder, &keeper)?;
     }
@@ -169,20 +233,21 @@ fn run_kept<R: Input + Print + Eprint + AllocGlobal>(
 }
 
 /// Reads what a node needs, and runs it; the status.
-pub(crate) fn answer_node<R: Files + Input + Print + Eprint + AllocGlobal>(
-    rt: &R,
-    host: &HostRuntime,
-    request: &NodeRequest<'_>,
-) -> io::Result<u8> {
+pub(crate) fn answer_node<
+    R: Files + Clock + Input + Print + Eprint + AllocGlobal + Wait,
+    S: FnOnce(Inputs, ReaderEnds) -> bool,
+>(rt: &R, host: &HostRuntime, request: &NodeRequest<'_>, readers: S) -> io::Result<u8>
+    requires { (inputs : _) → (ends : _) → S.pre readers inputs ends }
+{
     let prepared = match prepare_node(rt, request)? {
         Ok(prepared) => prepared,
         Err(status) => return Ok(status),
     };
     match request.state {
-        Some(folder) => run_kept(rt, host, request, prepared, folder),
+        Some(folder) => run_kept(rt, host, request, prepared, folder, readers),
         None => {
             let keeper = MemoryKeeper::new(rt.alloc(), 0);
-            let ran = run_noting(rt, host, request, prepared, keeper);
+            let ran = run_noting(rt, host, request, prepared, keeper, readers);
             tell_node(rt, request, ran)
         }
     }

@@ -1,0 +1,2 @@
+mod LineTaking
+mod Sent

@@ -1,0 +1,8 @@
+-- All was written, and not handed on.
+use Rattle.std.proofs.Common.{refl}
+use Rattle.text_lines.proofs.Sending.{appends_kept}
+use Rattle.node_loop.proofs.Sent.{all_sent}
+use Rattle.node_loop.proofs.looping.hand_on.Goals as goal
+
+pub returns-in-Err-clause-part : goal.returns-in-Err-clause-part
+returns-in-Err-clause-part g c = (refl, all_sent _ _ _ (appends_kept _ _ _ _ c.in_ok-write_text.ensures.whole c.in-Err.ensures.bytes))

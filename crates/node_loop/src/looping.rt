@@ -1,0 +1,235 @@
+//! The loop.
+
+ghost use Rattle.std.specs.Prelude.{◌≡◌, ◌+◌, ◌<◌, ◌≤◌, IfErr, OnOk};
+ghost use Rattle.std.specs.Io.KnownBytes.{Appends};
+ghost use Rattle.node_loop.specs.Steps.Following.{IsUnwritten};
+
+use crate::ending::Ending;
+use crate::loop_stop::LoopStop;
+use crate::told::Told;
+use crate::turn_source::TurnSource;
+use cycle::{FieldRefusal, Origin, push_field_refused};
+use field_node::FieldNode;
+use keepers::Keeper;
+use live_node::{LiveStop, Notes};
+use std::alloc::Global;
+use std::io::Write;
+use text_lines::write_text;
+
+/// How many turns a loop makes at most.
+const TURNS: u64 = 4_611_686_018_427_387_904;
+
+/// What was looked for by the clock.
+#[derive(Clone, Copy, Debug, PartialEq, Eq)]
+enum Looked {
+    /// The loop is over.
+    Over,
+    /// No evaluation is asked for.
+    Idle,
+    /// One was made.
+    Evaluated,
+}
+
+/// What was taken of the inputs.
+#[derive(Clone, Copy, Debug, PartialEq, Eq)]
+enum Took {
+    /// Nothing waited.
+    Nothing,
+    /// Something, and more may follow.
+    Something,
+    /// The end that ends the loop.
+    Last,
+}
+
+impl Took {
+    /// What was taken of two inputs.
+    fn and(self, other: Took) -> Took {
+        match (self, other) {
+            (_, Took::Last) => Took::Last,
+            (Took::Nothing, Took::Nothing) => Took::Nothing,
+            _ => Took::Something,
+        }
+    }
+}
+
+/// Writes an answer, and hands it on.
+fn hand_on<W: Write>(answer: &str, out: &mut W) -> Result<(), LoopStop>
+    ensures whole { OnOk result (Appends (W.contents out.old) (W.contents out.new) answer.now) }
+    ensures part { IfErr result (IsUnwritten answer.now (W.contents out.old) (W.contents out.new)) }
+{
+    write_text(out, answer)?;
+    match out.flush() {
+        Ok(()) => Ok(()),
+        Err(_) => Err(LoopStop::Live(LiveStop::Write)),
+    }
+}
+
+/// Makes the evaluation that is asked for at a reading, if one is, and gives its answer in the place of what was in `answer`;
+/// whether one is.
+fn push_evaluation<K: Keeper, N: Notes>(
+    node: &mut FieldNode<K, N>,
+    reading: u64,
+    answer: &mut String,
+) -> Result<bool, LoopStop>
+    requires few { node.old.node.state.lines < 18446744073709551615 }
+    requires kept { K.last node.old.node.keeper ≡ node.old.node.state.core.incarnation }
+    ensures kept { OnOk result (K.last node.new.node.keeper ≡ node.new.node.state.core.incarnation) }
+    ensures few { OnOk result (node.new.node.state.lines ≤ node.old.node.state.lines + 1) }
+{
+    answer.clear();
+    Ok(node.evaluate(reading, answer)?.is_some())
+}
+
+/// Looks at the clock, and makes the evaluation that is asked for then, if one is, and the loop isn't over.
+fn look<K: Keeper, N: Notes, S: TurnSource, W: Write>(
+    node: &mut FieldNode<K, N>,
+    ending: Ending,
+    answer: &mut String,
+    source: &mut S,
+    out: &mut W,
+) -> Result<Looked, LoopStop>
+    requires few { node.old.node.state.lines < 18446744073709551615 }
+    requires kept { K.last node.old.node.keeper ≡ node.old.node.state.core.incarnation }
+    ensures kept { OnOk result (K.last node.new.node.keeper ≡ node.new.node.state.core.incarnation) }
+    ensures few { OnOk result (node.new.node.state.lines ≤ node.old.node.state.lines + 1) }
+{
+    let reading = source.reading()?;
+    if reading >= ending.moment() {
+        return Ok(Looked::Over);
+    }
+    let evaluated = push_evaluation(node, reading, answer)?;
+    hand_on(answer.as_str(), out)?;
+    Ok(if evaluated {
+        Looked::Evaluated
+    } else {
+        Looked::Idle
+    })
+}
+
+/// Gives the answer to what an input told in the place of what was in `answer`.
+fn push_answer<K: Keeper, N: Notes>(
+    node: &mut FieldNode<K, N>,
+    origin: Origin,
+    told: &Told,
+    answer: &mut String,
+) -> Result<(), LoopStop>
+    requires few { node.old.node.state.lines < 18446744073709551615 }
+    requires kept { K.last node.old.node.keeper ≡ node.old.node.state.core.incarnation }
+    ensures kept { OnOk result (K.last node.new.node.keeper ≡ node.new.node.state.core.incarnation) }
+    ensures few { OnOk result (node.new.node.state.lines ≤ node.old.node.state.lines + 1) }
+{
+    answer.clear();
+    match (told, origin) {
+        (Told::Line(line), _) => Ok(node.answer(origin, line.as_slice(), answer)?),
+        (Told::TooLong, _) => Ok(push_field_refused(answer, FieldRefusal::TooLong)?),
+        (Told::End | Told::Unread(_), Origin::Field) => Ok(node.end_field(answer)?),
+        (Told::End, Origin::Neighbours) => Ok(()),
+        (Told::Unread(fault), Origin::Neighbours) => Err(LoopStop::from(*fault)),
+    }
+}
+
+/// What was taken, where an input told this.
+fn taken_of(ending: Ending, origin: Origin, told: &Told) -> Took {
+    if told.is_end() && ending.is_closing(origin) {
+        Took::Last
+    } else {
+        Took::Something
+    }
+}
+
+/// Takes what waits first of an input, if something does, and answers it.
+fn take_one<K: Keeper, N: Notes, S: TurnSource, W: Write>(
+    node: &mut FieldNode<K, N>,
+    ending: Ending,
+    origin: Origin,
+    answer: &mut String,
+    source: &mut S,
+    out: &mut W,
+) -> Result<Took, LoopStop>
+    requires few { node.old.node.state.lines < 18446744073709551615 }
+    requires kept { K.last node.old.node.keeper ≡ node.old.node.state.core.incarnation }
+    ensures kept { OnOk result (K.last node.new.node.keeper ≡ node.new.node.state.core.incarnation) }
+    ensures few { OnOk result (node.new.node.state.lines ≤ node.old.node.state.lines + 1) }
+{
+    let Some(told) = source.take(origin) else {
+        return Ok(Took::Nothing);
+    };
+    push_answer(node, origin, &told, answer)?;
+    hand_on(answer.as_str(), out)?;
+    Ok(taken_of(ending, origin, &told))
+}
+
+/// Takes what waits first of each input, if something does, and answers it.
+fn take_both<K: Keeper, N: Notes, S: TurnSource, W: Write>(
+    node: &mut FieldNode<K, N>,
+    ending: Ending,
+    answer: &mut String,
+    source: &mut S,
+    out: &mut W,
+) -> Result<Took, LoopStop>
+    requires few { node.old.node.state.lines < 18446744073709551614 }
+    requires kept { K.last node.old.node.keeper ≡ node.old.node.state.core.incarnation }
+    ensures kept { OnOk result (K.last node.new.node.keeper ≡ node.new.node.state.core.incarnation) }
+    ensures few { OnOk result (node.new.node.state.lines ≤ node.old.node.state.lines + 2) }
+{
+    let first = take_one(node, ending, Origin::Neighbours, answer, source, out)?;
+    if first == Took::Last {
+        return Ok(Took::Last);
+    }
+    let second = take_one(node, ending, Origin::Field, answer, source, out)?;
+    Ok(first.and(second))
+}
+
+/// A turn: it looks at the clock, makes an evaluation that is due, and answers a line of each input that has one; else it
+/// waits. Whether the loop goes on.
+fn turn<K: Keeper, N: Notes, S: TurnSource, W: Write>(
+    node: &mut FieldNode<K, N>,
+    ending: Ending,
+    answer: &mut String,
+    source: &mut S,
+    out: &mut W,
+) -> Result<bool, LoopStop>
+    requires few { node.old.node.state.lines < 18446744073709551613 }
+    requires kept { K.last node.old.node.keeper ≡ node.old.node.state.core.incarnation }
+    ensures kept { OnOk result (K.last node.new.node.keeper ≡ node.new.node.state.core.incarnation) }
+    ensures few { OnOk result (node.new.node.state.lines ≤ node.old.node.state.lines + 3) }
+{
+    let looked = look(node, ending, answer, source, out)?;
+    if looked == Looked::Over {
+        return Ok(false);
+    }
+    let took = take_both(node, ending, answer, source, out)?;
+    if looked == Looked::Idle && took == Took::Nothing {
+        source.wait(node.next_due().min(ending.moment()));
+    }
+    Ok(took != Took::Last)
+}
+
+/// Writes what a node that begun writes at its start, and then makes turns, to the end: at each it makes the evaluation that
+/// its cycle asks for at what the clock reads, and answers the first line that waits of each input, by that input.
+///
+/// After a stop all turns before the last one are made. Of that one nothing is written after `Node`, `Read`, `Memory` and
+/// `Clock`, and a beginning of its answer after `Write`, or of what is written at the start. A loop of
+/// 4,611,686,018,427,387,904 turns stops with `Clock`.
+pub fn run_loop<K: Keeper, N: Notes, S: TurnSource, W: Write>(
+    alloc: Global,
+    node: &mut FieldNode<K, N>,
+    begun: &str,
+    ending: Ending,
+    source: &mut S,
+    out: &mut W,
+) -> Result<(), LoopStop>
+    requires fresh { node.old.node.state.lines ≡ 0 }
+    requires kept { K.last node.old.node.keeper ≡ node.old.node.state.core.incarnation }
+    ensures kept { OnOk result (K.last node.new.node.keeper ≡ node.new.node.state.core.incarnation) }
+{
+    let mut answer = String::new(alloc);
+    hand_on(begun, out)?;
+    source.start()?;
+    for _ in 0..TURNS {
+        if !turn(node, ending, &mut answer, source, out)? {
+            return Ok(());
+        }
+    }
+    Err(LoopStop::Clock)
+}

@@ -1,0 +1,136 @@
+//! The command `node` where the node has a field, or runs by itself.
+
+ghost use Rattle.std.specs.Prelude.{◌<◌, length};
+
+use console::{NodeRequest, PreparedNode};
+use cycle::Origin;
+use field_node::FieldNode;
+use keepers::Keeper;
+use live_node::{Node, Notes};
+use node_loop::{Ending, LiveSource, LoopStop, ReaderEnds, TurnSource, connect, run_loop};
+use std::alloc::Global;
+use std::io;
+use std::io::Write;
+use std::rt::Clock;
+use std::sync::{Arc, Wait};
+
+/// How a node runs: whether it has a field, whether it makes its evaluations by itself, and when it ends.
+#[derive(Clone, Copy, Debug)]
+pub struct Alone {
+    pub has_field: bool,
+    pub cycles: bool,
+    pub ending: Ending,
+}
+
+/// Which inputs are read: standard input, as one of them, and the file of the field.
+#[derive(Drop)]
+pub struct Inputs {
+    pub standard: Origin,
+    pub field: Option<String>,
+}
+
+/// Whether it is asked for that a node has a field, or runs by itself.
+pub fn is_alone(request: &NodeRequest<'_>) -> bool {
+    request.cycles || request.field.is_some()
+}
+
+/// Which inputs are asked for.
+fn inputs_of(alloc: Global, request: &NodeRequest<'_>) -> Result<Inputs, LoopStop> {
+    match request.field {
+        None => Ok(Inputs {
+            standard: Origin::Neighbours,
+            field: None,
+        }),
+        Some("-") => Ok(Inputs {
+            standard: Origin::Field,
+            field: None,
+        }),
+        Some(path) => Ok(Inputs {
+            standard: Origin::Neighbours,
+            field: Some(String::from_str(alloc, path)?),
+        }),
+    }
+}
+
+/// How it is asked for that a node runs. Without a cycle it ends at the end of standard input.
+fn alone_of(request: &NodeRequest<'_>, standard: Origin) -> Alone {
+    let closing = if request.cycles { None } else { Some(standard) };
+    Alone {
+        has_field: request.field.is_some(),
+        cycles: request.cycles,
+        ending: Ending {
+            until: request.until,
+            closing,
+        },
+    }
+}
+
+/// Begins a node, and has it make its turns, to the end; it answers with the node as it is then.
+fn run_turns<K: Keeper, N: Notes, S: TurnSource, W: Write>(
+    alloc: Global,
+    prepared: PreparedNode,
+    alone: Alone,
+    keeper: K,
+    notes: N,
+    source: &mut S,
+    writer: &mut W,
+) -> Result<FieldNode<K, N>, LoopStop>
+    requires { prepared.resource < length prepared.plant.value.resources }
+{
+    let PreparedNode { plant, resource } = prepared;
+    let shared = Arc::try_clone(&plant)?;
+    let mut begun = String::new(alloc);
+    let node = match Node::begin(alloc, shared, resource, keeper, notes, &mut begun) {
+        Ok(node) => node,
+        Err((_notes, stop)) => return Err(LoopStop::from(stop)),
+    };
+    let mut node = FieldNode::of(alloc, plant, resource, alone.has_field, alone.cycles, node)?;
+    run_loop(
+        alloc,
+        &mut node,
+        begun.as_str(),
+        alone.ending,
+        source,
+        writer,
+    )?;
+    Ok(node)
+}
+
+/// Runs a node beside the readers of its inputs, on the clock and standard output. `readers` starts these; whether all are
+/// started.
+pub fn run_alone<
+    R: Clock + Print + AllocGlobal + Wait,
+    K: Keeper,
+    N: Notes,
+    S: FnOnce(Inputs, ReaderEnds) -> bool,
+>(
+    rt: &R,
+    request: &NodeRequest<'_>,
+    prepared: PreparedNode,
+    keeper: K,
+    notes: N,
+    readers: S,
+) -> Result<(), NodeFault>
+    requires exists { prepared.resource < length prepared.plant.value.resources }
+    requires readers { (inputs : _) → (ends : _) → S.pre readers inputs ends }
+{
+    let alloc = rt.alloc();
+    let inputs = inputs_of(alloc, request)?;
+    let alone = alone_of(request, inputs.standard);
+    let (ends, of_readers) = connect(alloc)?;
+    if !readers(inputs, of_readers) {
+        return Err(NodeFault::Unread);
+    }
+    let mut source = LiveSource::new(rt, ends)?;
+    let mut writer = io::writer(rt);
+    run_turns(
+        alloc,
+        prepared,
+        alone,
+        keeper,
+        notes,
+        &mut source,
+        &mut writer,
+    )?;
+    Ok(())
+}
