@@ -1,5 +1,5 @@
 ghost use Rattle.std.specs.Prelude.{◌≡◌};
-ghost use Rattle.guidance.specs.Kinds.{layer_text};
+ghost use Rattle.guidance.specs.Steps.Advices.{layer_text};
 
 /// What is refused.
 #[derive(Clone, Copy)]

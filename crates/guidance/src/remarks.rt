@@ -1,8 +1,5 @@
 //! Kinds that are told of no text but of what happens: where each is met, and what it means. The guides in docs/ say the same.
 
-ghost use Rattle.std.specs.Prelude.{◌≡◌};
-ghost use Rattle.guidance.specs.Explaining.{occasion_text, remarks_of};
-
 /// Where a kind is met.
 #[derive(Clone, Copy, Debug, PartialEq, Eq)]
 pub enum Occasion {
@@ -32,9 +29,7 @@ pub const OCCASIONS: [Occasion; 6] = [
 
 impl Occasion {
     /// Where it is met, in words.
-    pub fn text(self) -> &'static str
-        ensures { result.now ≡ occasion_text self }
-    {
+    pub fn text(self) -> &'static str {
         match self {
             Occasion::Event => "in a REFUSED line of plc sim",
             Occasion::Command => "in a FAULT line of plc run",
@@ -46,9 +41,7 @@ impl Occasion {
     }
 
     /// The kinds that are met there.
-    pub fn remarks(self) -> &'static [Remark]
-        ensures { result.now ≡ remarks_of self }
-    {
+    pub fn remarks(self) -> &'static [Remark] {
         match self {
             Occasion::Event => &EVENTS,
             Occasion::Command => &COMMANDS,

@@ -1,5 +1,4 @@
 ghost use Rattle.std.specs.Prelude.{◌≡◌};
-ghost use Rattle.guidance.specs.Kinds.{kind_text};
 ghost use Rattle.guidance.specs.Steps.Advices.{IsAdviceOn};
 ghost use Rattle.guidance.specs.Topics.{of_drawing, of_networks, of_names, of_body, of_plant};
 
@@ -78,13 +77,6 @@ pub const TOPICS: [Topic; 29] = [
 ];
 
 impl Topic {
-    /// Its name, as messages have it.
-    pub fn kind(self) -> &'static str
-        ensures { result.now ≡ kind_text self }
-    {
-        self.advice().kind
-    }
-
     /// What is told of it.
     pub fn advice(self) -> Advice
         ensures { IsAdviceOn self result }
