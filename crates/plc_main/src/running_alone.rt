@@ -2,6 +2,7 @@
 
 ghost use Rattle.std.specs.Prelude.{◌<◌, length};
 
+use crate::node_command::NodeFault;
 use console::{NodeRequest, PreparedNode};
 use cycle::Origin;
 use field_node::FieldNode;
