@@ -1,9 +1,9 @@
 -- The statuses with which the program ends.
 use Rattle.std.specs.Prelude.{ℕ}
 use Rattle.verifying.specs.declared.verify_fault.VerifyFault.{VerifyFault}
-use Rattle.verifying.specs.declared.verify_fault.VerifyFault.TheVariants.{Command, Claim, Held, TooManyInputs, NoTime}
+use Rattle.verifying.specs.declared.verify_fault.VerifyFault.TheVariants.{Command, Claim, Given, Held, TooManyInputs, NoTime}
 use Rattle.verifying_plants.specs.declared.verify_plant_fault.VerifyPlantFault.{VerifyPlantFault}
-use Rattle.verifying_plants.specs.declared.verify_plant_fault.VerifyPlantFault.TheVariants.{Command as PlantCommand, Claim as PlantClaim, Given, Range}
+use Rattle.verifying_plants.specs.declared.verify_plant_fault.VerifyPlantFault.TheVariants.{Command as PlantCommand, Claim as PlantClaim, Given as PlantGiven, Range}
 use Rattle.verifying.specs.declared.summary.Summary.{Summary}
 use Rattle.verifying.specs.declared.summary.Summary.TheVariants.{AllHold, OneFails, OneUndecided}
 use Rattle.console.specs.declared.command_fault.CommandFault.{CommandFault}
@@ -35,6 +35,7 @@ status_of_fault Memory = 3
 abbrev pub status_of_question : VerifyFault → ℕ
 status_of_question (Command fault) = status_of_fault (command_fault fault)
 status_of_question (Claim fault) = 2
+status_of_question (Given fault) = 2
 status_of_question (Held fault) = 2
 status_of_question (TooManyInputs free) = 2
 status_of_question NoTime = 2
@@ -43,7 +44,7 @@ status_of_question NoTime = 2
 abbrev pub status_of_plant_question : VerifyPlantFault → ℕ
 status_of_plant_question (PlantCommand fault) = status_of_fault (command_fault fault)
 status_of_plant_question (PlantClaim fault) = 2
-status_of_plant_question (Given fault) = 2
+status_of_plant_question (PlantGiven fault) = 2
 status_of_plant_question (Range fault) = 2
 
 -- after a fault of words for field inputs it is 2 if they are refused, and 3 for want of memory

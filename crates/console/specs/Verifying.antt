@@ -1,5 +1,5 @@
 -- What the words of `plc verify` ask.
-use Rattle.std.specs.Prelude.{◌==◌, ◌&&◌, ◌||◌, ℕ, Bool, true, is_none, List, [], ◌∷◌, not, unwrap_or, if◌then◌else◌, length}
+use Rattle.std.specs.Prelude.{◌==◌, ◌&&◌, ◌||◌, ℕ, Bool, true, is_none, List, [], ◌∷◌, not, unwrap_or, if◌then◌else◌}
 use Rattle.std.specs.List.{list_any}
 use Rattle.console.specs.declared.request.VerifyRequest.{VerifyRequest}
 use Rattle.console.specs.declared.verify_answer.Subject.{Subject}
@@ -24,19 +24,21 @@ are_plain (name ∷ names) = not (is_of_plant name) && are_plain names
 
 -- nothing is asked that is asked of plants alone
 abbrev pub is_of_drawings : VerifyRequest → Bool
-is_of_drawings request = (length request.given.items == 0) && (not request.no_restarts && is_none request.most_waiting)
+is_of_drawings request = not request.no_restarts && is_none request.most_waiting
 
 -- it is about a plant where all words are of one, about a drawing where none has, and nothing is asked of plants alone
 abbrev pub subject_of : VerifyRequest → Subject
 subject_of request =
     if are_of_plant (texts request.claims.items) && are_of_plant (texts request.given.items) then Plant
-    else (if are_plain (texts request.claims.items) && is_of_drawings request then Drawing else Neither)
+    else (if are_plain (texts request.claims.items) && (are_plain (texts request.given.items) && is_of_drawings request) then Drawing else Neither)
 
--- the claims, the words, the time between scans and the number of states of the request, for the drawing in this file
+-- the claims, what is given, the words, the time between scans and the number of states of the request, for the drawing in
+-- this file
 abbrev pub asked_question : List ℕ → VerifyRequest → QuestionValue
 asked_question file request = record {
   file = file;
   claims = texts request.claims.items;
+  given = texts request.given.items;
   words = texts request.words.items;
   dt = unwrap_or request.dt 0;
   most_states = request.most_states;

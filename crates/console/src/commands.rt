@@ -261,7 +261,7 @@ fn given_arg<'a>(alloc: Global) -> Arg<'a>
         .value_name("NAME")
         .action(ArgAction::Append)
         .help(
-            "Of a plant: only runs in which each evaluation leaves this output R.P.V TRUE; may be given several times",
+            "Only runs in which each scan leaves this variable TRUE, or each evaluation this output R.P.V of a plant; may be given several times",
         )
 }
 

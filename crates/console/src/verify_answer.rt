@@ -58,17 +58,17 @@ fn are_plain(names: &[&str]) -> bool
 fn is_of_drawings(request: &VerifyRequest<'_>) -> bool
     ensures { result ≡ is_of_drawings request.now }
 {
-    request.given.is_empty() && !request.no_restarts && request.most_waiting.is_none()
+    !request.no_restarts && request.most_waiting.is_none()
 }
 
-/// What a question is about: all names have dots in a plant, none in a drawing, of which only claims, words, the time and the
-/// number of states are asked.
+/// What a question is about: all names have dots in a plant, none in a drawing, of which neither restarts nor waiting images
+/// are asked.
 fn subject_of(request: &VerifyRequest<'_>) -> Subject
     ensures { result ≡ subject_of request.now }
 {
     if are_of_plant(&request.claims) && are_of_plant(&request.given) {
         Subject::Plant
-    } else if are_plain(&request.claims) && is_of_drawings(request) {
+    } else if are_plain(&request.claims) && are_plain(&request.given) && is_of_drawings(request) {
         Subject::Drawing
     } else {
         Subject::Neither
@@ -79,7 +79,7 @@ fn subject_of(request: &VerifyRequest<'_>) -> Subject
 const MOST_WAITING: u32 = 8;
 
 const NEITHER: &str =
-    "names without a dot are of a drawing, names R.P.V of a plant, and a question is about one of them; --given, --no-restarts and --most-waiting are of plants";
+    "names without a dot are of a drawing, names R.P.V of a plant, and a question is about one of them; --no-restarts and --most-waiting are of plants";
 
 /// Writes what is true of the claims about the drawing in the text. The file is the word that stands for it before the words
 /// for `plc eval`. How far the search is is told meanwhile.
@@ -97,6 +97,7 @@ pub fn obey_verify<W: Write, P: Progress>(
     let question = Question {
         file,
         claims: &request.claims,
+        given: &request.given,
         words: &request.words,
         dt: request.dt.unwrap_or(0),
         most_states: request.most_states,
@@ -131,6 +132,10 @@ fn print_verify_fault<R: Eprint + AllocGlobal>(
         VerifyFault::Claim(fault) => {
             let is_unknown = fault.kind == ClaimFaultKind::NoVariable;
             print_fault_of_word(rt, text, &request.claims, fault.number, is_unknown, fault)
+        }
+        VerifyFault::Given(fault) => {
+            let is_unknown = fault.kind == ClaimFaultKind::NoVariable;
+            print_fault_of_word(rt, text, &request.given, fault.number, is_unknown, fault)
         }
         VerifyFault::Held(fault) => {
             print_fault_of_word(rt, text, &request.words, fault.number, false, fault)

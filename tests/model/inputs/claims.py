@@ -38,5 +38,7 @@ def claims(chance):
     given += ["--dt", str(chance.choice([0, 1, 1, 10, 10, 25, 1000, 1000]))] * (chance.random() < 0.9)
     for name in chance.sample(stored, min(len(stored), chance.randint(1, 3))):
         given += ["--never", cased(chance, name)]
+    for name in chance.sample(stored, min(len(stored), chance.choice([0, 0, 0, 1, 1, 2]))):
+        given += ["--given", cased(chance, name)]
     held = chance.sample(inputs, max(0, len(inputs) - chance.randint(0, MOST_FREE)))
     return files, [given + [f"{cased(chance, name)}={chance.randint(0, 1)}" for name in held]]

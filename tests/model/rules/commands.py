@@ -302,7 +302,7 @@ def rows_of(given, variables):
     return rows, expected
 
 
-OF_PLANTS = {"--given", "--no-restarts", "--most-waiting"}
+OF_PLANTS = {"--no-restarts", "--most-waiting"}
 MOST_STATES, MOST_WAITING = 1_000_000, 8
 
 
@@ -347,19 +347,20 @@ def verify_drawing(write, files, paths, options, more):
     stored = stored_names(ladder.drawing)
     rows, expected = rows_of(more, [it for it in ladder.declarations if words.fold(it.name) in bits])
     claims = [words.fold(it) for it in options["--never"]]
+    given = [words.fold(it) for it in options.get("--given", ())]
     free = [it for it in bits if it not in stored and it not in rows]
     is_held = not expected and all(len(digits) == 1 and name not in stored for name, digits in rows.items())
     is_timed = options.get("--dt", 0) or not any(it.role == "Instance" and it.kind in TIMERS for it in ladder.declarations)
-    if not is_held or not set(claims) <= stored & set(bits) or len(free) > MOST_INPUTS or not is_timed:
+    if not is_held or not {*claims, *given} <= stored & set(bits) or len(free) > MOST_INPUTS or not is_timed:
         raise Refused(REFUSED_WORDS)
     held = {name: digits == "1" for name, digits in rows.items()}
-    found = Search(ladder, options.get("--dt", 0), free, held, claims, options.get("--most-states", 1_000_000))
+    found = Search(ladder, options.get("--dt", 0), free, held, claims, given, options.get("--most-states", 1_000_000))
     found.search()
     for name in options["--never"]:
         for line in verdict_lines(found, name, paths[0]):
             write(line)
-    if given := premises(found, stored):
-        write("given " + ", ".join(given))
+    if told := premises(found, stored):
+        write("given " + ", ".join(told))
     if found.runs:
         raise Refused(CLAIM_FAILS)
     if found.depth is not None:
