@@ -44,26 +44,25 @@ between : (plant : PlantValue) (firsts : List ℕ) (max_number resource first : 
     → Contains (filter_map restarted_in (reverse before)) n → (first < n) × (n ≤ incarnation_after first before)
 between plant firsts max_number resource first opening [] each n there = absurd (in_none n there)
 between plant firsts max_number resource first opening (s ∷ before) each n there =
-    by s each (Contains-append_cases (filter_map restarted_in (reverse before)) (filter_map restarted_in (s ∷ [])) n (subst (λ (l : List ℕ). Contains l n) (newest_last s before) there))
+    by s each (λ lawful was. between plant firsts max_number resource first opening before lawful n was)
+    (Contains-append_cases (filter_map restarted_in (reverse before)) (filter_map restarted_in (s ∷ [])) n (subst (λ (l : List ℕ). Contains l n) (newest_last s before) there))
   where
-    earlier : EachAfter (Follows plant firsts max_number resource first opening) before → Contains (filter_map restarted_in (reverse before)) n → (first < n) × (n ≤ incarnation_after first before)
-    earlier lawful was = between plant firsts max_number resource first opening before lawful n was
-
-    by : (s : Step) → EachAfter (Follows plant firsts max_number resource first opening) (s ∷ before) → Contains (filter_map restarted_in (reverse before)) n ⊎ Contains (filter_map restarted_in (s ∷ [])) n
-        → (first < n) × (n ≤ incarnation_after first (s ∷ before))
-    by (Took x) each (inl was) = earlier each.1 was
-    by (Took x) each (inr here) = absurd (in_none n here)
-    by (Made x) each (inl was) = earlier each.1 was
-    by (Made x) each (inr here) = absurd (in_none n here)
-    by (Heard of heard) each (inl was) = earlier each.1 was
-    by (Heard of heard) each (inr here) = absurd (in_none n here)
-    by (Restarted ticket incarnation) each (inl was) =
+    by : (s : Step) → EachAfter (Follows plant firsts max_number resource first opening) (s ∷ before)
+        → (EachAfter (Follows plant firsts max_number resource first opening) before → Contains (filter_map restarted_in (reverse before)) n → (first < n) × (n ≤ incarnation_after first before))
+        → Contains (filter_map restarted_in (reverse before)) n ⊎ Contains (filter_map restarted_in (s ∷ [])) n → (first < n) × (n ≤ incarnation_after first (s ∷ before))
+    by (Took x) each earlier (inl was) = earlier each.1 was
+    by (Took x) each earlier (inr here) = absurd (in_none n here)
+    by (Made x) each earlier (inl was) = earlier each.1 was
+    by (Made x) each earlier (inr here) = absurd (in_none n here)
+    by (Heard of heard) each earlier (inl was) = earlier each.1 was
+    by (Heard of heard) each earlier (inr here) = absurd (in_none n here)
+    by (Restarted ticket incarnation) each earlier (inl was) =
         let above = each.0 in
         let so = earlier each.1 was in
         let least = so.0 in
         let most = so.1 in
         (least, omega (arith, most, above))
-    by (Restarted ticket incarnation) each (inr here) = one (cons_cases incarnation [] n here)
+    by (Restarted ticket incarnation) each earlier (inr here) = one (cons_cases incarnation [] n here)
       where
         one : (incarnation ≡ n) ⊎ Contains [] n → (first < n) × (n ≤ incarnation)
         one (inl is) =

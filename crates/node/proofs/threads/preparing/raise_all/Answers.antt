@@ -76,3 +76,17 @@ returns-in_err-one-clause-later g c =
     kept_fault found (ComesAfterFirst g.K.Keeper.raise_gives c.args.keepers.items) _ c.from_residual.ensures.1
     (λ other. first_asked g.K.Keeper.raise_gives c.args.keepers.items asked.0 c.in-Some.keeper (into_iter_items c.next.new.self) (asked.1 ∙ ap (λ ks. asked.0 ++ ks) rest_is) asked.4
     (c.in_err-one.ensures.later other))
+
+pub returns-in_default-clause-later : goal.returns-in_default-clause-later
+returns-in_default-clause-later g c = λ other.
+    let asked = c.loop-keeper.invariant.3 in
+    let rest_is : into_iter_items c.loop-keeper.keeper-iterator ≡ c.in-Some.keeper ∷ into_iter_items c.next.new.self = search rules in
+    first_asked g.K.Keeper.raise_gives c.args.keepers.items asked.0 c.in-Some.keeper (into_iter_items c.next.new.self) (asked.1 ∙ ap (λ ks. asked.0 ++ ks) rest_is) asked.4
+    c.in_ok-one.ensures.may
+
+pub returns-in_default-push-clause-later : goal.returns-in_default-push-clause-later
+returns-in_default-push-clause-later g c = λ other.
+    let asked = c.loop-keeper.invariant.3 in
+    let rest_is : into_iter_items c.loop-keeper.keeper-iterator ≡ c.in-Some.keeper ∷ into_iter_items c.next.new.self = search rules in
+    first_asked g.K.Keeper.raise_gives c.args.keepers.items asked.0 c.in-Some.keeper (into_iter_items c.next.new.self) (asked.1 ∙ ap (λ ks. asked.0 ++ ks) rest_is) asked.4
+    c.in_ok-one.ensures.may
