@@ -5,5 +5,6 @@ pub mod Noting
 pub mod Opened
 pub mod Refused
 pub mod Refusing
+pub mod Rising
 pub mod Told
 pub mod Unreported

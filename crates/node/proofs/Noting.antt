@@ -5,10 +5,12 @@ use Rattle.std.proofs.lemmas.List.{map-append, take_all, take_more}
 use Rattle.std.proofs.lemmas.Option.{none-some, same_Some}
 use Rattle.std.proofs.lemmas.List.Elements.{Contains-append_left, Contains-append_right, Contains-append_cases}
 use Rattle.lists.proofs.Members.{cons_first, cons_later, cons_cases}
+use Rattle.evaluation.specs.Meaning.{Evaluated}
+use Rattle.node_reports.specs.declared.cause.Cause.{Cause}
 use Rattle.node_reports.specs.declared.node_fault.NodeFault.{NodeFault}
 use Rattle.node_reports.specs.Reports.{fault_tickets}
 use Rattle.node.specs.declared.threads.noted.Noted.{Noted}
-use Rattle.node.specs.Steps.Keeping.{TellsMore, NotesMore}
+use Rattle.node.specs.Steps.Keeping.{TellsMore, NotesMore, NotesAtMost, Storing, IsUnkept, NotesUnkept}
 
 pub more_same : (faults : List NodeFault) → TellsMore faults faults
 more_same faults = λ ticket there. there
@@ -76,3 +78,8 @@ taken_pushed xs old new k d within is was = λ ticket there.
 
 pub taken_all : (xs faults : List NodeFault) (k : ℕ) → length xs ≤ k → TellsMore (take k xs) faults → TellsMore xs faults
 taken_all xs faults k all was = subst (λ (l : List NodeFault). TellsMore l faults) (take_all k xs all) was
+
+-- why what an evaluation left isn't kept was noted
+pub unkept_noted : {K : Type 0} (stores : K → Storing) (old new : K) (noted_old noted_new : Noted) (x : Evaluated) (cause : Cause) → IsUnkept stores old new x cause
+    → NotesAtMost noted_old.listed.items noted_new.listed.items (record { resource = x.name.task.resource; ticket = x.ticket; cause = cause }) → NotesUnkept stores old new noted_old noted_new x
+unkept_noted stores old new noted_old noted_new x cause is told = inr (cause, is, told)

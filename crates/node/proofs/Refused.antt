@@ -1,5 +1,7 @@
 -- Which keeper may have answered a fault before the start.
-use Rattle.std.proofs.Common.{◌≡◌, ℕ, ◌++◌, List, [], ◌∷◌, Some, Result, Err, slice_get, length, refl, sym, ap, subst, ◌∙◌}
+use Rattle.std.proofs.Common.{◌≡◌, ◌≢◌, ℕ, ◌<◌, ◌^◌, ◌++◌, List, [], ◌∷◌, Some, Result, Ok, Err, slice_get, length, refl, sym, ap, subst, ◌∙◌}
+use Rattle.std.proofs.lemmas.Option.{none-some, same_Some}
+use Rattle.std.proofs.lemmas.List.{append-nil}
 use Rattle.task_codes.specs.CodeValue.{CodeValue}
 use Rattle.plant.specs.PlantValue.{PlantValue, code_at}
 use Rattle.keepers.specs.declared.keeper_fault.KeeperFault.{KeeperFault}
@@ -12,7 +14,7 @@ use Rattle.node_reports.specs.declared.journal.Journal.{Journal}
 use Rattle.node_reports.specs.declared.node_fault.NodeFault.{NodeFault}
 use Rattle.node_reports.specs.Reports.{IsCollectFault}
 use Rattle.node_reports.specs.RunFaults.{IsStartFault}
-use Rattle.node.specs.Raises.{MayNotTell, MayRefuse, OneMayRefuse}
+use Rattle.node.specs.Raises.{MayNotTell, MayRefuse, OneMayRefuse, MayRaise, FirstMayRaise, ComesAfterFirst}
 
 -- a fault of a task's telling, which could be told at first too
 pub not_told : (first now : Telling) (plant : PlantValue) (resource task : ℕ) (code : CodeValue) (why : KeeperFault) → TellsNoMore first now → code_at plant (record { resource = resource; task = task }) ≡ Some code → now task code (Err why)
@@ -45,3 +47,21 @@ one_refused {K} f gives tells plant all asked keeper rest resource are counted m
 pub none_collected : {K : Type 0} (f : RunFault) (gives : K → Result ℕ KeeperFault → Type 0) (tells : K → Telling) (plant : PlantValue) (keepers : List K) (found : PlantValue) (commands : List Command) (book : BookValue) (journals : List Journal) (noted : List NodeFault)
     → IsCollectFault found commands book journals noted f → OneMayRefuse gives tells plant keepers f
 none_collected f gives tells plant keepers found commands book journals noted is = λ e. absurd (subst (IsCollectFault found commands book journals noted) e is)
+
+-- where a keeper was raised it may be
+pub may_raise : (gives : Result ℕ KeeperFault → Type 0) (incarnation : ℕ) → incarnation < 2 ^ 32 → gives (Ok incarnation) → MayRaise gives
+may_raise gives incarnation small given = (incarnation, small, given)
+
+-- the first of those that were asked, and then this one
+pub first_none : {K : Type 0} (gives : K → Result ℕ KeeperFault → Type 0) → FirstMayRaise gives []
+first_none gives = λ keeper at. absurd (none-some keeper at)
+
+pub first_asked : {K : Type 0} (gives : K → Result ℕ KeeperFault → Type 0) (all asked : List K) (keeper : K) (rest : List K) → all ≡ asked ++ keeper ∷ rest → FirstMayRaise gives asked → MayRaise (gives keeper) → FirstMayRaise gives all
+first_asked {K} gives all asked keeper rest are first may = subst (FirstMayRaise gives) (sym are) (by asked first)
+  where
+    by : (asked : List K) → FirstMayRaise gives asked → FirstMayRaise gives (asked ++ keeper ∷ rest)
+    by [] first = λ one at. subst (λ (k : K). MayRaise (gives k)) (same_Some keeper one at) may
+    by (a ∷ asked) first = λ one at. first one at
+
+pub first_all : {K : Type 0} (gives : K → Result ℕ KeeperFault → Type 0) (all asked rest : List K) → all ≡ asked ++ rest → rest ≡ [] → FirstMayRaise gives asked → FirstMayRaise gives all
+first_all {K} gives all asked rest are none first = subst (FirstMayRaise gives) (sym (are ∙ ap (λ (l : List K). asked ++ l) none ∙ append-nil asked)) first

@@ -1,5 +1,5 @@
 -- How the keepers of a run are raised as it begins, and asked what they keep.
-use Rattle.std.specs.Prelude.{◌≡◌, ◌⊎◌, ℕ, List, Some, Result, Ok, Err, slice_get}
+use Rattle.std.specs.Prelude.{◌≡◌, ◌≢◌, ◌⊎◌, ℕ, ◌<◌, ◌^◌, List, Some, Result, Ok, Err, slice_get}
 use Rattle.task_codes.specs.CodeValue.{CodeValue}
 use Rattle.plant.specs.PlantValue.{PlantValue, code_at}
 use Rattle.keepers.specs.Keepers.{Telling}
@@ -28,3 +28,15 @@ MayRefuse gives tells plant resource = ((fault : KeeperFault) × gives (Err faul
 abbrev pub OneMayRefuse : {K : Type 0} → (K → Result ℕ KeeperFault → Type 0) → (K → Telling) → PlantValue → List K → RunFault → Type 0
 OneMayRefuse {K} gives tells plant keepers fault =
     fault ≡ Keeper → (k : ℕ) × (keeper : K) × (slice_get keepers k ≡ Some keeper) × MayRefuse (gives keeper) (tells keeper) plant k
+
+-- a keeper may answer an incarnation where it is raised
+abbrev pub MayRaise : (Result ℕ KeeperFault → Type 0) → Type 0
+MayRaise gives = (incarnation : ℕ) × (incarnation < 2 ^ 32) × gives (Ok incarnation)
+
+-- the first of these keepers, if there is one, may
+abbrev pub FirstMayRaise : {K : Type 0} → (K → Result ℕ KeeperFault → Type 0) → List K → Type 0
+FirstMayRaise {K} gives keepers = (keeper : K) → slice_get keepers 0 ≡ Some keeper → MayRaise (gives keeper)
+
+-- a run gives no report for another reason than its keepers only where the first of them may be raised
+abbrev pub ComesAfterFirst : {K : Type 0} → (K → Result ℕ KeeperFault → Type 0) → List K → RunFault → Type 0
+ComesAfterFirst gives keepers fault = fault ≢ Keeper → FirstMayRaise gives keepers

@@ -5,6 +5,7 @@
 mod clock_gate;
 mod free_gate;
 mod gate;
+mod laws;
 mod out_of_turns;
 mod paced_gate;
 mod running;
@@ -14,6 +15,7 @@ pub use clock_gate::ClockGate;
 pub use free_gate::FreeGate;
 pub use gate::Gate;
 pub use keepers::{Keeper, KeeperFault, MemoryKeeper};
+pub use laws::runs_rise;
 pub use node_reports::{
     Act, Cause, Command, Journal, Journals, NodeFault, NodeFaults, Opening, Report, RunFault, Step,
     Steps, Tickets, are_for_plant, are_numbered,

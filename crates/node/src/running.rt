@@ -1,9 +1,9 @@
-ghost use Rattle.std.specs.Prelude.{◌≡◌, IfOk, IfErr, length, vec_len};
+ghost use Rattle.std.specs.Prelude.{◌≡◌, IfOk, IfErr, OnOk, length, vec_len};
 ghost use Rattle.node_reports.specs.Commands.{AreNumbered, AreForPlant};
 ghost use Rattle.node_reports.specs.Journals.{BeginAbove};
 ghost use Rattle.node.specs.Keeping.{KeepAllLeft};
 ghost use Rattle.node.specs.Openings.{OpenAsTold};
-ghost use Rattle.node.specs.Raises.{BeginAsRaised, OneMayRefuse};
+ghost use Rattle.node.specs.Raises.{BeginAsRaised, ComesAfterFirst, FirstMayRaise, OneMayRefuse};
 ghost use Rattle.node_reports.specs.Reports.{IsFittingBook, AreJournalsOf, AreInBook, AreAnswers, RunsAgain, CanBeMadeAgain, AreTold, IsRunFault};
 
 use crate::gate::Gate;
@@ -44,6 +44,8 @@ pub fn run_threads<R: Threads + Wait + Sync, K: Keeper, G: Gate>(
     ensures opened { IfOk result (λ r. OpenAsTold K.kept_gives plant.value keepers.items r.journals) }
     ensures fault { IfErr result (IsRunFault plant.value max_number commands.now) }
     ensures refused { IfErr result (OneMayRefuse K.raise_gives K.kept_gives plant.value keepers.items) }
+    ensures may { OnOk result (FirstMayRaise K.raise_gives keepers.items) }
+    ensures later { IfErr result (ComesAfterFirst K.raise_gives keepers.items) }
 {
     let (report, _keepers) = run_with_keepers(
         rt, alloc, plant, commands, keepers, gate, max_number,
@@ -77,6 +79,8 @@ pub fn run_with_keepers<R: Threads + Wait + Sync, K: Keeper, G: Gate>(
     ensures kept { IfOk result (λ r. KeepAllLeft K.last K.kept_gives plant.value r.0.node_faults r.1.items r.0.journals) }
     ensures fault { IfErr result (IsRunFault plant.value max_number commands.now) }
     ensures refused { IfErr result (OneMayRefuse K.raise_gives K.kept_gives plant.value keepers.items) }
+    ensures may { OnOk result (FirstMayRaise K.raise_gives keepers.items) }
+    ensures later { IfErr result (ComesAfterFirst K.raise_gives keepers.items) }
 {
     let Outcome {
         book,

@@ -23,13 +23,13 @@ mod starting;
 mod worker;
 mod worker_state;
 
-ghost use Rattle.std.specs.Prelude.{◌≡◌, All, IfOk, IfErr, length};
+ghost use Rattle.std.specs.Prelude.{◌≡◌, All, IfOk, IfErr, OnOk, length};
 ghost use Rattle.node_reports.specs.Codes.{AreOfPlant};
 ghost use Rattle.node_reports.specs.Journals.{firsts_of, IsLawful, BeginAbove};
 ghost use Rattle.node_reports.specs.RunFaults.{IsStartFault, IsThreadsFault};
 ghost use Rattle.node.specs.Openings.{OpenAsTold};
 ghost use Rattle.node.specs.Keeping.{KeepAllLeft};
-ghost use Rattle.node.specs.Raises.{BeginAsRaised, OneMayRefuse};
+ghost use Rattle.node.specs.Raises.{BeginAsRaised, ComesAfterFirst, FirstMayRaise, OneMayRefuse};
 ghost use Rattle.node.specs.Steps.Keeping.{IsLeftKept};
 ghost use Rattle.node.specs.Steps.Working.{IsWorkerFor, firsts_of_workers, firsts_of_ended, openings_of_workers, openings_of_ended};
 
@@ -149,6 +149,8 @@ fn run_for<P: OfPlant + Send + Sync, R: Threads + Wait + Sync, K: Keeper, G: Gat
     ensures kept { IfOk result (λ o. KeepAllLeft K.last K.kept_gives plant.now.value o.faults.items o.keepers.items o.journals.items) }
     ensures fault { IfErr result IsThreadsFault }
     ensures refused { IfErr result (OneMayRefuse K.raise_gives K.kept_gives plant.now.value keepers.items) }
+    ensures may { OnOk result (FirstMayRaise K.raise_gives keepers.items) }
+    ensures later { IfErr result (ComesAfterFirst K.raise_gives keepers.items) }
 {
     let (raised, firsts) = raise_all(alloc, plant, keepers)?;
     let workers = make_workers(
@@ -212,6 +214,8 @@ pub fn run_all<R: Threads + Wait + Sync, K: Keeper, G: Gate>(
     ensures kept { IfOk result (λ o. KeepAllLeft K.last K.kept_gives plant.now.value o.faults.items o.keepers.items o.journals.items) }
     ensures fault { IfErr result IsThreadsFault }
     ensures refused { IfErr result (OneMayRefuse K.raise_gives K.kept_gives plant.now.value keepers.items) }
+    ensures may { OnOk result (FirstMayRaise K.raise_gives keepers.items) }
+    ensures later { IfErr result (ComesAfterFirst K.raise_gives keepers.items) }
 {
     run_for::<Brand, R, K, G>(rt, alloc, plant, commands, keepers, gate, max_number)
 }

@@ -3,7 +3,7 @@
 use crate::checks::{equal, holds, must};
 use crate::gates::MeetingGate;
 use crate::runs::{
-    Ask, Told, commands_of, has_told, has_told_on, keepers_of, plant_of, run, run_on,
+    Ask, Told, commands_of, has_told, has_told_on, keepers_of, plant_of, run, run_on, run_over,
 };
 use crate::test_keepers::{
     ForgetfulKeeper, Meeting, MeetingKeeper, NamedFile, OnceKeeper, SharedFolder, SharedKeeper,
@@ -239,6 +239,27 @@ fn an_evaluation_stands_whose_variables_are_not_kept(rt: HostRuntime) {
         unanswered: &[],
         faults: &[(0, 1, Cause::Keeper), (0, 3, Cause::Keeper)],
         kinds: "EDEE",
+    };
+    has_told_on(&rt, alloc, &plant, &report, 9, &told);
+}
+
+/// A second run over the keepers of the first one is in a later incarnation, and begins with what was kept.
+#[test]
+fn keepers_are_handed_on_from_run_to_run(rt: HostRuntime) {
+    let alloc = rt.alloc();
+    let plant = plant_of(&rt, alloc, HOLD);
+    let commands = commands_of(&rt, alloc, &[Ask::Evaluate(0, 0, true), Ask::Restart(0)]);
+    let keepers = keepers_of(&rt, alloc, 1, 0);
+    let gate = PacedGate::new(TURNS);
+    let (_, keepers) = run_over(&rt, alloc, &plant, commands.as_slice(), keepers, &gate, 9);
+    let commands = commands_of(&rt, alloc, &[Ask::Evaluate(0, 0, false)]);
+    let gate = PacedGate::new(TURNS);
+    let (report, _) = run_over(&rt, alloc, &plant, commands.as_slice(), keepers, &gate, 9);
+    let told = Told {
+        entries: &[(0, (3, 1), None, Some(ON))],
+        unanswered: &[],
+        faults: &[],
+        kinds: "E",
     };
     has_told_on(&rt, alloc, &plant, &report, 9, &told);
 }

@@ -4,7 +4,7 @@ use crate::checks::{equal, holds, must};
 use evaluation::{Frame, Inputs, Retained};
 use node::{
     Act, Cause, Command, Gate, Keeper, MemoryKeeper, Report, are_for_plant, are_numbered,
-    run_threads,
+    run_threads, run_with_keepers,
 };
 use plant::Plant;
 use std::alloc::Global;
@@ -95,6 +95,24 @@ pub fn run_on<R: Threads + Wait + Sync + Abort, K: Keeper, G: Gate>(
     assert!(rt; keepers.len() == shared.resources());
     let report = run_threads(rt, alloc, shared, commands, keepers, gate, max_number);
     must(rt, report)
+}
+
+/// The same, and the keepers that the run hands back.
+pub fn run_over<R: Threads + Wait + Sync + Abort, K: Keeper, G: Gate>(
+    rt: &R,
+    alloc: Global,
+    plant: &Arc<Plant>,
+    commands: &[Command],
+    keepers: Vec<K>,
+    gate: &G,
+    max_number: u32,
+) -> (Report, Vec<K>) {
+    let shared = must(rt, Arc::try_clone(plant));
+    assert!(rt; are_numbered(commands));
+    assert!(rt; are_for_plant(&shared, commands));
+    assert!(rt; keepers.len() == shared.resources());
+    let ran = run_with_keepers(rt, alloc, shared, commands, keepers, gate, max_number);
+    must(rt, ran)
 }
 
 /// The report of a run on the pair.

@@ -1,7 +1,10 @@
 -- What the states of a resource in its thread keep.
-use Rattle.std.specs.Prelude.{◌≡◌, ℕ, List}
+use Rattle.std.specs.Prelude.{◌≡◌, ◌⊎◌, ℕ, List, Result, Err}
+use Rattle.keepers.specs.declared.keeper_fault.KeeperFault.{KeeperFault}
 use Rattle.plant.specs.PlantValue.{PlantValue}
 use Rattle.exchange_core.specs.CoreValue.{CoreValue}
+use Rattle.node_reports.specs.declared.cause.Cause.{Cause}
+use Rattle.node_reports.specs.declared.cause.Cause.TheVariants.{Memory, Keeper}
 use Rattle.node_reports.specs.declared.journal.Journal.{Journal}
 use Rattle.node_reports.specs.Journals.{IsLawful}
 use Rattle.node.specs.declared.threads.worker_state.WorkerState.{WorkerState}
@@ -24,3 +27,20 @@ IsWorking plant firsts max_number last (Stopped j) = IsLawful plant firsts max_n
 abbrev pub journal_of : WorkerState → Journal
 journal_of (Running s) = s.journal
 journal_of (Stopped j) = j
+
+-- a resource obeys commands
+abbrev pub IsRunning : WorkerState → Type 0
+IsRunning (Running s) = Unit {0}
+IsRunning (Stopped j) = ⊥
+
+-- it obeys no more
+abbrev pub IsStopped : WorkerState → Type 0
+IsStopped (Running s) = ⊥
+IsStopped (Stopped j) = Unit {0}
+
+-- Why a resource isn't restarted: memory was wanting, and either its keeper wasn't asked, or it was raised and the resource
+-- is stopped; or the keeper answered a fault, and the resource goes on.
+abbrev pub IsUnrisen : {K : Type 0} → (K → Result ℕ KeeperFault → Type 0) → K → K → WorkerState → Cause → Type 0
+IsUnrisen raises old new state cause =
+    ((cause ≡ Memory) × ((new ≡ old) ⊎ IsStopped state))
+    ⊎ ((cause ≡ Keeper) × ((why : KeeperFault) × raises old (Err why)) × IsRunning state)

@@ -1,10 +1,8 @@
-ghost use Rattle.std.specs.Prelude.{◌≡◌, ◌⊎◌, [], IfErr, OnOk, OnErr, Err};
+ghost use Rattle.std.specs.Prelude.{◌≡◌, [], IfErr, OnOk, OnErr};
 ghost use Rattle.evaluation.specs.Retained.{retained_values};
-ghost use Rattle.keepers.specs.declared.keeper_fault.KeeperFault.{KeeperFault};
 ghost use Rattle.keepers.specs.Keepers.{KeepsEither, KeepsOthers};
 ghost use Rattle.keepers.specs.LeftValues.{TellsLeft};
-ghost use Rattle.node.specs.Steps.Keeping.{KeepsMade};
-ghost use Rattle.node_reports.specs.declared.cause.Cause.TheVariants.{Memory, Keeper as KeeperCause};
+ghost use Rattle.node.specs.Steps.Keeping.{IsUnkept, KeepsMade, NotesUnkept};
 
 use crate::threads::noted::Noted;
 use evaluation::{Evaluation, Retained};
@@ -25,9 +23,7 @@ fn keep_after<K: Keeper>(
         evaluation.now.code (retained_values evaluation.now.code evaluation.now.after)) }
     ensures others { KeepsOthers (K.kept_gives keeper.old) (K.kept_gives keeper.new) evaluation.now.name.task.task }
     ensures unasked { evaluation.now.code.retained ≡ [] → keeper.new ≡ keeper.old }
-    ensures fault { IfErr result (λ cause. ((cause ≡ Memory) × (keeper.new ≡ keeper.old))
-        ⊎ ((cause ≡ KeeperCause) × ((fault : KeeperFault) × K.keep_gives keeper.old evaluation.now.name.task.task
-        evaluation.now.code (retained_values evaluation.now.code evaluation.now.after) (Err fault)))) }
+    ensures fault { IfErr result (IsUnkept K.keep_gives keeper.old keeper.new evaluation.now) }
 {
     let code = evaluation.code();
     if code.retained().is_empty() {
@@ -43,6 +39,7 @@ fn keep_after<K: Keeper>(
 }
 
 /// Keeps what an evaluation left, and notes the fault, if it isn't kept.
+#[tactic(auto, using(crate::proofs::Noting::unkept_noted))]
 pub(crate) fn keep_or_note<K: Keeper>(
     alloc: Global,
     keeper: &mut K,
@@ -51,6 +48,7 @@ pub(crate) fn keep_or_note<K: Keeper>(
 )
     ensures last { K.last keeper.new ≡ K.last keeper.old }
     ensures made { KeepsMade (K.kept_gives keeper.old) (K.kept_gives keeper.new) noted.old noted.new evaluation.now }
+    ensures told { NotesUnkept K.keep_gives keeper.old keeper.new noted.old noted.new evaluation.now }
 {
     if let Err(cause) = keep_after(alloc, keeper, evaluation) {
         noted.note(evaluation.name().task.resource, evaluation.ticket(), cause);

@@ -1,6 +1,6 @@
 ghost use Rattle.std.specs.Prelude.{◌≡◌, [], false, true, IfOk, Contains};
 ghost use Rattle.node_reports.specs.Reports.{fault_tickets};
-ghost use Rattle.node.specs.Steps.Keeping.{IsNoted, NotesMore};
+ghost use Rattle.node.specs.Steps.Keeping.{IsNoted, NotesAtMost, NotesMore};
 
 use node_reports::{Cause, NodeFault};
 use std::alloc::{AllocError, Global};
@@ -44,6 +44,7 @@ impl Noted {
     pub fn note(&mut self, resource: usize, ticket: u64, cause: Cause)
         ensures noted { IsNoted self.new ticket }
         ensures more { NotesMore self.old self.new }
+        ensures told { NotesAtMost self.old.listed.items self.new.listed.items (record { resource = resource; ticket = ticket; cause = cause }) }
     {
         if self.is_last(ticket) {
             return;

@@ -1,4 +1,4 @@
-ghost use Rattle.std.specs.Prelude.{◌≡◌, ◌<◌, All, IfOk, IfErr, Ok, Err, length};
+ghost use Rattle.std.specs.Prelude.{◌≡◌, ◌≢◌, ◌<◌, All, IfOk, IfErr, OnOk, Ok, Err, length};
 ghost use Rattle.evaluation.specs.Retained.{Suits};
 ghost use Rattle.exchange_core.specs.CoreValue.{AreOpeningOf};
 ghost use Rattle.node_reports.specs.RunFaults.{IsRaiseFault, IsStartFault};
@@ -6,7 +6,7 @@ ghost use Rattle.keepers.specs.declared.keeper_fault.KeeperFault.{KeeperFault};
 ghost use Rattle.keepers.specs.Keepers.{TellsNoMore};
 ghost use Rattle.keepers.specs.Openings.{TellsOpening};
 ghost use Rattle.node_reports.specs.declared.run_fault.RunFault.TheVariants.{Keeper as KeeperRefused};
-ghost use Rattle.node.specs.Raises.{MayNotTell, MayRefuse, OneMayRefuse};
+ghost use Rattle.node.specs.Raises.{ComesAfterFirst, FirstMayRaise, MayNotTell, MayRaise, MayRefuse, OneMayRefuse};
 ghost use Rattle.node.specs.Steps.Working.{IsWorkerFor, firsts_of_workers, openings_of_raised, openings_of_workers, AreAbove, AreOpened, AreRaised, AreTold, lasts_of};
 
 use crate::threads::inbox::Inbox;
@@ -37,10 +37,12 @@ pub(crate) fn make_inboxes(
 }
 
 /// Raises a keeper. Keeper: it answered a fault.
+#[tactic(auto, using(crate::proofs::Refused::may_raise))]
 fn raise<K: Keeper>(keeper: &mut K) -> Result<u32, RunFault>
     ensures above { IfOk result (λ first. K.last keeper.old < first) }
     ensures raised { IfOk result (λ first. K.last keeper.new ≡ first) }
     ensures given { IfOk result (λ first. K.raise_gives keeper.old (Ok first)) }
+    ensures may { OnOk result (MayRaise (K.raise_gives keeper.old)) }
     ensures stays { TellsNoMore (K.kept_gives keeper.old) (K.kept_gives keeper.new) }
     ensures keeps { TellsNoMore (K.kept_gives keeper.new) (K.kept_gives keeper.old) }
     ensures fault { IfErr result (λ fault. (fault ≡ KeeperRefused) × ((why : KeeperFault) × K.raise_gives keeper.old (Err why))) }
@@ -66,7 +68,7 @@ fn kept_of<K: Keeper>(keeper: &mut K, task: usize, code: &TaskCode) -> Result<Re
     }
 }
 
-/// What a keeper has kept of each task of its resource, in their order.
+/// What a keeper has kept of each task of its resource, in their order. Where memory is wanting it isn't asked.
 #[tactic(auto, using(keepers::specs::Steps::Telling::told_none, keepers::specs::Steps::Telling::told_more, keepers::specs::Steps::Telling::tells_more, crate::proofs::Refused::not_told))]
 fn kept_opening<K: Keeper>(
     alloc: Global,
@@ -80,6 +82,7 @@ fn kept_opening<K: Keeper>(
     ensures keeps { TellsNoMore (K.kept_gives keeper.new) (K.kept_gives keeper.old) }
     ensures fault { IfErr result IsRaiseFault }
     ensures refused { IfErr result (λ fault. fault ≡ KeeperRefused → MayNotTell (K.kept_gives keeper.old) plant.now resource) }
+    ensures unasked { IfErr result (λ fault. fault ≢ KeeperRefused → keeper.new ≡ keeper.old) }
 {
     // The getter hands out that each task has its code.
     let _resources = plant.resources();
@@ -112,6 +115,8 @@ fn raise_one<K: Keeper>(
     ensures keeps { IfOk result (λ r. TellsOpening (K.kept_gives r.0.keeper) plant.now resource r.0.opening) }
     ensures fault { IfErr result IsRaiseFault }
     ensures refused { IfErr result (λ fault. fault ≡ KeeperRefused → MayRefuse (K.raise_gives keeper) (K.kept_gives keeper) plant.now resource) }
+    ensures may { OnOk result (MayRaise (K.raise_gives keeper)) }
+    ensures later { IfErr result (λ fault. fault ≢ KeeperRefused → MayRaise (K.raise_gives keeper)) }
 {
     let mut keeper = keeper;
     let first = raise(&mut keeper)?;
@@ -132,6 +137,8 @@ pub(crate) fn raise_all<K: Keeper>(
     ensures told { IfOk result (λ r. AreTold K.kept_gives plant.now keepers.items (openings_of_raised r.0.items)) }
     ensures fault { IfErr result IsRaiseFault }
     ensures refused { IfErr result (OneMayRefuse K.raise_gives K.kept_gives plant.now keepers.items) }
+    ensures may { OnOk result (FirstMayRaise K.raise_gives keepers.items) }
+    ensures later { IfErr result (ComesAfterFirst K.raise_gives keepers.items) }
 {
     let mut raised = Vec::new(alloc);
     let mut firsts = Vec::new(alloc);

@@ -1,7 +1,7 @@
-ghost use Rattle.std.specs.Prelude.{◌≡◌, ℕ, OnOk, Ok};
+ghost use Rattle.std.specs.Prelude.{◌≡◌, ℕ, IfErr, OnOk, Ok};
 ghost use Rattle.node.specs.declared.threads.noted.Noted.{Noted as NotedFaults};
 ghost use Rattle.node.specs.Steps.Keeping.{Keeps};
-ghost use Rattle.node.specs.Steps.States.{IsWorking, journal_of};
+ghost use Rattle.node.specs.Steps.States.{IsUnrisen, IsWorking, journal_of};
 
 use crate::threads::worker_state::WorkerState;
 use keepers::Keeper;
@@ -22,6 +22,7 @@ pub(crate) fn restart_station<K: Keeper>(
     ensures opening { (journal_of result.0).opening ≡ station.journal.opening }
     ensures keeps { (noted : NotedFaults) → Keeps (K.last keeper.old) (K.kept_gives keeper.old) station.core.plant noted station.journal
         → Keeps (K.last keeper.new) (K.kept_gives keeper.new) station.core.plant noted (journal_of result.0) }
+    ensures cause { IfErr result.1 (IsUnrisen K.raise_gives keeper.old keeper.new result.0) }
     ensures given { OnOk result.1 ((i : ℕ) × K.raise_gives keeper.old (Ok i) × (K.last keeper.new ≡ i)) }
 {
     let mut station = station;

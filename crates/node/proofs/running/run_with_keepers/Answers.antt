@@ -5,7 +5,7 @@ use Rattle.node_reports.specs.Journals.{BeginAbove}
 use Rattle.node_reports.specs.Reports.{IsRunFault}
 use Rattle.node.specs.Keeping.{KeepAllLeft}
 use Rattle.node.specs.Openings.{OpenAsTold}
-use Rattle.node.specs.Raises.{BeginAsRaised, OneMayRefuse}
+use Rattle.node.specs.Raises.{BeginAsRaised, ComesAfterFirst, OneMayRefuse}
 use Rattle.node.proofs.Kept.{all_reported}
 use Rattle.node.proofs.Refused.{none_collected}
 use Rattle.node.proofs.Unreported.{threads_fault, collect_refused}
@@ -51,3 +51,11 @@ returns-clause-kept g c =
     let report = c.in_ok-report.report in
     subst (KeepAllLeft g.K.Keeper.last g.K.Keeper.kept_gives c.args.plant.value report.node_faults left.keepers.items) (sym c.in_ok-report.ensures.kept.1)
     (all_reported g.K.Keeper.last g.K.Keeper.kept_gives c.args.plant.value left.faults.items report.node_faults left.keepers.items left.journals.items c.in_ok-report.ensures.noted.told c.in_ok-book.ensures.kept)
+
+pub returns-in_err-book-clause-later : goal.returns-in_err-book-clause-later
+returns-in_err-book-clause-later g c =
+    kept_fault c.in_err-book.field-0.0 (ComesAfterFirst g.K.Keeper.raise_gives c.args.keepers.items) _ c.from_residual.ensures.1 c.in_err-book.ensures.later
+
+pub returns-in_err-report-clause-later : goal.returns-in_err-report-clause-later
+returns-in_err-report-clause-later g c =
+    kept_fault c.in_err-report.field-0.0 (ComesAfterFirst g.K.Keeper.raise_gives c.args.keepers.items) _ c.from_residual-in_err-report.ensures.1 (λ other. c.in_ok-book.ensures.may)

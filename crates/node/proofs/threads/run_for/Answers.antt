@@ -12,7 +12,7 @@ use Rattle.node_reports.specs.RunFaults.{IsThreadsFault}
 use Rattle.node.proofs.Alls.{zip_long}
 use Rattle.node.proofs.Firsts.{begin_above, begin_as_raised, firsts_parted, openings_parted}
 use Rattle.node.proofs.Told.{open_as_told}
-use Rattle.node.specs.Raises.{OneMayRefuse}
+use Rattle.node.specs.Raises.{ComesAfterFirst, OneMayRefuse}
 use Rattle.node.specs.Steps.Keeping.{IsLeftKept}
 use Rattle.node.proofs.Refused.{none_refused}
 use Rattle.node.proofs.Refusing.{raise_fault, start_fault}
@@ -96,3 +96,19 @@ pub returns-in_err-journals-clause-refused : goal.returns-in_err-journals-clause
 returns-in_err-journals-clause-refused g c =
     kept_fault c.in_err-journals.field-0.0 (OneMayRefuse g.K.Keeper.raise_gives g.K.Keeper.kept_gives c.args.plant.now.value c.args.keepers.items) _ c.from_residual-in_err-journals.ensures.1
     (none_refused c.in_err-journals.field-0.0 g.K.Keeper.raise_gives g.K.Keeper.kept_gives c.args.plant.now.value c.args.keepers.items c.in_err-journals.ensures.fault)
+
+pub returns-in_err-workers-clause-later : goal.returns-in_err-workers-clause-later
+returns-in_err-workers-clause-later g c =
+    kept_fault c.in_err-workers.field-0.0 (ComesAfterFirst g.K.Keeper.raise_gives c.args.keepers.items) _ c.from_residual-in_err-workers.ensures.1 (λ other. c.in_ok-raised.ensures.may)
+
+pub returns-in_err-ended-clause-later : goal.returns-in_err-ended-clause-later
+returns-in_err-ended-clause-later g c =
+    kept_fault c.in_err-ended.field-0.0 (ComesAfterFirst g.K.Keeper.raise_gives c.args.keepers.items) _ c.from_residual-in_err-ended.ensures.1 (λ other. c.in_ok-raised.ensures.may)
+
+pub returns-in_err-journals-clause-later : goal.returns-in_err-journals-clause-later
+returns-in_err-journals-clause-later g c =
+    kept_fault c.in_err-journals.field-0.0 (ComesAfterFirst g.K.Keeper.raise_gives c.args.keepers.items) _ c.from_residual-in_err-journals.ensures.1 (λ other. c.in_ok-raised.ensures.may)
+
+pub returns-in_err-raised-clause-later : goal.returns-in_err-raised-clause-later
+returns-in_err-raised-clause-later g c =
+    kept_fault c.in_err-raised.field-0.0 (ComesAfterFirst g.K.Keeper.raise_gives c.args.keepers.items) _ c.from_residual.ensures.1 c.in_err-raised.ensures.later

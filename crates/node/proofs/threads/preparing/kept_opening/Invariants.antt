@@ -1,5 +1,6 @@
--- What was kept of the tasks so far suits them and is what the keeper told, which is in the same incarnation, and tells the same as at first.
-use Rattle.std.proofs.Common.{◌≡◌}
+-- What was kept of the tasks so far suits them and is what the keeper told, which is in the same incarnation, and tells the same as at first. There is room for the others.
+use Rattle.std.proofs.Common.{◌≡◌, ◌≤◌}
+use Rattle.std.specs.Prelude.{vec_capacity}
 use Rattle.exchange_core.specs.Steps.Opened.{IsKeptOf}
 use Rattle.keepers.specs.Keepers.{TellsNoMore}
 use Rattle.keepers.specs.Openings.{TellsOpening}
@@ -12,3 +13,4 @@ invariant-loop-task g l =
     × TellsOpening (g.K.Keeper.kept_gives l.fn.keeper) l.plant l.resource l.listed.items
     × TellsNoMore (g.K.Keeper.kept_gives l.fn.keeper) (g.K.Keeper.kept_gives l.keeper)
     × TellsNoMore (g.K.Keeper.kept_gives l.keeper) (g.K.Keeper.kept_gives l.fn.keeper)
+    × (l.tasks ≤ vec_capacity l.listed)

@@ -1,5 +1,5 @@
 -- One more keeper.
-use Rattle.std.proofs.Common.{arith, rules, ◌≡◌, ℕ, Ok, ◌<◌, ◌++◌, List, [], ◌∷◌, length, map, ap, sym, ◌∙◌, append_assoc, subst}
+use Rattle.std.proofs.Common.{arith, rules, ◌≡◌, ℕ, Ok, ◌<◌, ◌++◌, List, [], ◌∷◌, length, map, refl, ap, sym, ◌∙◌, append_assoc, subst}
 use Rattle.std.specs.List.{AllZip}
 use Rattle.std.specs.Vec.Iter.{into_iter_items}
 use Rattle.std.proofs.lemmas.List.{length-map, map_push}
@@ -9,8 +9,8 @@ use Rattle.std_blocks.specs.declared.value.Value.{Value}
 use Rattle.node.specs.Steps.Working.{AreRaised, AreTold, openings_of_raised, lasts_of}
 use Rattle.node.proofs.Alls.{zip_long}
 use Rattle.node.proofs.Opened.{opened_push, lasts_push}
-use Rattle.node.specs.Raises.{OneMayRefuse}
-use Rattle.node.proofs.Refused.{one_refused}
+use Rattle.node.specs.Raises.{ComesAfterFirst, OneMayRefuse}
+use Rattle.node.proofs.Refused.{first_asked, one_refused}
 use Rattle.node.proofs.Told.{told_push}
 use Rattle.node.proofs.threads.preparing.raise_all.Goals as goal
 
@@ -48,6 +48,7 @@ loop-keeper-preserved g c =
             (zip_push (λ one first. g.K.Keeper.raise_gives one (Ok first)) asked.0 old c.in-Some.keeper c.in_ok-one.first asked.2 c.in_ok-one.ensures.given),
         subst (λ (os : List (List (List Value))). AreTold g.K.Keeper.kept_gives c.args.plant.now (asked.0 ++ c.in-Some.keeper ∷ []) os)
             (sym (ap openings_of_raised c.in-Ok.ensures.items ∙ map_push (λ r. r.opening) before c.in_ok-one.one)) told,
+        first_asked g.K.Keeper.raise_gives (asked.0 ++ c.in-Some.keeper ∷ []) asked.0 c.in-Some.keeper [] refl asked.4 c.in_ok-one.ensures.may,
       ),
     )
 
@@ -65,3 +66,27 @@ returns-in_err-one-clause-refused g c =
     kept_fault found (OneMayRefuse g.K.Keeper.raise_gives g.K.Keeper.kept_gives c.args.plant.now c.args.keepers.items) _ c.from_residual.ensures.1
     (one_refused found g.K.Keeper.raise_gives g.K.Keeper.kept_gives c.args.plant.now c.args.keepers.items asked.0 c.in-Some.keeper (into_iter_items c.next.new.self) c.len-resource.result
     (asked.1 ∙ ap (λ ks. asked.0 ++ ks) rest_is) (counted ∙ many) c.in_err-one.ensures.refused)
+
+-- any other fault comes once the first one was raised
+pub returns-in_err-one-clause-later : goal.returns-in_err-one-clause-later
+returns-in_err-one-clause-later g c =
+    let found = c.in_err-one.field-0.0 in
+    let asked = c.loop-keeper.invariant.3 in
+    let rest_is : into_iter_items c.loop-keeper.keeper-iterator ≡ c.in-Some.keeper ∷ into_iter_items c.next.new.self = search rules in
+    kept_fault found (ComesAfterFirst g.K.Keeper.raise_gives c.args.keepers.items) _ c.from_residual.ensures.1
+    (λ other. first_asked g.K.Keeper.raise_gives c.args.keepers.items asked.0 c.in-Some.keeper (into_iter_items c.next.new.self) (asked.1 ∙ ap (λ ks. asked.0 ++ ks) rest_is) asked.4
+    (c.in_err-one.ensures.later other))
+
+pub returns-in_default-clause-later : goal.returns-in_default-clause-later
+returns-in_default-clause-later g c = λ other.
+    let asked = c.loop-keeper.invariant.3 in
+    let rest_is : into_iter_items c.loop-keeper.keeper-iterator ≡ c.in-Some.keeper ∷ into_iter_items c.next.new.self = search rules in
+    first_asked g.K.Keeper.raise_gives c.args.keepers.items asked.0 c.in-Some.keeper (into_iter_items c.next.new.self) (asked.1 ∙ ap (λ ks. asked.0 ++ ks) rest_is) asked.4
+    c.in_ok-one.ensures.may
+
+pub returns-in_default-push-clause-later : goal.returns-in_default-push-clause-later
+returns-in_default-push-clause-later g c = λ other.
+    let asked = c.loop-keeper.invariant.3 in
+    let rest_is : into_iter_items c.loop-keeper.keeper-iterator ≡ c.in-Some.keeper ∷ into_iter_items c.next.new.self = search rules in
+    first_asked g.K.Keeper.raise_gives c.args.keepers.items asked.0 c.in-Some.keeper (into_iter_items c.next.new.self) (asked.1 ∙ ap (λ ks. asked.0 ++ ks) rest_is) asked.4
+    c.in_ok-one.ensures.may

@@ -3,6 +3,7 @@ use Rattle.std.proofs.Common.{◌≡◌, ℕ, ◌<◌, ◌++◌, List, map, vec_
 use Rattle.std.specs.List.{AllZip}
 use Rattle.std.specs.Vec.Iter.{into_iter_items}
 use Rattle.node.specs.Steps.Working.{AreOpened, AreRaised, AreTold, openings_of_raised, lasts_of}
+use Rattle.node.specs.Raises.{FirstMayRaise}
 use Rattle.node.proofs.threads.preparing.raise_all.Given as goal
 
 abbrev pub invariant-loop-keeper : goal.invariant-loop-keeper
@@ -12,4 +13,5 @@ invariant-loop-keeper g l =
     × (lasts_of g.K.Keeper.last (vec_items l.raised) ≡ vec_items l.firsts)
     × AreOpened g.K.Keeper.kept_gives l.plant 0 (vec_items l.raised)
     × ((asked : List _) × (l.fn.keepers.items ≡ asked ++ into_iter_items l.keeper-iterator) × AreRaised g.K.Keeper.raise_gives asked (vec_items l.firsts)
-    × AreTold g.K.Keeper.kept_gives l.plant asked (openings_of_raised (vec_items l.raised)))
+    × AreTold g.K.Keeper.kept_gives l.plant asked (openings_of_raised (vec_items l.raised))
+    × FirstMayRaise g.K.Keeper.raise_gives asked)
