@@ -1,6 +1,6 @@
 ghost use Rattle.std.specs.Prelude.{IfOk, IfErr, length, string_bytes};
-ghost use Rattle.text_commands.specs.EvalText.{IsLadderOfDrawing};
-ghost use Rattle.text_commands.specs.Steps.Refusing.{RefusesLadder};
+ghost use Rattle.text_commands.specs.EvalText.{IsLadderOfDrawing, IsLadderOfText};
+ghost use Rattle.text_commands.specs.Steps.Refusing.{RefusesLadder, RefusesLadderOfText};
 ghost use Rattle.verifying.specs.Questions.{question_of};
 ghost use Rattle.verifying.specs.VerifyText.{ExplainsAnswer, WritesAnswer};
 ghost use Rattle.verifying.specs.Stores.{stored_places};
@@ -28,14 +28,14 @@ use network::Graph;
 use power_flow::Ladder;
 use std::alloc::Global;
 use std::io::Write;
-use text_commands::{TextCommandFault, read_rows};
+use text_commands::{TextCommandFault, TextFault, read_rows, without_comments};
 use text_lines::{Progress, write_text};
 
-/// The ladder of a drawing, its names declared by their use, and a mark for each name at which it stores.
-fn read_marked(alloc: Global, drawing: &str) -> Result<(Ladder, Vec<bool>), TextCommandFault>
-    ensures ladder { IfOk result (λ r. IsLadderOfDrawing drawing.now r.0.declarations r.0.networks) }
+/// The ladder of a text as it stands, its names declared by their use, and a mark for each name at which it stores.
+fn marked_of_text(alloc: Global, drawing: &str) -> Result<(Ladder, Vec<bool>), TextCommandFault>
+    ensures ladder { IfOk result (λ r. IsLadderOfText drawing.now r.0.declarations r.0.networks) }
     ensures marks { IfOk result (λ r. AreMarksOf (stored_places r.0.declarations r.0.networks) (length r.0.declarations) r.1.items) }
-    ensures err { IfErr result (RefusesLadder drawing.now) }
+    ensures err { IfErr result (RefusesLadderOfText drawing.now) }
 {
     let drawing = Drawing::read(alloc, drawing, 1)?;
     let graph = Graph::build(alloc, &drawing)?;
@@ -44,6 +44,22 @@ fn read_marked(alloc: Global, drawing: &str) -> Result<(Ladder, Vec<bool>), Text
     let marks = marks_of(alloc, &places, declarations.len())?;
     let ladder = Ladder::bind(alloc, graph, declarations)?;
     Ok((ladder, marks))
+}
+
+/// The ladder of a drawing, its names declared by their use, and a mark for each name at which it stores. A text that is ill
+/// drawn is read with its comments emptied.
+fn read_marked(alloc: Global, drawing: &str) -> Result<(Ladder, Vec<bool>), TextCommandFault>
+    ensures ladder { IfOk result (λ r. IsLadderOfDrawing drawing.now r.0.declarations r.0.networks) }
+    ensures marks { IfOk result (λ r. AreMarksOf (stored_places r.0.declarations r.0.networks) (length r.0.declarations) r.1.items) }
+    ensures err { IfErr result (RefusesLadder drawing.now) }
+{
+    match marked_of_text(alloc, drawing) {
+        Err(TextCommandFault::Text(TextFault::Draw(_))) => {
+            let text = without_comments(alloc, drawing)?;
+            marked_of_text(alloc, text.as_str())
+        }
+        read => read,
+    }
 }
 
 /// The inputs that words hold.

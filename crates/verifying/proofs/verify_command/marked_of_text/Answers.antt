@@ -1,5 +1,5 @@
 use Rattle.text_commands.specs.Steps.Refusing.{names_refused, networks_refused, drawing_refused}
-use Rattle.verifying.proofs.verify_command.read_marked.Goals as goal
+use Rattle.verifying.proofs.verify_command.marked_of_text.Goals as goal
 
 pub returns-in_err-ladder-clause-err : goal.returns-in_err-ladder-clause-err
 returns-in_err-ladder-clause-err c =
