@@ -41,9 +41,13 @@ excerpt_behind hidden line before signs =
 abbrev pub excerpt_of : List ℕ → ℕ → ℕ → List ℕ
 excerpt_of line at signs = excerpt_behind (hidden_before at) line (at - hidden_before at) signs
 
--- the line of a text with this number, of which the first has 1; empty where there is none
+-- the line with this number, of which the first has 1; empty where there is none
+abbrev pub line_in : List ℕ → ℕ → List ℕ
+line_in text number = unwrap_or (slice_get (lines text) (number - 1)) []
+
+-- the line of a text, without a carriage return at its end
 abbrev pub line_at : List ℕ → ℕ → List ℕ
-line_at text number = unwrap_or (slice_get (lines text) (number - 1)) []
+line_at text number = line_in (text ++ codes "\n") number
 
 -- the line with a mark below this column, of which the first has 1
 abbrev pub marked_column : List ℕ → ℕ → ℕ → List ℕ

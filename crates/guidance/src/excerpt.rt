@@ -3,7 +3,7 @@ ghost use Rattle.std.specs.List.{repeat};
 ghost use Rattle.std.specs.Option.{option_map};
 ghost use Rattle.std.specs.Str.Lines.{lines};
 ghost use Rattle.std.specs.Str.{chars, trim_start, trim_end};
-ghost use Rattle.guidance.specs.Excerpts.{excerpt_of, hidden_before, indented, left_of, line_at, marked_column, marked_line, marked_at, right_of, shown_part, shown_sign};
+ghost use Rattle.guidance.specs.Excerpts.{excerpt_of, hidden_before, indented, left_of, line_in, marked_column, marked_line, marked_at, right_of, shown_part, shown_sign};
 
 use std::alloc::{AllocError, Global};
 
@@ -127,7 +127,7 @@ fn line_behind(text: &str, before: usize) -> Option<&str>
 
 /// A line of a text by its number from 1, without what ends it; empty where there is none.
 pub fn line_of(text: &str, number: u64) -> &str
-    ensures { result.now ≡ line_at text.now number }
+    ensures { result.now ≡ line_in text.now number }
 {
     match line_behind(text, number.saturating_sub(1) as usize) {
         Some(line) => line,
@@ -153,6 +153,15 @@ fn whole_of(line: &str) -> Place
     }
 }
 
+/// The text with a line feed behind it, so that a carriage return at its end is dropped as any other.
+fn with_line_feed(alloc: Global, text: &str) -> Result<String, AllocError>
+    ensures { IfOk result (λ ended. string_bytes ended ≡ text.now ++ codes "\n") }
+{
+    let mut ended = String::from_str(alloc, text)?;
+    ended.push_str("\n")?;
+    Ok(ended)
+}
+
 /// A line of a text, with a mark below this column.
 pub fn marked_column(
     alloc: Global,
@@ -163,13 +172,15 @@ pub fn marked_column(
     ensures { IfOk result (λ shown. string_bytes shown ≡ marked_column text.now line column) }
 {
     let at = column.saturating_sub(1);
-    excerpt(alloc, line_of(text, line), Place { at, signs: 1 })
+    let text = with_line_feed(alloc, text)?;
+    excerpt(alloc, line_of(text.as_str(), line), Place { at, signs: 1 })
 }
 
 /// A line of a text, with marks below all of it but the blanks at both ends.
 pub fn marked_line(alloc: Global, text: &str, line: u64) -> Result<String, AllocError>
     ensures { IfOk result (λ shown. string_bytes shown ≡ marked_line text.now line) }
 {
-    let shown = line_of(text, line);
+    let text = with_line_feed(alloc, text)?;
+    let shown = line_of(text.as_str(), line);
     excerpt(alloc, shown, whole_of(shown))
 }
