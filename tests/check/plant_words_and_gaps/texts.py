@@ -39,9 +39,9 @@ TEXTS = [
     ("PROGRAM A (* x\n|\n", "1: Syntax"),
     ("PROGRAM A\nEND_PROGRAM\n", f"2: {NO_LEFT_RAIL}"),
     ("PROGRAM A (* x *) \t\r\n\n\nEND_PROGRAM", f"2: {NO_LEFT_RAIL}"),
-    ("PROGRAM A VAR END_VAR\n(* c\n*) var_input END_VAR\n(* d *)\n|\nEND_PROGRAM", f"4: {NO_LEFT_RAIL}"),
+    ("PROGRAM A VAR END_VAR\n(* c\n*) var_input END_VAR\n(* d *)\n|\nEND_PROGRAM", "6: Syntax"),
     ("PROGRAM A\n(* x\nEND_PROGRAM\n*)", f"2: {NO_LEFT_RAIL}"),
-    ("PROGRAM A\n|\n|\n(* x *)\nEND_PROGRAM\n", f"4: {NO_LEFT_RAIL}"),
+    ("PROGRAM A\n|\n|\n(* x *)\nEND_PROGRAM\n", "5: Syntax"),
     # A body ends before its last line.
     ("PROGRAM A\n|\n", "2: Syntax"),
     ("PROGRAM A\n|\nEND_PROGRAM CONFIGURATION C\nRESOURCE R ON N END_RESOURCE END_CONFIGURATION", "4: Syntax"),
