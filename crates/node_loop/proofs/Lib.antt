@@ -1,2 +1,3 @@
+mod ByOne
 mod LineTaking
-mod Sent
+mod Turning

@@ -15,11 +15,6 @@ pub data Turn : Type 0 where
 abbrev pub with_turn : Turn → Option (List Turn) → Option (List Turn)
 with_turn turn given = option_map (λ before. turn ∷ before) given
 
--- the moment at which a loop ends, in ms since the start
-abbrev pub moment_of : Option ℕ → ℕ
-moment_of None = 18446744073709551615
-moment_of (Some until) = until
-
 -- an input is at its end, or can't be read
 abbrev pub is_end : Told → Bool
 is_end (Line line) = false

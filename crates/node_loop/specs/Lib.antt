@@ -1,2 +1,5 @@
 pub mod Given
+pub mod Turns
+pub mod Stops
+pub mod Loops
 pub mod Steps

@@ -1,5 +1,6 @@
 ghost use Rattle.std.specs.Prelude.{◌≡◌};
-ghost use Rattle.node_loop.specs.Given.{is_closing, moment_of};
+ghost use Rattle.node_loop.specs.Given.{is_closing};
+ghost use Rattle.node_loop.specs.Turns.{moment_of};
 
 use cycle::Origin;
 

@@ -76,7 +76,7 @@ impl From<NoClock> for LoopStop {
 
 impl From<ReadFault> for LoopStop {
     ghost use Rattle.std.specs.Prelude.{◌≡◌};
-    ghost use Rattle.node_loop.specs.Steps.Following.{stop_of};
+    ghost use Rattle.node_loop.specs.Stops.{stop_of};
 
     ghost from_gives = { λ found stop. stop ≡ stop_of found };
 

@@ -1,8 +1,12 @@
 //! The loop.
 
-ghost use Rattle.std.specs.Prelude.{◌≡◌, ◌+◌, ◌<◌, ◌≤◌, IfErr, OnOk};
+ghost use Rattle.std.specs.Prelude.{◌≡◌, ◌+◌, ◌<◌, ◌≤◌, IfOk, IfErr, OnOk, OnErr, string_bytes};
 ghost use Rattle.std.specs.Io.KnownBytes.{Appends};
-ghost use Rattle.node_loop.specs.Steps.Following.{IsUnwritten};
+ghost use Rattle.live_node.specs.Keeping.{KeepsAllButOne, KeepsCore};
+ghost use Rattle.live_node.specs.NodeAnswers.{a_keeper_gives};
+ghost use Rattle.node_loop.specs.Given.{Reads, Takes};
+ghost use Rattle.node_loop.specs.Turns.{is_going};
+ghost use Rattle.node_loop.specs.Steps.Following.{goes_on, Follows, HasLooked, IsUnwritten, MadeOf, NotMadeOf, Stops};
 
 use crate::ending::Ending;
 use crate::loop_stop::LoopStop;
@@ -73,7 +77,12 @@ fn push_evaluation<K: Keeper, N: Notes>(
 ) -> Result<bool, LoopStop>
     requires few { node.old.node.state.lines < 18446744073709551615 }
     requires kept { K.last node.old.node.keeper ≡ node.old.node.state.core.incarnation }
+    ensures made { OnOk result (MadeOf (a_keeper_gives K.last K.raise_gives) node.old node.new (Reads reading)
+        (N.noted node.old.node.notes) (N.noted node.new.node.notes) (string_bytes answer.new)) }
+    ensures stopped { IfErr result (NotMadeOf (a_keeper_gives K.last K.raise_gives) node.old (Reads reading) (N.noted node.old.node.notes) (N.noted node.new.node.notes)) }
     ensures kept { OnOk result (K.last node.new.node.keeper ≡ node.new.node.state.core.incarnation) }
+    ensures keeps { OnOk result (KeepsCore (K.kept_gives node.old.node.keeper) node.old.node.state.core → KeepsCore (K.kept_gives node.new.node.keeper) node.new.node.state.core) }
+    ensures rest { OnErr result (KeepsCore (K.kept_gives node.old.node.keeper) node.old.node.state.core → KeepsAllButOne (K.kept_gives node.new.node.keeper) node.new.node.state.core) }
     ensures few { OnOk result (node.new.node.state.lines ≤ node.old.node.state.lines + 1) }
 {
     answer.clear();
@@ -90,7 +99,15 @@ fn look<K: Keeper, N: Notes, S: TurnSource, W: Write>(
 ) -> Result<Looked, LoopStop>
     requires few { node.old.node.state.lines < 18446744073709551615 }
     requires kept { K.last node.old.node.keeper ≡ node.old.node.state.core.incarnation }
+    ensures looked { IfOk result (HasLooked (a_keeper_gives K.last K.raise_gives) ending node.old node.new
+        (S.given source.old) (S.given source.new) (N.noted node.old.node.notes) (N.noted node.new.node.notes)
+        (W.contents out.old) (W.contents out.new)) }
+    ensures stopped { IfErr result (Stops (a_keeper_gives K.last K.raise_gives) ending node.old
+        (S.given source.old) (S.given source.new) (N.noted node.old.node.notes) (N.noted node.new.node.notes)
+        (W.contents out.old) (W.contents out.new)) }
     ensures kept { OnOk result (K.last node.new.node.keeper ≡ node.new.node.state.core.incarnation) }
+    ensures keeps { OnOk result (KeepsCore (K.kept_gives node.old.node.keeper) node.old.node.state.core → KeepsCore (K.kept_gives node.new.node.keeper) node.new.node.state.core) }
+    ensures rest { OnErr result (KeepsCore (K.kept_gives node.old.node.keeper) node.old.node.state.core → KeepsAllButOne (K.kept_gives node.new.node.keeper) node.new.node.state.core) }
     ensures few { OnOk result (node.new.node.state.lines ≤ node.old.node.state.lines + 1) }
 {
     let reading = source.reading()?;
@@ -115,7 +132,12 @@ fn push_answer<K: Keeper, N: Notes>(
 ) -> Result<(), LoopStop>
     requires few { node.old.node.state.lines < 18446744073709551615 }
     requires kept { K.last node.old.node.keeper ≡ node.old.node.state.core.incarnation }
+    ensures made { OnOk result (MadeOf (a_keeper_gives K.last K.raise_gives) node.old node.new (Takes origin told.now)
+        (N.noted node.old.node.notes) (N.noted node.new.node.notes) (string_bytes answer.new)) }
+    ensures stopped { IfErr result (NotMadeOf (a_keeper_gives K.last K.raise_gives) node.old (Takes origin told.now) (N.noted node.old.node.notes) (N.noted node.new.node.notes)) }
     ensures kept { OnOk result (K.last node.new.node.keeper ≡ node.new.node.state.core.incarnation) }
+    ensures keeps { OnOk result (KeepsCore (K.kept_gives node.old.node.keeper) node.old.node.state.core → KeepsCore (K.kept_gives node.new.node.keeper) node.new.node.state.core) }
+    ensures rest { OnErr result (KeepsCore (K.kept_gives node.old.node.keeper) node.old.node.state.core → KeepsAllButOne (K.kept_gives node.new.node.keeper) node.new.node.state.core) }
     ensures few { OnOk result (node.new.node.state.lines ≤ node.old.node.state.lines + 1) }
 {
     answer.clear();
@@ -129,7 +151,9 @@ fn push_answer<K: Keeper, N: Notes>(
 }
 
 /// What was taken, where an input told this.
-fn taken_of(ending: Ending, origin: Origin, told: &Told) -> Took {
+fn taken_of(ending: Ending, origin: Origin, told: &Told) -> Took
+    ensures { goes_on result ≡ is_going ending.closing (Takes origin told.now) }
+{
     if told.is_end() && ending.is_closing(origin) {
         Took::Last
     } else {
@@ -148,7 +172,15 @@ fn take_one<K: Keeper, N: Notes, S: TurnSource, W: Write>(
 ) -> Result<Took, LoopStop>
     requires few { node.old.node.state.lines < 18446744073709551615 }
     requires kept { K.last node.old.node.keeper ≡ node.old.node.state.core.incarnation }
+    ensures taken { IfOk result (λ took. Follows (a_keeper_gives K.last K.raise_gives) ending node.old node.new (goes_on took)
+        (S.given source.old) (S.given source.new) (N.noted node.old.node.notes) (N.noted node.new.node.notes)
+        (W.contents out.old) (W.contents out.new)) }
+    ensures stopped { IfErr result (Stops (a_keeper_gives K.last K.raise_gives) ending node.old
+        (S.given source.old) (S.given source.new) (N.noted node.old.node.notes) (N.noted node.new.node.notes)
+        (W.contents out.old) (W.contents out.new)) }
     ensures kept { OnOk result (K.last node.new.node.keeper ≡ node.new.node.state.core.incarnation) }
+    ensures keeps { OnOk result (KeepsCore (K.kept_gives node.old.node.keeper) node.old.node.state.core → KeepsCore (K.kept_gives node.new.node.keeper) node.new.node.state.core) }
+    ensures rest { OnErr result (KeepsCore (K.kept_gives node.old.node.keeper) node.old.node.state.core → KeepsAllButOne (K.kept_gives node.new.node.keeper) node.new.node.state.core) }
     ensures few { OnOk result (node.new.node.state.lines ≤ node.old.node.state.lines + 1) }
 {
     let Some(told) = source.take(origin) else {

@@ -1,17 +1,81 @@
--- Steps of proofs: why a loop stops, and whether it goes on.
+-- Steps of proofs: what stands behind some turns of a loop.
 use Rattle.std.specs.Prelude.{◌≡◌, ℕ, Bool, true, false, List, Option}
 use Rattle.text_lines.specs.Sending.{SendsPart}
-use Rattle.text_lines.specs.declared.read_fault.ReadFault.{ReadFault}
+use Rattle.live_node.specs.NodeAnswers.{Raising}
+use Rattle.live_node.specs.declared.node_stop.NodeStop.{NodeStop}
+use Rattle.live_node.specs.declared.live_stop.LiveStop.{LiveStop}
+use Rattle.live_node.specs.declared.live_stop.LiveStop.TheVariants.{Node, Read, Write, Memory}
 use Rattle.text_lines.specs.declared.read_fault.ReadFault.TheVariants as reading
-use Rattle.live_node.specs.declared.live_stop.LiveStop.TheVariants.{Read, Write, Memory}
+use Rattle.cycle.specs.declared.origin.Origin.TheVariants.{Neighbours}
+use Rattle.field_node.specs.declared.field_node.FieldNode.{FieldNode}
+use Rattle.field_node.specs.FieldNodes.{IsSameSetting}
+use Rattle.node_loop.specs.declared.ending.Ending.{Ending}
 use Rattle.node_loop.specs.declared.loop_stop.LoopStop.{LoopStop}
-use Rattle.node_loop.specs.declared.loop_stop.LoopStop.TheVariants.{Live}
+use Rattle.node_loop.specs.declared.loop_stop.LoopStop.TheVariants.{Live, Clock}
+use Rattle.node_loop.specs.declared.looping.Looked.{Looked}
+use Rattle.node_loop.specs.declared.looping.Looked.TheVariants.{Over, Idle, Evaluated}
+use Rattle.node_loop.specs.declared.looping.Took.{Took}
+use Rattle.node_loop.specs.declared.looping.Took.TheVariants.{Nothing, Something, Last}
+use Rattle.node_loop.specs.declared.told.Told.TheVariants.{Unread}
+use Rattle.node_loop.specs.Given.{Turn, Takes}
+use Rattle.node_loop.specs.Turns.{Makes, HaveTurned, IsOver, moment_of}
+use Rattle.node_loop.specs.Stops.{StopsBehind, Undoes}
+use Rattle.node_loop.specs.Loops.{setting_of, condition_of, stands}
+
+-- turns were made from an going loop on
+pub record Follows {K N : Type 0} (raising : Raising) (ending : Ending) (old new : FieldNode K N) (going : Bool)
+    (given_old given_new : Option (List Turn)) (noted_old noted_new from to : Option (List ℕ)) : Type 0 where
+  pub same : IsSameSetting old new
+  pub turns : List Turn
+  pub turned : HaveTurned raising (setting_of old) ending (stands old true given_old noted_old from) turns (stands new going given_new noted_new to)
+
+-- turns were made from an going loop on, to its end
+pub record Ends {K N : Type 0} (raising : Raising) (ending : Ending) (old new : FieldNode K N)
+    (given_old given_new : Option (List Turn)) (noted_old noted_new from to : Option (List ℕ)) : Type 0 where
+  pub going : Bool
+  pub given : Option (List Turn)
+  pub follows : Follows raising ending old new going given_old given noted_old noted_new from to
+  pub over : IsOver (moment_of ending.until) going given given_new
+
+-- what was looked for by the clock: an evaluation, or none; or the loop is over
+abbrev pub HasLooked : {K N : Type 0} → Raising → Ending → FieldNode K N → FieldNode K N → Option (List Turn) → Option (List Turn)
+    → Option (List ℕ) → Option (List ℕ) → Option (List ℕ) → Option (List ℕ) → Looked → Type 0
+HasLooked raising ending old new given_old given_new noted_old noted_new from to Over =
+    Ends raising ending old new given_old given_new noted_old noted_new from to
+HasLooked raising ending old new given_old given_new noted_old noted_new from to Idle =
+    Follows raising ending old new true given_old given_new noted_old noted_new from to
+HasLooked raising ending old new given_old given_new noted_old noted_new from to Evaluated =
+    Follows raising ending old new true given_old given_new noted_old noted_new from to
+
+-- a loop that took this is going
+abbrev pub goes_on : Took → Bool
+goes_on Nothing = true
+goes_on Something = true
+goes_on Last = false
+
+-- a node made of a turn what is to be made of it
+pub record MadeOf {K N : Type 0} (raising : Raising) (old new : FieldNode K N) (turn : Turn)
+    (noted_old noted_new : Option (List ℕ)) (text : List ℕ) : Type 0 where
+  pub same : IsSameSetting old new
+  pub made : Makes raising (setting_of old) (condition_of old noted_old) (condition_of new noted_new) turn text
+
+-- why a node doesn't make what is to be made of a turn
+abbrev pub NotMadeOf : {K N : Type 0} → Raising → FieldNode K N → Turn → Option (List ℕ) → Option (List ℕ) → LoopStop → Type 0
+NotMadeOf raising s turn noted_old noted_new (Live (Node why)) =
+    Undoes raising (setting_of s) (condition_of s noted_old) turn why noted_new
+NotMadeOf raising s turn noted_old noted_new (Live Read) =
+    (turn ≡ Takes Neighbours (Unread reading.Read)) × (noted_new ≡ noted_old)
+NotMadeOf raising s turn noted_old noted_new (Live Write) = ⊥
+NotMadeOf raising s turn noted_old noted_new (Live Memory) =
+    (turn ≡ Takes Neighbours (Unread reading.Memory)) × (noted_new ≡ noted_old)
+NotMadeOf raising s turn noted_old noted_new Clock = ⊥
+
+-- turns were made from an going loop on, and it stopped
+abbrev pub Stops : {K N : Type 0} → Raising → Ending → FieldNode K N → Option (List Turn) → Option (List Turn) → Option (List ℕ)
+    → Option (List ℕ) → Option (List ℕ) → Option (List ℕ) → LoopStop → Type 0
+Stops raising ending old given_old given_new noted_old noted_new from to stop =
+    StopsBehind raising (setting_of old) ending (stands old true given_old noted_old from) given_new noted_new to stop
 
 -- no more than a beginning of a text was written
 abbrev pub IsUnwritten : List ℕ → Option (List ℕ) → Option (List ℕ) → LoopStop → Type 0
 IsUnwritten text from to stop = (stop ≡ Live Write) × SendsPart text from to
-
--- the stop at an input of the neighbours' that can't be read
-abbrev pub stop_of : ReadFault → LoopStop
-stop_of reading.Read = Live Read
-stop_of reading.Memory = Live Memory
