@@ -1411,7 +1411,7 @@ class LanesView {
 
   fault(event, y) {
     const x = event.column === undefined ? GUTTER : this.x(event.column);
-    return [path(`M${x} ${y - 9}L${x + 9} ${y + 7}H${x - 9}Z`, "fault-sign"), this.told(x + 15, y, LABELS.fault(event), "strong")];
+    return [path(`M${x} ${y - 9}L${x + 9} ${y + 7}H${x - 9}Z`, "fault-sign"), this.told(x + 15, y, LABELS[event.kind](event), "strong")];
   }
 
   unshown(event, y) {
@@ -1423,11 +1423,11 @@ class LanesView {
   }
 
   overrun(event, y) {
-    return [this.inLane(event, y, "strong")];
+    return this.fault(event, y);
   }
 
   ended(event, y) {
-    return [this.inLane(event, y, "strong")];
+    return this.fault(event, y);
   }
 
   /** What an event tells, beside its lane if it has one. */

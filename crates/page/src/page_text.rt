@@ -5,7 +5,7 @@ pub const HEAD: &str = r#"<!doctype html>
 <html lang="en">
 <head>
 <meta charset="utf-8">
-<meta http-equiv="Content-Security-Policy" content="default-src 'none'; style-src 'sha256-bg51AnsbfjPuqyVDUmKWc71XTY6GF3Ion86+ImvJcEw='; script-src 'sha256-9oLiTQf2sBVm+JgZ5jSvKPEtGr4mZtQBIk2VvBYEqJ0=' 'sha256-GTBYzZZW3x4XFOVIrt+7M/o94YLtLlLJjP9OOjH+ftM='; base-uri 'none'; form-action 'none'">
+<meta http-equiv="Content-Security-Policy" content="default-src 'none'; style-src 'sha256-bg51AnsbfjPuqyVDUmKWc71XTY6GF3Ion86+ImvJcEw='; script-src 'sha256-9oLiTQf2sBVm+JgZ5jSvKPEtGr4mZtQBIk2VvBYEqJ0=' 'sha256-E3/HIvKaYiT6n0rwfPwoDvZX09/3YeZ/kqgNnSbK6jY='; base-uri 'none'; form-action 'none'">
 <meta name="viewport" content="width=device-width, initial-scale=1">
 <meta name="color-scheme" content="light dark">
 <title>plc</title>
@@ -1650,7 +1650,7 @@ class LanesView {
 
   fault(event, y) {
     const x = event.column === undefined ? GUTTER : this.x(event.column);
-    return [path(`M${x} ${y - 9}L${x + 9} ${y + 7}H${x - 9}Z`, "fault-sign"), this.told(x + 15, y, LABELS.fault(event), "strong")];
+    return [path(`M${x} ${y - 9}L${x + 9} ${y + 7}H${x - 9}Z`, "fault-sign"), this.told(x + 15, y, LABELS[event.kind](event), "strong")];
   }
 
   unshown(event, y) {
@@ -1662,11 +1662,11 @@ class LanesView {
   }
 
   overrun(event, y) {
-    return [this.inLane(event, y, "strong")];
+    return this.fault(event, y);
   }
 
   ended(event, y) {
-    return [this.inLane(event, y, "strong")];
+    return this.fault(event, y);
   }
 
   /** What an event tells, beside its lane if it has one. */
