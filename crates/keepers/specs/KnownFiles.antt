@@ -29,7 +29,7 @@ IsRead Broken most (Err fault.Failed) = Unit {0}
 abbrev pub Reading : Type 1
 Reading = List ℕ → ℕ → Result (Option (Vec ℕ)) FolderFault → Type 0
 
--- A file that can't be read is one of which the folder may answer so.
+-- If a file can't be read, the folder may answer so.
 abbrev pub MayFail : Reading → List ℕ → KnownFile → Type 0
 MayFail answers name Unknown = Unit {0}
 MayFail answers name Missing = Unit {0}
