@@ -18,7 +18,7 @@ uses is a variable; it is written in either case.
 After each scan one line of all variables is written, in the order in which they appear in the drawing. With
 --show the drawing follows each of these lines as it stands in the file, with = for a - that has power in this
 scan, and # for a + or | of an upright that has it; --color always writes these in bold green, and auto does
-where standard output is a terminal. With --chart one line is written for each variable instead, after the
+on a terminal where NO_COLOR isn't set. With --chart one line is written for each variable instead, after the
 last scan: a BOOL is # where it is on and _ where it is off, a sign for each scan; a number or time is written
 after the first scan, and behind a blank after each one that changed it.
 
