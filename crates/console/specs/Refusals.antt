@@ -93,6 +93,10 @@ refusal_of file (Bind fault) = at_place file fault.line fault.column (kind_of_na
 refusal_of file (Plant fault) = at_line file fault.line fault.kind fault.inner
 refusal_of file TooLong = codes "plan: TooLong"
 
+-- the first line of what is told of the schedule of a file of which a line is no event
+abbrev pub no_event : List ℕ → ℕ → List ℕ
+no_event file line = shown file ++ codes ":" ++ decimal line ++ codes ": Syntax"
+
 -- a BOOL as a digit
 abbrev pub bit_text : Bool → List ℕ
 bit_text value = if value then codes "1" else codes "0"

@@ -2,7 +2,7 @@ ghost use Rattle.std.specs.Prelude.{◌≡◌, IfOk};
 ghost use Rattle.console.specs.Statuses.{status_of_fault, status_of_inputs, status_of_lines, status_of_schedule};
 
 use crate::command_fault::CommandFault;
-use crate::refusals::{DifferenceLine, Refusal};
+use crate::refusals::{DifferenceLine, NoEvent, Refusal};
 use crate::remarks::{print_mark_of, print_remark};
 use crate::shown::Shown;
 use crate::status::{DIFFERS, FAILED, TEXT_REFUSED, WORD_REFUSED};
@@ -32,7 +32,7 @@ fn print_text_fault<R: Eprint + AllocGlobal>(
 {
     let refusal = Refusal { file, fault };
     eprintln!(rt; "{refusal}")?;
-    print_remark(rt, file, text, fault)?;
+    print_remark(rt, file, text, fault);
     print_help(rt, help_with(rt.alloc(), text, fault));
     Ok(TEXT_REFUSED)
 }
@@ -139,9 +139,9 @@ pub(crate) fn print_sim_fault<R: Eprint + AllocGlobal>(
 {
     match fault {
         SimFault::Syntax { line } => {
-            let shown = Shown(file);
-            eprintln!(rt; "{shown}:{fault}")?;
-            print_mark_of(rt, file, schedule)?;
+            let refusal = NoEvent { file, line };
+            eprintln!(rt; "{refusal}")?;
+            print_mark_of(rt, file, schedule);
             print_help(rt, help_with_a_schedule(rt.alloc(), schedule, line));
             Ok(TEXT_REFUSED)
         }
@@ -161,8 +161,9 @@ pub(crate) fn print_live_fault<R: Eprint + AllocGlobal>(
     ensures { IfOk result (λ status. status ≡ status_of_lines fault) }
 {
     match fault {
-        LiveFault::Syntax { .. } | LiveFault::TooLong { .. } => {
-            eprintln!(rt; "{file}:{fault}")?;
+        LiveFault::Syntax { line: number } | LiveFault::TooLong { line: number } => {
+            let refusal = NoEvent { file, line: number };
+            eprintln!(rt; "{refusal}")?;
             let text = str::from_utf8(line).unwrap_or("");
             print_help(rt, help_with_a_schedule(rt.alloc(), text, 1));
             Ok(TEXT_REFUSED)

@@ -2,7 +2,7 @@
 
 ghost use Rattle.std.specs.Prelude.{◌≡◌, Some};
 ghost use Rattle.std.specs.Fmt.{DisplaysOnOk};
-ghost use Rattle.console.specs.Refusals.{at_line, at_place, bit_text, difference_line, difference_text, kind_of_body, kind_of_drawing, kind_of_names, kind_of_networks, kind_of_plant, refusal_of};
+ghost use Rattle.console.specs.Refusals.{at_line, at_place, bit_text, difference_line, difference_text, kind_of_body, kind_of_drawing, kind_of_names, kind_of_networks, kind_of_plant, no_event, refusal_of};
 
 use crate::shown::Shown;
 use ladder_text::DrawFaultKind;
@@ -146,6 +146,22 @@ impl Display for Refusal<'_> {
             TextFault::Plant(fault) => write_at_line(f, self.file, fault),
             TextFault::TooLong => f.write_str("plan: TooLong"),
         }
+    }
+}
+
+/// The first line of what is told of a schedule of which a line is no event.
+#[derive(Clone, Copy)]
+pub(crate) struct NoEvent<'a> {
+    pub file: &'a str,
+    pub line: u64,
+}
+
+impl Display for NoEvent<'_> {
+    ghost output = { λ r. Some (no_event r.file.now r.line) };
+
+    fn fmt<W: fmt::Write>(&self, f: &mut Formatter<W>) -> fmt::Result {
+        let (file, line) = (Shown(self.file), self.line);
+        write!(f, "{file}:{line}: Syntax")
     }
 }
 

@@ -113,26 +113,20 @@ fn print_mark<R: Eprint>(rt: &R, file: &str) -> io::Result<()> {
     )
 }
 
-/// Tells of the byte order mark of a text that is refused, if it begins with one.
-pub(crate) fn print_mark_of<R: Eprint>(rt: &R, file: &str, text: &str) -> io::Result<()> {
+/// Tells of the byte order mark of a text that was refused, if it begins with one. What can't be told here is left out.
+pub(crate) fn print_mark_of<R: Eprint>(rt: &R, file: &str, text: &str) {
     if begins_with_mark(text) {
-        print_mark(rt, file)?;
+        let _told = print_mark(rt, file);
     }
-    Ok(())
 }
 
-/// Tells what is to be told of the whole of a text that is refused for this.
-pub(crate) fn print_remark<R: Eprint>(
-    rt: &R,
-    file: &str,
-    text: &str,
-    fault: TextFault,
-) -> io::Result<()> {
+/// Tells what is to be told of the whole of a text that was refused for this. What can't be told here is left out.
+pub(crate) fn print_remark<R: Eprint>(rt: &R, file: &str, text: &str, fault: TextFault) {
     let shown = Shown(file);
-    match remark_of(fault, begins_with_mark(text), look_of(text)) {
+    let _told = match remark_of(fault, begins_with_mark(text), look_of(text)) {
         Remark::Mark => print_mark(rt, file),
         Remark::Plant => eprintln!(rt; "this is a plant: plc check {shown}"),
         Remark::Drawing => eprintln!(rt; "this is a drawing: plc eval {shown}"),
         Remark::Nothing => Ok(()),
-    }
+    };
 }

@@ -280,7 +280,10 @@ fn print_no_folder<R: Eprint>(
     host: &HostRuntime,
     folder: &str,
 ) -> io::Result<bool> {
-    let is_there = fs::metadata(host, folder).is_ok_and(|found| found.is_dir());
+    let is_there = match fs::metadata(host, folder) {
+        Ok(found) => found.is_dir(),
+        Err(_) => false,
+    };
     if !is_there {
         eprintln!(rt; "plc: {folder}: there is no folder of this name")?;
     }

@@ -46,7 +46,8 @@ fn push_read<'a, R: Files>(
         path,
         option: None,
         identity: identity(rt, path),
-    })
+    })?;
+    Ok(())
 }
 
 /// Adds a file that is read, where there is one.
@@ -72,14 +73,15 @@ fn push_written<'a, R: Files>(
 ) -> Result<(), AllocError>
     ensures { OnOk result (map named files.new.items ≡ map named files.old.items ++ written path.entry option.entry.now) }
 {
-    match path {
-        Some(path) => files.push(FileUse {
-            path,
-            option: Some(option),
-            identity: identity(rt, path),
-        }),
-        None => Ok(()),
-    }
+    let Some(path) = path else {
+        return Ok(());
+    };
+    files.push(FileUse {
+        path,
+        option: Some(option),
+        identity: identity(rt, path),
+    })?;
+    Ok(())
 }
 
 /// Adds the files of a trace.
