@@ -102,11 +102,7 @@ fn write_at_place<W: fmt::Write>(
 }
 
 /// Writes what is wrong on a line of a file, and what its body has wrong, where that is told.
-fn write_at_line<W: fmt::Write>(
-    f: &mut Formatter<W>,
-    file: &str,
-    fault: PlantFault,
-) -> fmt::Result
+fn write_at_line<W: fmt::Write>(f: &mut Formatter<W>, file: &str, fault: PlantFault) -> fmt::Result
     ensures { DisplaysOnOk W.write_str_gives f.old result (Some (at_line file.now fault.line fault.kind fault.inner)) f.new }
 {
     let (file, line, kind) = (Shown(file), fault.line, kind_of_plant(fault.kind));

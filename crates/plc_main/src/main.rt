@@ -275,11 +275,7 @@ fn print_resource_faults<R: Eprint + AllocGlobal>(
 }
 
 /// Tells where there is no folder of this name; whether that is so.
-fn print_no_folder<R: Eprint>(
-    rt: &R,
-    host: &HostRuntime,
-    folder: &str,
-) -> io::Result<bool> {
+fn print_no_folder<R: Eprint>(rt: &R, host: &HostRuntime, folder: &str) -> io::Result<bool> {
     let is_there = match fs::metadata(host, folder) {
         Ok(found) => found.is_dir(),
         Err(_) => false,

@@ -12,7 +12,7 @@ loop-sign-preserved g c =
     λ plain.
     let before = c.loop-sign.invariant plain in
     has_written_of_eq _ _ _ _ _ (ap (λ l. flat_map shown_char c.loop-sign.yielded ++ l) c.shown_char.ensures ∙ flat_map_more shown_char [] c.loop-sign.yielded c.in-Some.sign)
-      (has_written_append _ _ _ _ _ _ before (c.write_char.ensures.writes before.plain (search rules)))
+    (has_written_append _ _ _ _ _ _ before (c.write_char.ensures.writes before.plain (search rules)))
 
 pub returns-clause-writes : goal.returns-clause-writes
 returns-clause-writes g c =
