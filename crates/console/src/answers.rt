@@ -1,12 +1,10 @@
 ghost use Rattle.std.specs.Prelude.{◌≡◌, IfOk, IfErr};
 ghost use Rattle.console.specs.Answers.{AreWantedFor, HasNoTrace, WritesAnswer, ExplainsAnswer, form_of, is_colored};
 ghost use Rattle.console.specs.Endings.{EndsAfter, EndsText, status_of_difference};
-ghost use Rattle.console.specs.Giving.{command_fault};
-ghost use Rattle.console.specs.Statuses.{status_of_fault};
 
 use crate::answered::Answered;
 use crate::command_fault::CommandFault;
-use crate::faults::{print_difference, print_failure, print_fault, print_unwritten};
+use crate::faults::{print_difference, print_failure, print_fault_of_text, print_unwritten};
 use crate::files::file_text;
 use crate::piped::Piped;
 use crate::request::{Color, TextRequest, TraceFiles, View};
@@ -116,22 +114,6 @@ fn tell_difference<R: Eprint>(rt: &R, file: &str, difference: Option<Difference>
     }
 }
 
-/// Tells why a command of one text wasn't done to its end; the status.
-fn tell_text_fault<R: Eprint + AllocGlobal>(
-    rt: &R,
-    request: &TextRequest<'_>,
-    text: &str,
-    is_closed: bool,
-    fault: TextCommandFault,
-) -> io::Result<u8>
-    ensures { IfOk result (λ status. status ≡ status_of_fault (command_fault fault)) }
-{
-    match fault {
-        TextCommandFault::Write => print_unwritten(rt, is_closed),
-        _ => print_fault(rt, request.file(), text, request.words(), fault.into()),
-    }
-}
-
 /// Tells how a command of one text ended; the status, and the texts for the files of a trace. `is_closed` is whether the
 /// output's reader has ended.
 fn tell_text<R: Eprint + AllocGlobal>(
@@ -149,7 +131,8 @@ fn tell_text<R: Eprint + AllocGlobal>(
             Ok(Answered { status, texts })
         }
         Err(fault) => {
-            let status = tell_text_fault(rt, request, text, is_closed, fault)?;
+            let (file, words) = (request.file(), request.words());
+            let status = print_fault_of_text(rt, file, text, words, is_closed, fault)?;
             Ok(Answered::with(status))
         }
     }

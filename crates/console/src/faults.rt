@@ -1,4 +1,5 @@
 ghost use Rattle.std.specs.Prelude.{◌≡◌, IfOk};
+ghost use Rattle.console.specs.Giving.{command_fault};
 ghost use Rattle.console.specs.Statuses.{status_of_fault, status_of_inputs, status_of_lines, status_of_schedule};
 
 use crate::command_fault::CommandFault;
@@ -11,7 +12,7 @@ use guidance::{help_with, help_with_a_schedule, help_with_a_word};
 use std::alloc::AllocError;
 use std::fmt::Display;
 use std::io;
-use text_commands::{Difference, TextFault, WordFaultKind};
+use text_commands::{Difference, TextCommandFault, TextFault, WordFaultKind};
 use world::{LiveFault, SimFault};
 
 /// Tells what helps to mend a text. The fault was told before: what can't be told here is left out.
@@ -94,6 +95,23 @@ pub fn print_fault<R: Eprint + AllocGlobal>(
         CommandFault::Write | CommandFault::Run(_) | CommandFault::Memory => {
             print_failure(rt, fault)
         }
+    }
+}
+
+/// Tells a fault of a command of one text; the status. `is_closed` is whether the output's reader has ended.
+pub(crate) fn print_fault_of_text<R: Eprint + AllocGlobal>(
+    rt: &R,
+    file: &str,
+    text: &str,
+    words: &[&str],
+    is_closed: bool,
+    fault: TextCommandFault,
+) -> io::Result<u8>
+    ensures { IfOk result (λ status. status ≡ status_of_fault (command_fault fault)) }
+{
+    match fault {
+        TextCommandFault::Write => print_unwritten(rt, is_closed),
+        _ => print_fault(rt, file, text, words, fault.into()),
     }
 }
 
