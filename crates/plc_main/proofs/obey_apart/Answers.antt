@@ -1,4 +1,4 @@
-use Rattle.std.proofs.Common.{◌≡◌, ap, inl, refl, sym, ◌∙◌}
+use Rattle.std.proofs.Common.{ap, inl, refl, sym, ◌∙◌}
 use Rattle.std.proofs.lemmas.Result.{IfOk-weaker}
 use Rattle.plc_main.specs.Clashes.{first_clash}
 use Rattle.plc_main.proofs.obey_apart.Goals as goal

@@ -1,4 +1,4 @@
-use Rattle.std.proofs.Common.{◌≡◌, ◌++◌, ◌∷◌, [], ap, sym, rules, ◌∙◌}
+use Rattle.std.proofs.Common.{◌++◌, [], ap, sym, rules, ◌∙◌}
 use Rattle.std.proofs.Output.{has_written_append, has_written_of_eq}
 use Rattle.std.proofs.lemmas.List.{flat_map_more, map-id}
 use Rattle.std.proofs.lemmas.Iterator.{YieldsList-from_chars}
