@@ -1,0 +1,3 @@
+pub mod SameNames
+pub mod LaterCoils
+pub mod WarningOrder
