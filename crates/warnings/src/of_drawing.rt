@@ -2,12 +2,15 @@
 
 ghost use Rattle.std.specs.Prelude.{◌≡◌, IfOk, OnOk, map};
 ghost use Rattle.std.specs.List.Sorted.{IsPermutation, IsSortedBy};
+ghost use Rattle.warnings.specs.NeverRead.{found_in_a_program, AreProgramWarnings};
 ghost use Rattle.warnings.specs.Found.{found, is_told_before, AreWarnings};
 
 use crate::elements::elements_of;
 use crate::mistyped::mistyped;
+use crate::never_read::never_read;
 use crate::overwritten::doubles;
 use crate::warning::Warning;
+use declared_names::Declarations;
 use network::{Element, Graph};
 use std::alloc::{AllocError, Global};
 
@@ -18,6 +21,21 @@ fn sort_warnings(warnings: &mut Vec<Warning>) -> Result<(), AllocError>
 {
     warnings.sort_by_key(|warning: &Warning| (warning.line, warning.column))?;
     Ok(())
+}
+
+/// All that is warned of in the drawing of a program, kind after kind.
+fn found_in_a_program(
+    alloc: Global,
+    first_line: u64,
+    declarations: &Declarations,
+    elements: &[&Element],
+) -> Result<Vec<Warning>, AllocError>
+    ensures { IfOk result (λ found. found.items ≡ found_in_a_program first_line declarations.now (map (λ e. e.now) elements.now)) }
+{
+    let mut warnings = doubles(alloc, first_line, elements)?;
+    let mut more = never_read(alloc, first_line, declarations, elements)?;
+    warnings.append(&mut more)?;
+    Ok(warnings)
 }
 
 /// All that is warned of, kind after kind.
@@ -37,6 +55,22 @@ pub fn warnings_of_a_drawing(alloc: Global, graph: &Graph) -> Result<Vec<Warning
 {
     let elements = elements_of(alloc, graph)?;
     let mut warnings = found(alloc, graph.first_line(), &elements)?;
+    sort_warnings(&mut warnings)?;
+    Ok(warnings)
+}
+
+/// What is warned of in the drawing of a program with these declarations, by line and then column: each coil that a later
+/// one overwrites in the same evaluation, and each place where a variable is stored into that nothing reads and that is
+/// neither an input nor an output.
+pub fn warnings_of_a_program(
+    alloc: Global,
+    graph: &Graph,
+    declarations: &Declarations,
+) -> Result<Vec<Warning>, AllocError>
+    ensures { IfOk result (λ warnings. AreProgramWarnings graph.now declarations.now warnings.items) }
+{
+    let elements = elements_of(alloc, graph)?;
+    let mut warnings = found_in_a_program(alloc, graph.first_line(), declarations, &elements)?;
     sort_warnings(&mut warnings)?;
     Ok(warnings)
 }

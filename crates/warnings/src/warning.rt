@@ -1,5 +1,6 @@
 ghost use Rattle.std.specs.Prelude.{◌≡◌};
 ghost use Rattle.warnings.specs.Found.{warning_at};
+ghost use Rattle.warnings.specs.Sentences.{sentence_of};
 
 use drawings::Place;
 use thiserror::Error;
@@ -11,6 +12,24 @@ pub enum WarningKind {
     DoubleCoil,
     /// A contact on a variable that nothing stores into, beside a name that is nearly the same.
     MistypedContact,
+    /// A coil or an output pin on a variable of a program that nothing reads, and that isn't an output.
+    NeverRead,
+}
+
+impl WarningKind {
+    /// What is most likely not meant, and what to write instead.
+    pub fn sentence(self) -> &'static str
+        ensures { result.now ≡ sentence_of self }
+    {
+        match self {
+            WarningKind::DoubleCoil =>
+                "Another coil stores into this variable later in each scan, so that what this one stores doesn't last. Give one rung the coil, with both conditions in parallel, or use (S) and (R).",
+            WarningKind::MistypedContact =>
+                "Nothing stores into this variable, and another name is nearly the same. Where that one is meant, write it alike; a variable of its own has a name that differs by more than a letter.",
+            WarningKind::NeverRead =>
+                "Nothing reads this variable, and it is no output. Read it, declare it as VAR_OUTPUT, or leave it out.",
+        }
+    }
 }
 
 /// What is lawful, and most likely not meant, and where.
