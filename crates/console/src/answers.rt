@@ -9,6 +9,7 @@ use crate::files::file_text;
 use crate::request::{Color, TextRequest, TraceFiles, View};
 use crate::shown::Shown;
 use crate::status::{DONE, WORD_REFUSED};
+use crate::warned::warn;
 use guidance::{explain, kinds};
 use std::alloc::Global;
 use std::io;
@@ -87,6 +88,7 @@ pub fn obey<W: Write>(
             color,
             files,
             words,
+            ..
         } => {
             let form = form_of(*view, *color, terminal);
             let wanted = wanted_for(drawing, *files);
@@ -120,11 +122,12 @@ fn tell_text<R: Eprint + AllocGlobal>(
     text: &str,
     obeyed: Result<Traced, TextCommandFault>,
 ) -> io::Result<Answered>
-    ensures { IfOk result (EndsAfter obeyed) }
+    ensures { IfOk result (EndsAfter request.now text.now obeyed) }
 {
     match obeyed {
         Ok(Traced { difference, texts }) => {
             let status = tell_difference(rt, request.file(), difference)?;
+            let status = warn(rt, request.file(), text, request.strictness(), status)?;
             Ok(Answered { status, texts })
         }
         Err(fault) => {

@@ -29,6 +29,10 @@ With --vcd FILE all variables are written as a value change dump (IEEE 1364) aft
 waves; with --svg FILE as a timing diagram, which a browser shows. The first scan is at 0 ms, each further one --dt MS later,
 or 1 ms where that is 0. A file is written whole, in the place of one of its name; both options may be given.
 
+What is lawful and most likely not meant is told on standard error behind all else, with its place and kind as a fault is:
+DoubleCoil, a coil that another one overwrites in the same scan; MistypedContact, a contact on a variable that nothing stores,
+beside a name that is nearly the same. With --strict the exit status is then 1 in place of 0; --no-warnings tells nothing.
+
 Example, for the drawing examples/start_stop.ladder:
 
   $ plc eval examples/start_stop.ladder START=100 STOP=001
@@ -47,8 +51,8 @@ Example, for the drawing examples/start_stop.ladder:
   RUN   ##_
   $ plc eval examples/start_stop.ladder START=100 STOP=001 --svg start_stop.svg >/dev/null
 
-The exit status is 0; 1 if the text of the drawing is refused, with FILE:LINE:COLUMN: Kind on standard error;
-2 if a word is refused; 3 if the file can't be read, the output or a file can't be written or there is no memory left;
+The exit status is 0; 1 if the text of the drawing is refused, with FILE:LINE:COLUMN: Kind on standard error, or with --strict
+where there is a warning; 2 if a word is refused; 3 if the file can't be read, the output or a file can't be written or there is no memory left;
 4 if a variable isn't what a word NAME==BITS tells.";
 
 /// What `plc verify --help` tells behind the words.
@@ -90,8 +94,11 @@ Example:
   HOLDS R1.A.INSIDE, R2.O.INSIDE are never on together: 185 states, 1562 steps
   given each task every INTERVAL
 
+Warnings of a drawing are told behind all else, as plc eval --help says; --strict and --no-warnings are as there.
+
 The exit status is 0 if all claims hold; 4 if one fails; 5 if none fails and one is undecided; 1 if the text of the file
-is refused, with FILE:LINE:COLUMN: Kind on standard error; 2 if a word is refused; 3 if the file can't be read, the output
+is refused, with FILE:LINE:COLUMN: Kind on standard error, or with --strict where all hold and there is a warning; 2 if a
+word is refused; 3 if the file can't be read, the output
 can't be written or there is no memory left.";
 
 /// What `plc check --help` tells behind the words.

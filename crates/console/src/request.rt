@@ -1,5 +1,5 @@
 ghost use Rattle.std.specs.Prelude.{◌≡◌, map};
-ghost use Rattle.console.specs.CommandLine.{file_of, files_in, words_in};
+ghost use Rattle.console.specs.CommandLine.{file_of, files_in, strictness_of, words_in};
 
 /// What is written of the scans of a drawing.
 #[derive(Clone, Copy, Debug, PartialEq, Eq)]
@@ -19,6 +19,17 @@ pub enum Color {
     /// Where standard output is a terminal.
     Auto,
     Never,
+}
+
+/// What becomes of warnings.
+#[derive(Clone, Copy, Debug, PartialEq, Eq)]
+pub enum Strictness {
+    /// They are told.
+    Told,
+    /// They are told, and where there are some the status is 1 in place of 0.
+    Strict,
+    /// They aren't told.
+    Silent,
 }
 
 /// The files that are written of a trace: a value change dump, and a timing diagram.
@@ -47,6 +58,7 @@ pub enum TextRequest<'a> {
         view: View,
         color: Color,
         files: TraceFiles<'a>,
+        strictness: Strictness,
         words: Vec<&'a str>,
     },
     /// How many resources, tasks, programs and connections a plant has.
@@ -82,6 +94,16 @@ impl<'a> TextRequest<'a> {
         }
     }
 
+    /// What becomes of warnings: those of a plant aren't told.
+    pub fn strictness(&self) -> Strictness
+        ensures { result ≡ strictness_of self.now }
+    {
+        match self {
+            TextRequest::Eval { strictness, .. } => *strictness,
+            TextRequest::Check { .. } | TextRequest::Plan { .. } => Strictness::Silent,
+        }
+    }
+
     /// The words NAME=BITS and NAME==BITS.
     pub fn words(&self) -> &[&'a str]
         ensures { map (λ w. w.now) result.now ≡ words_in self.now }
@@ -95,7 +117,7 @@ impl<'a> TextRequest<'a> {
 
 /// Whether variables of a drawing, or outputs of a plant, are ever TRUE. The claims name them: by names without a dot the
 /// file is a drawing, by names `R.P.V` a plant. `dt` is the time between scans or evaluations in ms. What is given, restarts
-/// and `most_waiting` are of plants. At most `most_states` states are looked at; the words hold inputs.
+/// and `most_waiting` are of plants, warnings of drawings. At most `most_states` states are looked at; the words hold inputs.
 #[derive(Drop)]
 pub struct VerifyRequest<'a> {
     pub file: &'a str,
@@ -105,6 +127,7 @@ pub struct VerifyRequest<'a> {
     pub dt: Option<u32>,
     pub most_states: u32,
     pub most_waiting: Option<u32>,
+    pub strictness: Strictness,
     pub words: Vec<&'a str>,
 }
 
