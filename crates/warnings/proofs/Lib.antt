@@ -2,3 +2,4 @@ pub mod SameNames
 pub mod LaterCoils
 pub mod WarningOrder
 pub mod FaultyNetworks
+pub mod WarnedBodies

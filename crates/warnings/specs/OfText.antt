@@ -10,20 +10,20 @@ use Rattle.network.specs.Networks.{AreNetworks, HasFaultlessNetworks}
 use Rattle.warnings.specs.declared.warning.Warning.{Warning}
 use Rattle.warnings.specs.Found.{AreWarnings}
 
--- what is drawn in a text
-abbrev pub drawn_in : List ℕ → Picture
-drawn_in text = picture_of 1 (layout_of (rows_of text))
+-- what is drawn in a text that begins on this line
+abbrev pub drawn_in : ℕ → List ℕ → Picture
+drawn_in first_line text = picture_of first_line (layout_of (rows_of text))
 
--- a text is a drawing with these networks
-pub record AreNetworksOf (text : List ℕ) (graph : GraphValue) : Type 0 where
+-- a text that begins on this line is a drawing with these networks
+pub record AreNetworksOf (first_line : ℕ) (text : List ℕ) (graph : GraphValue) : Type 0 where
   pub drawn : IsWellDrawn (rows_of text)
-  pub networks : AreNetworks (drawn_in text) graph
-  pub faultless : HasFaultlessNetworks (drawn_in text)
+  pub networks : AreNetworks (drawn_in first_line text) graph
+  pub faultless : HasFaultlessNetworks (drawn_in first_line text)
 
--- a text is no drawing, or one whose networks have a fault
-abbrev pub HasNoNetworks : List ℕ → Type 0
-HasNoNetworks text = IsIllDrawn (rows_of text) ⊎ (HasFaultlessNetworks (drawn_in text) → ⊥)
+-- a text that begins on this line is no drawing, or one whose networks have a fault
+abbrev pub HasNoNetworks : ℕ → List ℕ → Type 0
+HasNoNetworks first_line text = IsIllDrawn (rows_of text) ⊎ (HasFaultlessNetworks (drawn_in first_line text) → ⊥)
 
 -- a text is a drawing with networks, and these are its warnings
 abbrev pub AreWarningsOf : List ℕ → List Warning → Type 0
-AreWarningsOf text warnings = (graph : GraphValue) × AreNetworksOf text graph × AreWarnings graph warnings
+AreWarningsOf text warnings = (graph : GraphValue) × AreNetworksOf 1 text graph × AreWarnings graph warnings

@@ -9,5 +9,5 @@ pub returns : goal.returns
 returns c =
     let Fault : Picture → Type 0 = λ g. IsFirstGraphFault g c.in-Err-build.fault in
     inr (λ faultless.
-    has_fault (drawn_in c.args.text.now) c.in-Err-build.fault c.in_default-kind.not-Memory
+    has_fault (drawn_in c.args.first_line c.args.text.now) c.in-Err-build.fault c.in_default-kind.not-Memory
     (subst Fault c.in-Ok.ensures.drawing c.in-Err-build.ensures.fault) faultless)
