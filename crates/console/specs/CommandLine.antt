@@ -169,9 +169,9 @@ claimed_app =
 abbrev pub verify_app : App
 verify_app = with_rule (warned claimed_app) words_rule
 
--- `check PLANT`
+-- `check PLANT [--strict] [--no-warnings]`
 abbrev pub check_app : App
-check_app = with_rule (new_app (codes "check")) plant_rule
+check_app = warned (with_rule (new_app (codes "check")) plant_rule)
 
 -- `plan PLANT --until MS`
 abbrev pub plan_app : App
@@ -328,7 +328,7 @@ AsksFiles found files =
 -- the subcommand that asks for it
 abbrev pub command_of : Request → Text
 command_of (OfText (Eval drawing dt view color files strictness words)) = codes "eval"
-command_of (OfText (Check plant)) = codes "check"
+command_of (OfText (Check plant strictness)) = codes "check"
 command_of (OfText (Plan plant until)) = codes "plan"
 command_of (Verify verify) = codes "verify"
 command_of (Sim sim) = codes "sim"
@@ -346,7 +346,8 @@ Asks found (OfText (Eval drawing dt view color files strictness words)) =
     × GivesColor (first_of (codes "color") found) color
     × AsksFiles found files × (map (λ w. w.now) words.items ≡ words_given found)
     × GivesStrictness (is_given (codes "strict") found) (is_given (codes "no-warnings") found) strictness
-Asks found (OfText (Check plant)) = plant.now ≡ given_word (codes "PLANT") found
+Asks found (OfText (Check plant strictness)) = (plant.now ≡ given_word (codes "PLANT") found)
+    × GivesStrictness (is_given (codes "strict") found) (is_given (codes "no-warnings") found) strictness
 Asks found (OfText (Plan plant until)) =
     (plant.now ≡ given_word (codes "PLANT") found) × GivesNumber 0 (first_of (codes "until") found) until
 Asks found (Verify verify) =
@@ -391,23 +392,23 @@ OnlyMemoryRefuses {X} asks error = (x : X) → asks x → kind_of error ≡ OutO
 -- the file that is to be read
 abbrev pub file_of : TextRequest → List ℕ
 file_of (Eval drawing dt view color files strictness words) = drawing.now
-file_of (Check plant) = plant.now
+file_of (Check plant strictness) = plant.now
 file_of (Plan plant until) = plant.now
 
 -- the files that are written of a trace
 abbrev pub files_in : TextRequest → TraceFiles
 files_in (Eval drawing dt view color files strictness words) = files
-files_in (Check plant) = record { vcd = None; svg = None }
+files_in (Check plant strictness) = record { vcd = None; svg = None }
 files_in (Plan plant until) = record { vcd = None; svg = None }
 
 -- what becomes of warnings
 abbrev pub strictness_of : TextRequest → Strictness
 strictness_of (Eval drawing dt view color files strictness words) = strictness
-strictness_of (Check plant) = Silent
+strictness_of (Check plant strictness) = strictness
 strictness_of (Plan plant until) = Silent
 
 -- the words NAME=BITS and NAME==BITS
 abbrev pub words_in : TextRequest → List (List ℕ)
 words_in (Eval drawing dt view color files strictness words) = map (λ w. w.now) words.items
-words_in (Check plant) = []
+words_in (Check plant strictness) = []
 words_in (Plan plant until) = []

@@ -24,7 +24,7 @@ use Rattle.console.specs.declared.request.TextRequest.{TextRequest}
 use Rattle.console.specs.declared.request.VerifyRequest.{VerifyRequest}
 use Rattle.console.specs.Answers.{WritesAnswer, ExplainsAnswer}
 use Rattle.console.specs.CommandLine.{file_of, strictness_of}
-use Rattle.console.specs.Warned.{EndsWarned}
+use Rattle.console.specs.Warned.{EndsWarned, IsDrawingQuiet, IsQuiet}
 use Rattle.console.specs.Giving.{command_fault}
 use Rattle.console.specs.ShellWord.{shell_word}
 use Rattle.console.specs.Statuses.{status_of, status_of_fault, status_of_question, status_of_plant_question, status_of_schedule, status_of_lines}
@@ -75,7 +75,7 @@ pub record EndsWith (status : ℕ) (answered : Answered) : Type 0 where
 -- how a command of one text ends, by what came of it; what was done is followed by warnings
 abbrev pub EndsAfter : TextRequest → List ℕ → Result Traced TextCommandFault → Answered → Type 0
 EndsAfter request text (Ok traced) answered =
-    EndsWarned (strictness_of request) text (status_of_difference traced.difference) answered.status
+    EndsWarned (IsQuiet request text) (strictness_of request) (status_of_difference traced.difference) answered.status
     × (answered.texts ≡ traced.texts)
 EndsAfter request text (Err fault) answered = EndsWith (status_of_fault (command_fault fault)) answered
 
@@ -95,7 +95,7 @@ EndsText terminal request answered =
 
 -- how `plc verify` of a drawing ends, by what came of it; verdicts are followed by warnings
 abbrev pub EndsVerdicts : VerifyRequest → List ℕ → Result Summary VerifyFault → ℕ → Type 0
-EndsVerdicts request text (Ok summary) status = EndsWarned request.strictness text (status_of summary) status
+EndsVerdicts request text (Ok summary) status = EndsWarned (IsDrawingQuiet text) request.strictness (status_of summary) status
 EndsVerdicts request text (Err fault) status = status ≡ status_of_question fault
 
 -- the claims about the drawing in a text were answered, or why they weren't; and so it ended

@@ -127,7 +127,7 @@ fn tell_text<R: Eprint + AllocGlobal>(
     match obeyed {
         Ok(Traced { difference, texts }) => {
             let status = tell_difference(rt, request.file(), difference)?;
-            let status = warn(rt, request.file(), text, request.strictness(), status)?;
+            let status = warn(rt, request, text, status)?;
             Ok(Answered { status, texts })
         }
         Err(fault) => {

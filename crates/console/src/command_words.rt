@@ -279,6 +279,23 @@ fn verify_request<'a>(
     }))
 }
 
+fn check_request<'a>(
+    command: &mut Command<'a>,
+    inner: &ArgMatches<'a>,
+) -> Result<Request<'a>, Error>
+    ensures ok { IfOk result (AsksFor (Some (codes "check", rows_of (found_of inner.now)))) }
+    ensures refused { IfErr result (OnlyMemoryRefuses (AsksFor (Some (codes "check", rows_of (found_of inner.now))))) }
+{
+    Ok(Request::Text(TextRequest::Check {
+        plant: given_word(inner, "PLANT"),
+        strictness: strictness_of(
+            command,
+            is_given(inner, "strict"),
+            is_given(inner, "no-warnings"),
+        )?,
+    }))
+}
+
 fn plan_request<'a>(command: &mut Command<'a>, inner: &ArgMatches<'a>) -> Result<Request<'a>, Error>
     ensures ok { IfOk result (AsksFor (Some (codes "plan", rows_of (found_of inner.now)))) }
     ensures refused { IfErr result (OnlyMemoryRefuses (AsksFor (Some (codes "plan", rows_of (found_of inner.now))))) }
@@ -378,9 +395,7 @@ fn request_of<'a>(
     match name {
         "eval" => eval_request(alloc, command, inner),
         "verify" => verify_request(alloc, command, inner),
-        "check" => Ok(Request::Text(TextRequest::Check {
-            plant: given_word(inner, "PLANT"),
-        })),
+        "check" => check_request(command, inner),
         "plan" => plan_request(command, inner),
         "sim" => sim_request(command, inner),
         "run" => run_request(alloc, command, inner),

@@ -369,10 +369,11 @@ fn verify_command<'a>(alloc: Global) -> Result<Command<'a>, AllocError>
 fn check_command<'a>(alloc: Global) -> Result<Command<'a>, AllocError>
     ensures { IfOk result (λ c. app_of c ≡ check_app) }
 {
-    Command::new(alloc, "check")
+    let command = Command::new(alloc, "check")
         .about("Reads a plant, and writes how many parts it has")
         .after_help(CHECK_HELP)
-        .arg(plant_arg(alloc))
+        .arg(plant_arg(alloc))?;
+    warned_command(alloc, command)
 }
 
 fn plan_command<'a>(alloc: Global) -> Result<Command<'a>, AllocError>

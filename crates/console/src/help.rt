@@ -113,8 +113,14 @@ Example:
   programs 2
   connections 3
 
+What is lawful and most likely not meant is told on standard error: in a program's drawing with FILE:LINE:COLUMN: Kind, DoubleCoil,
+a coil that another one overwrites in the same evaluation, and NeverRead, a VAR that is stored into and never read; and with
+FILE:LINE: Kind UnboundInput, an input that an instance doesn't bind. With --strict the exit status is then 1 in place of 0;
+--no-warnings tells nothing.
+
 The exit status is 0; 1 if the text of the plant is refused, with FILE:LINE: Kind on standard error (and the kind of what
-is wrong in a program's drawing behind it, as FILE:LINE: Bind WritesInput); 2 if a word is refused; 3 if the file can't
+is wrong in a program's drawing behind it, as FILE:LINE: Bind WritesInput), or with --strict where there is a warning; 2 if a
+word is refused; 3 if the file can't
 be read, the output can't be written or there is no memory left.";
 
 /// What `plc plan --help` tells behind the words.

@@ -64,6 +64,7 @@ pub enum TextRequest<'a> {
     /// How many resources, tasks, programs and connections a plant has.
     Check {
         plant: &'a str,
+        strictness: Strictness,
     },
     /// When the tasks of a plant are due, up to and with `until` (in ms).
     Plan {
@@ -79,7 +80,7 @@ impl<'a> TextRequest<'a> {
     {
         match self {
             TextRequest::Eval { drawing, .. } => drawing,
-            TextRequest::Check { plant } => plant,
+            TextRequest::Check { plant, .. } => plant,
             TextRequest::Plan { plant, .. } => plant,
         }
     }
@@ -94,13 +95,13 @@ impl<'a> TextRequest<'a> {
         }
     }
 
-    /// What becomes of warnings: those of a plant aren't told.
+    /// What becomes of warnings; the plan of a plant is told without any.
     pub fn strictness(&self) -> Strictness
         ensures { result ≡ strictness_of self.now }
     {
         match self {
-            TextRequest::Eval { strictness, .. } => *strictness,
-            TextRequest::Check { .. } | TextRequest::Plan { .. } => Strictness::Silent,
+            TextRequest::Eval { strictness, .. } | TextRequest::Check { strictness, .. } => *strictness,
+            TextRequest::Plan { .. } => Strictness::Silent,
         }
     }
 

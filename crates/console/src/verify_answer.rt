@@ -12,7 +12,7 @@ use crate::files::file_text;
 use crate::request::VerifyRequest;
 use crate::shell_word::shell_word;
 use crate::status::{CLAIM_FAILS, DONE, UNDECIDED, WORD_REFUSED};
-use crate::warned::warn;
+use crate::warned::warn_of_a_drawing;
 use std::alloc::Global;
 use std::io;
 use std::io::Write;
@@ -160,7 +160,7 @@ fn tell_verdicts<R: Eprint + AllocGlobal>(
     match answered {
         Ok(summary) => {
             let status = status_of(summary);
-            warn(rt, request.file, text, request.strictness, status)
+            warn_of_a_drawing(rt, request.file, text, request.strictness, status)
         }
         Err(fault) => print_verify_fault(rt, request, text, fault),
     }

@@ -1,5 +1,6 @@
-"""Drawings with names that differ by a letter, a digit or an underscore."""
+"""Drawings with names that differ by a letter, a digit or an underscore, and plants."""
 from .drawings import Names, drawing
+from .plants import plant
 
 NAMES = (
     "KM1 KM2 KM3 KMB KM_3 Km3 M1 MA M0 STOP ST0P STP STOPP START STRT STRAT START_1 START1 SMART MOTOR MOTER MOTO MOTORS M0TOR MOTOR1 MOTER1"
@@ -9,7 +10,10 @@ FLAGS = ([], [], ["--strict"], ["--strict"], ["--no-warnings"], ["--strict", "--
 
 
 def warned(chance):
-    """Such a drawing, with words for its scans, whose warnings are told, a failure or silent."""
+    """Such a drawing, with words for its scans, or a plant, whose warnings are told, a failure or silent."""
+    if chance.random() < 0.3:
+        files, _ = plant(chance)
+        return files, [["check", name, *chance.choice(FLAGS)] for name in files]
     bits = chance.sample(NAMES, chance.randint(3, 8))
     boxes = [(f"T{k}", chance.choice(("TON", "CTU", "SR"))) for k in range(chance.randint(0, 2))]
     reads = {"BOOL": bits, "INT": ["N", "COUNT"], "TIME": ["Z"]}

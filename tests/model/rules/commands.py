@@ -19,7 +19,7 @@ from .run import Run, do_in_turns, lines_of_run
 from .scan import Ladder, State
 from .schedule import MOST_U32, events_of
 from .traces import Track, diagram, dump
-from .warnings import warnings_of
+from .warnings import warnings_of, warnings_of_plant
 from . import verify_plant
 from .verify import MOST_INPUTS, TIMERS, Search, line_of, premises, stored_names, verdict_lines
 
@@ -67,7 +67,7 @@ WARNING_FLAGS = ("--strict", "--no-warnings")
 SHAPES = {
     "eval": Shape(1, ("--dt",), {"--color": COLORS}, ("--vcd", "--svg"), ("--show", "--chart", *WARNING_FLAGS), has_more=True),
     "verify": Shape(1, ("--dt", "--most-states", "--most-waiting"), flags=("--no-restarts", *WARNING_FLAGS), lists=("--never", "--given"), needed=("--never",), has_more=True),
-    "check": Shape(1),
+    "check": Shape(1, flags=WARNING_FLAGS),
     "plan": Shape(1, numbers=("--until",), needed=("--until",)),
     "sim": Shape(2, numbers=("--max-number",), names=("--vcd", "--svg")),
     "run": Shape(1, ("--until",), names=("--state", "--vcd", "--svg"), flags=("--paced",), needed=("--until",), has_more=True),
@@ -250,12 +250,13 @@ def evaluate(write, files, paths, options, more):
     tracks = [Track(None, it.name, it.kind, [values[words.fold(it.name)] for values in traced]) for it in variables]
     files.write_traces(options, paths[0], options.get("--dt", 0) or 1, len(traced), tracks)
     difference = first_difference(variables, expected, traced)
-    end_with_warnings(paths[0], ladder, options, DIFFERS if difference else 0, difference and f"{paths[0]}: {difference}")
+    warnings = warnings_of(ladder.drawing, ladder.networks)
+    end_with_warnings(paths[0], warnings, options, DIFFERS if difference else 0, difference and f"{paths[0]}: {difference}")
 
 
-def end_with_warnings(path, ladder, options, status, told=None):
-    """Tells the warnings of a drawing behind all else; with --strict the status is 1 in place of 0."""
-    warned = [] if "--no-warnings" in options else [f"{path}:{it}" for it in warnings_of(ladder.drawing, ladder.networks)]
+def end_with_warnings(path, warnings, options, status, told=None):
+    """Tells warnings behind all else; with --strict the status is 1 in place of 0."""
+    warned = [] if "--no-warnings" in options else [f"{path}:{it}" for it in warnings]
     if warned and "--strict" in options:
         status = status or REFUSED_TEXT
     if status or warned:
@@ -376,10 +377,13 @@ def verify_drawing(write, files, paths, options, more):
             write(line)
     if told := premises(found, stored):
         write("given " + ", ".join(told))
-    end_with_warnings(paths[0], ladder, options, CLAIM_FAILS if found.runs else UNDECIDED if found.depth is not None else 0)
+    warnings = warnings_of(ladder.drawing, ladder.networks)
+    end_with_warnings(paths[0], warnings, options, CLAIM_FAILS if found.runs else UNDECIDED if found.depth is not None else 0)
 
 
-def check(write, files, paths, _options, _more):
+def check(write, files, paths, options, _more):
+    if set(WARNING_FLAGS) <= set(options):
+        raise Refused(REFUSED_WORDS)
     plant = files.plant(paths[0])
     counts = {
         "resources": len(plant.resources),
@@ -389,6 +393,7 @@ def check(write, files, paths, _options, _more):
     }
     for name, count in counts.items():
         write(f"{name} {count}")
+    end_with_warnings(paths[0], warnings_of_plant(plant), options, 0)
 
 
 def due_of(plant, until):
