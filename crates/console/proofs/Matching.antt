@@ -16,10 +16,11 @@ use Rattle.clap.proofs.SimpleLemmas.{plain_fields}
 use Rattle.console.specs.declared.request.TextRequest.TheVariants.{Eval, Check, Plan}
 use Rattle.console.specs.declared.request.View.{View}
 use Rattle.console.specs.declared.request.Color.{Color}
+use Rattle.console.specs.declared.request.Strictness.{Strictness}
 use Rattle.console.specs.declared.request.Pace.{Pace}
 use Rattle.console.specs.declared.request.Request.{Request}
 use Rattle.console.specs.declared.request.Request.TheVariants.{Text as OfText, Verify, Sim, Run, Node, Explain, Audit, Page}
-use Rattle.console.specs.CommandLine.{AsksFor, GivesColor, GivesEnd, GivesNumber, GivesOption, GivesPace, GivesView, IsNumber, OnlyMemoryRefuses, is_given, plc_app}
+use Rattle.console.specs.CommandLine.{AsksFor, GivesColor, GivesEnd, GivesNumber, GivesOption, GivesPace, GivesStrictness, GivesView, IsNumber, OnlyMemoryRefuses, is_given, plc_app}
 
 -- a plus is no digit
 pub plus_is_none : (text : List ℕ) → (slice_index text 0 == 43) ≡ true → IsNumber text → ⊥
@@ -123,9 +124,10 @@ part_refused asks gives e part refused x asked = let found = part x asked in ref
 
 -- what `eval` gives by its options
 pub eval_parts : (found : List Row) (r : Request) → AsksFor (Some (codes "eval", found)) r
-    → (n : ℕ) × (v : View) × (c : Color) × GivesNumber 0 (first_of (codes "dt") found) n × GivesView (is_given (codes "show") found) (is_given (codes "chart") found) v × GivesColor (first_of (codes "color") found) c
-eval_parts found (OfText (Eval drawing dt view color files words)) asked = (dt, view, color, asked.1.1, asked.1.2, asked.1.3)
-eval_parts found (OfText (Check plant)) asked = absurd (unlike (codes "eval") (codes "check") refl refl asked.0)
+    → (n : ℕ) × (v : View) × (c : Color) × (s : Strictness) × GivesNumber 0 (first_of (codes "dt") found) n × GivesView (is_given (codes "show") found) (is_given (codes "chart") found) v × GivesColor (first_of (codes "color") found) c
+    × GivesStrictness (is_given (codes "strict") found) (is_given (codes "no-warnings") found) s
+eval_parts found (OfText (Eval drawing dt view color files strictness words)) asked = (dt, view, color, strictness, asked.1.1, asked.1.2, asked.1.3, asked.1.6)
+eval_parts found (OfText (Check plant strictness)) asked = absurd (unlike (codes "eval") (codes "check") refl refl asked.0)
 eval_parts found (OfText (Plan plant until)) asked = absurd (unlike (codes "eval") (codes "plan") refl refl asked.0)
 eval_parts found (Verify verify) asked = absurd (unlike (codes "eval") (codes "verify") refl refl asked.0)
 eval_parts found (Sim sim) asked = absurd (unlike (codes "eval") (codes "sim") refl refl asked.0)
@@ -135,13 +137,28 @@ eval_parts found (Explain kind) asked = absurd (unlike (codes "eval") (codes "ex
 eval_parts found (Audit audit) asked = absurd (unlike (codes "eval") (codes "audit") refl refl asked.0)
 eval_parts found (Page file) asked = absurd (unlike (codes "eval") (codes "page") refl refl asked.0)
 
+-- what `check` gives by its flags
+pub check_parts : (found : List Row) (r : Request) → AsksFor (Some (codes "check", found)) r
+    → (s : Strictness) × GivesStrictness (is_given (codes "strict") found) (is_given (codes "no-warnings") found) s
+check_parts found (OfText (Eval drawing dt view color files strictness words)) asked = absurd (unlike (codes "check") (codes "eval") refl refl asked.0)
+check_parts found (OfText (Check plant strictness)) asked = (strictness, asked.1.1)
+check_parts found (OfText (Plan plant until)) asked = absurd (unlike (codes "check") (codes "plan") refl refl asked.0)
+check_parts found (Verify verify) asked = absurd (unlike (codes "check") (codes "verify") refl refl asked.0)
+check_parts found (Sim sim) asked = absurd (unlike (codes "check") (codes "sim") refl refl asked.0)
+check_parts found (Run run) asked = absurd (unlike (codes "check") (codes "run") refl refl asked.0)
+check_parts found (Node node) asked = absurd (unlike (codes "check") (codes "node") refl refl asked.0)
+check_parts found (Explain kind) asked = absurd (unlike (codes "check") (codes "explain") refl refl asked.0)
+check_parts found (Audit audit) asked = absurd (unlike (codes "check") (codes "audit") refl refl asked.0)
+check_parts found (Page file) asked = absurd (unlike (codes "check") (codes "page") refl refl asked.0)
+
 -- what `verify` gives by its options
 pub verify_parts : (found : List Row) (r : Request) → AsksFor (Some (codes "verify", found)) r
-    → (n : Option ℕ) × (m : ℕ) × (k : Option ℕ) × GivesOption (first_of (codes "dt") found) n × GivesNumber 1000000 (first_of (codes "most-states") found) m × GivesOption (first_of (codes "most-waiting") found) k
-verify_parts found (OfText (Eval drawing dt view color files words)) asked = absurd (unlike (codes "verify") (codes "eval") refl refl asked.0)
-verify_parts found (OfText (Check plant)) asked = absurd (unlike (codes "verify") (codes "check") refl refl asked.0)
+    → (n : Option ℕ) × (m : ℕ) × (k : Option ℕ) × (s : Strictness) × GivesOption (first_of (codes "dt") found) n × GivesNumber 1000000 (first_of (codes "most-states") found) m × GivesOption (first_of (codes "most-waiting") found) k
+    × GivesStrictness (is_given (codes "strict") found) (is_given (codes "no-warnings") found) s
+verify_parts found (OfText (Eval drawing dt view color files strictness words)) asked = absurd (unlike (codes "verify") (codes "eval") refl refl asked.0)
+verify_parts found (OfText (Check plant strictness)) asked = absurd (unlike (codes "verify") (codes "check") refl refl asked.0)
 verify_parts found (OfText (Plan plant until)) asked = absurd (unlike (codes "verify") (codes "plan") refl refl asked.0)
-verify_parts found (Verify verify) asked = (verify.dt, verify.most_states, verify.most_waiting, asked.1.4, asked.1.5, asked.1.6)
+verify_parts found (Verify verify) asked = (verify.dt, verify.most_states, verify.most_waiting, verify.strictness, asked.1.4, asked.1.5, asked.1.6, asked.1.8)
 verify_parts found (Sim sim) asked = absurd (unlike (codes "verify") (codes "sim") refl refl asked.0)
 verify_parts found (Run run) asked = absurd (unlike (codes "verify") (codes "run") refl refl asked.0)
 verify_parts found (Node node) asked = absurd (unlike (codes "verify") (codes "node") refl refl asked.0)
@@ -152,8 +169,8 @@ verify_parts found (Page file) asked = absurd (unlike (codes "verify") (codes "p
 -- what `plan` gives by its options
 pub plan_parts : (found : List Row) (r : Request) → AsksFor (Some (codes "plan", found)) r
     → (n : ℕ) × GivesNumber 0 (first_of (codes "until") found) n
-plan_parts found (OfText (Eval drawing dt view color files words)) asked = absurd (unlike (codes "plan") (codes "eval") refl refl asked.0)
-plan_parts found (OfText (Check plant)) asked = absurd (unlike (codes "plan") (codes "check") refl refl asked.0)
+plan_parts found (OfText (Eval drawing dt view color files strictness words)) asked = absurd (unlike (codes "plan") (codes "eval") refl refl asked.0)
+plan_parts found (OfText (Check plant strictness)) asked = absurd (unlike (codes "plan") (codes "check") refl refl asked.0)
 plan_parts found (OfText (Plan plant until)) asked = (until, asked.1.1)
 plan_parts found (Verify verify) asked = absurd (unlike (codes "plan") (codes "verify") refl refl asked.0)
 plan_parts found (Sim sim) asked = absurd (unlike (codes "plan") (codes "sim") refl refl asked.0)
@@ -166,8 +183,8 @@ plan_parts found (Page file) asked = absurd (unlike (codes "plan") (codes "page"
 -- what `sim` gives by its options
 pub sim_parts : (found : List Row) (r : Request) → AsksFor (Some (codes "sim", found)) r
     → (n : ℕ) × GivesNumber 4294967295 (first_of (codes "max-number") found) n
-sim_parts found (OfText (Eval drawing dt view color files words)) asked = absurd (unlike (codes "sim") (codes "eval") refl refl asked.0)
-sim_parts found (OfText (Check plant)) asked = absurd (unlike (codes "sim") (codes "check") refl refl asked.0)
+sim_parts found (OfText (Eval drawing dt view color files strictness words)) asked = absurd (unlike (codes "sim") (codes "eval") refl refl asked.0)
+sim_parts found (OfText (Check plant strictness)) asked = absurd (unlike (codes "sim") (codes "check") refl refl asked.0)
 sim_parts found (OfText (Plan plant until)) asked = absurd (unlike (codes "sim") (codes "plan") refl refl asked.0)
 sim_parts found (Verify verify) asked = absurd (unlike (codes "sim") (codes "verify") refl refl asked.0)
 sim_parts found (Sim sim) asked = (sim.max_number, asked.1.2)
@@ -180,8 +197,8 @@ sim_parts found (Page file) asked = absurd (unlike (codes "sim") (codes "page") 
 -- what `run` gives by its options
 pub run_parts : (found : List Row) (r : Request) → AsksFor (Some (codes "run", found)) r
     → (n : ℕ) × (p : Pace) × GivesNumber 0 (first_of (codes "until") found) n × GivesPace (is_given (codes "paced") found) (is_given (codes "clock") found) p
-run_parts found (OfText (Eval drawing dt view color files words)) asked = absurd (unlike (codes "run") (codes "eval") refl refl asked.0)
-run_parts found (OfText (Check plant)) asked = absurd (unlike (codes "run") (codes "check") refl refl asked.0)
+run_parts found (OfText (Eval drawing dt view color files strictness words)) asked = absurd (unlike (codes "run") (codes "eval") refl refl asked.0)
+run_parts found (OfText (Check plant strictness)) asked = absurd (unlike (codes "run") (codes "check") refl refl asked.0)
 run_parts found (OfText (Plan plant until)) asked = absurd (unlike (codes "run") (codes "plan") refl refl asked.0)
 run_parts found (Verify verify) asked = absurd (unlike (codes "run") (codes "verify") refl refl asked.0)
 run_parts found (Sim sim) asked = absurd (unlike (codes "run") (codes "sim") refl refl asked.0)
@@ -194,8 +211,8 @@ run_parts found (Page file) asked = absurd (unlike (codes "run") (codes "page") 
 -- what `node` gives by its options
 pub node_parts : (found : List Row) (r : Request) → AsksFor (Some (codes "node", found)) r
     → (end : Option ℕ) × GivesEnd found end
-node_parts found (OfText (Eval drawing dt view color files words)) asked = absurd (unlike (codes "node") (codes "eval") refl refl asked.0)
-node_parts found (OfText (Check plant)) asked = absurd (unlike (codes "node") (codes "check") refl refl asked.0)
+node_parts found (OfText (Eval drawing dt view color files strictness words)) asked = absurd (unlike (codes "node") (codes "eval") refl refl asked.0)
+node_parts found (OfText (Check plant strictness)) asked = absurd (unlike (codes "node") (codes "check") refl refl asked.0)
 node_parts found (OfText (Plan plant until)) asked = absurd (unlike (codes "node") (codes "plan") refl refl asked.0)
 node_parts found (Verify verify) asked = absurd (unlike (codes "node") (codes "verify") refl refl asked.0)
 node_parts found (Sim sim) asked = absurd (unlike (codes "node") (codes "sim") refl refl asked.0)
@@ -217,8 +234,8 @@ pub no_command : (name : List ℕ) (found : List Row) (r : Request)
     → (name ≡ codes "explain" → ⊥)
     → (name ≡ codes "audit" → ⊥)
     → (name ≡ codes "page" → ⊥) → AsksFor (Some (name, found)) r → ⊥
-no_command name found (OfText (Eval drawing dt view color files words)) no_eval no_check no_plan no_verify no_sim no_run no_node no_explain no_audit no_page asked = no_eval asked.0
-no_command name found (OfText (Check plant)) no_eval no_check no_plan no_verify no_sim no_run no_node no_explain no_audit no_page asked = no_check asked.0
+no_command name found (OfText (Eval drawing dt view color files strictness words)) no_eval no_check no_plan no_verify no_sim no_run no_node no_explain no_audit no_page asked = no_eval asked.0
+no_command name found (OfText (Check plant strictness)) no_eval no_check no_plan no_verify no_sim no_run no_node no_explain no_audit no_page asked = no_check asked.0
 no_command name found (OfText (Plan plant until)) no_eval no_check no_plan no_verify no_sim no_run no_node no_explain no_audit no_page asked = no_plan asked.0
 no_command name found (Verify verify) no_eval no_check no_plan no_verify no_sim no_run no_node no_explain no_audit no_page asked = no_verify asked.0
 no_command name found (Sim sim) no_eval no_check no_plan no_verify no_sim no_run no_node no_explain no_audit no_page asked = no_sim asked.0

@@ -14,6 +14,8 @@ use Rattle.console.specs.declared.request.View.{View}
 use Rattle.console.specs.declared.request.View.TheVariants.{Rows, Drawings, Chart}
 use Rattle.console.specs.declared.request.Color.{Color}
 use Rattle.console.specs.declared.request.Color.TheVariants.{Always, Auto, Never}
+use Rattle.console.specs.declared.request.Strictness.{Strictness}
+use Rattle.console.specs.declared.request.Strictness.TheVariants.{Told, Strict, Silent}
 use Rattle.console.specs.declared.request.Pace.{Pace}
 use Rattle.console.specs.declared.request.Pace.TheVariants.{Free, Paced, Clock}
 use Rattle.console.specs.declared.request.TraceFiles.{TraceFiles}
@@ -106,6 +108,16 @@ svg_rule = option_of (codes "svg")
 abbrev pub traced : App → App
 traced a = with_rule (with_rule a vcd_rule) svg_rule
 
+abbrev pub strict_rule : Rule
+strict_rule = flag_of (codes "strict")
+
+abbrev pub no_warnings_rule : Rule
+no_warnings_rule = flag_of (codes "no-warnings")
+
+-- with the flags for warnings, `[--strict] [--no-warnings]`
+abbrev pub warned : App → App
+warned a = with_rule (with_rule a strict_rule) no_warnings_rule
+
 -- an option `--never NAME`, once or more often
 abbrev pub never_rule : Rule
 never_rule = record (new_rule (codes "never")) {
@@ -142,20 +154,24 @@ shown_app =
     let dt = with_rule (with_rule (new_app (codes "eval")) drawing_rule) dt_rule in
     with_rule (with_rule (with_rule dt show_rule) chart_rule) color_rule
 
--- .. `[--vcd FILE] [--svg FILE] [NAME=BITS]..`
+-- .. `[--vcd FILE] [--svg FILE] [--strict] [--no-warnings] [NAME=BITS]..`
 abbrev pub eval_app : App
-eval_app = with_rule (traced shown_app) words_rule
+eval_app = with_rule (warned (traced shown_app)) words_rule
 
--- `verify FILE --never NAME [--given NAME] [--no-restarts] [--dt MS] [--most-states N] [--most-waiting N] [WORD]..`
-abbrev pub verify_app : App
-verify_app =
+-- `verify FILE --never NAME [--given NAME] [--no-restarts] [--dt MS] [--most-states N] [--most-waiting N]`
+abbrev pub claimed_app : App
+claimed_app =
     let never = with_rule (with_rule (new_app (codes "verify")) file_rule) never_rule in
     let given = with_rule (with_rule never given_rule) no_restarts_rule in
-    with_rule (with_rule (with_rule (with_rule given dt_rule) most_states_rule) most_waiting_rule) words_rule
+    with_rule (with_rule (with_rule given dt_rule) most_states_rule) most_waiting_rule
 
--- `check PLANT`
+-- .. `[--strict] [--no-warnings] [WORD]..`
+abbrev pub verify_app : App
+verify_app = with_rule (warned claimed_app) words_rule
+
+-- `check PLANT [--strict] [--no-warnings]`
 abbrev pub check_app : App
-check_app = with_rule (new_app (codes "check")) plant_rule
+check_app = warned (with_rule (new_app (codes "check")) plant_rule)
 
 -- `plan PLANT --until MS`
 abbrev pub plan_app : App
@@ -274,6 +290,12 @@ GivesView show chart Rows = (show ≡ false) × (chart ≡ false)
 GivesView show chart Drawings = (show ≡ true) × (chart ≡ false)
 GivesView show chart Chart = (show ≡ false) × (chart ≡ true)
 
+-- `--strict` makes warnings a failure, and `--no-warnings` silences them; nothing asks for both
+abbrev pub GivesStrictness : Bool → Bool → Strictness → Type 0
+GivesStrictness strict silent Told = (strict ≡ false) × (silent ≡ false)
+GivesStrictness strict silent Strict = (strict ≡ true) × (silent ≡ false)
+GivesStrictness strict silent Silent = (strict ≡ false) × (silent ≡ true)
+
 -- `--paced` asks for one command after the other, and `--clock` for the clock; nothing asks for both
 abbrev pub GivesPace : Bool → Bool → Pace → Type 0
 GivesPace paced clock Free = (paced ≡ false) × (clock ≡ false)
@@ -305,8 +327,8 @@ AsksFiles found files =
 
 -- the subcommand that asks for it
 abbrev pub command_of : Request → Text
-command_of (OfText (Eval drawing dt view color files words)) = codes "eval"
-command_of (OfText (Check plant)) = codes "check"
+command_of (OfText (Eval drawing dt view color files strictness words)) = codes "eval"
+command_of (OfText (Check plant strictness)) = codes "check"
 command_of (OfText (Plan plant until)) = codes "plan"
 command_of (Verify verify) = codes "verify"
 command_of (Sim sim) = codes "sim"
@@ -318,12 +340,14 @@ command_of (Audit audit) = codes "audit"
 
 -- what was found for its options gives what it asks for
 abbrev pub Asks : List Row → Request → Type 0
-Asks found (OfText (Eval drawing dt view color files words)) =
+Asks found (OfText (Eval drawing dt view color files strictness words)) =
     (drawing.now ≡ given_word (codes "DRAWING") found) × GivesNumber 0 (first_of (codes "dt") found) dt
     × GivesView (is_given (codes "show") found) (is_given (codes "chart") found) view
     × GivesColor (first_of (codes "color") found) color
     × AsksFiles found files × (map (λ w. w.now) words.items ≡ words_given found)
-Asks found (OfText (Check plant)) = plant.now ≡ given_word (codes "PLANT") found
+    × GivesStrictness (is_given (codes "strict") found) (is_given (codes "no-warnings") found) strictness
+Asks found (OfText (Check plant strictness)) = (plant.now ≡ given_word (codes "PLANT") found)
+    × GivesStrictness (is_given (codes "strict") found) (is_given (codes "no-warnings") found) strictness
 Asks found (OfText (Plan plant until)) =
     (plant.now ≡ given_word (codes "PLANT") found) × GivesNumber 0 (first_of (codes "until") found) until
 Asks found (Verify verify) =
@@ -335,6 +359,7 @@ Asks found (Verify verify) =
     × GivesNumber 1000000 (first_of (codes "most-states") found) verify.most_states
     × GivesOption (first_of (codes "most-waiting") found) verify.most_waiting
     × (map (λ w. w.now) verify.words.items ≡ words_given found)
+    × GivesStrictness (is_given (codes "strict") found) (is_given (codes "no-warnings") found) verify.strictness
 Asks found (Sim sim) =
     (sim.plant.now ≡ given_word (codes "PLANT") found) × (sim.schedule.now ≡ given_word (codes "SCHEDULE") found)
     × GivesNumber 4294967295 (first_of (codes "max-number") found) sim.max_number × AsksFiles found sim.files
@@ -366,18 +391,24 @@ OnlyMemoryRefuses {X} asks error = (x : X) → asks x → kind_of error ≡ OutO
 
 -- the file that is to be read
 abbrev pub file_of : TextRequest → List ℕ
-file_of (Eval drawing dt view color files words) = drawing.now
-file_of (Check plant) = plant.now
+file_of (Eval drawing dt view color files strictness words) = drawing.now
+file_of (Check plant strictness) = plant.now
 file_of (Plan plant until) = plant.now
 
 -- the files that are written of a trace
 abbrev pub files_in : TextRequest → TraceFiles
-files_in (Eval drawing dt view color files words) = files
-files_in (Check plant) = record { vcd = None; svg = None }
+files_in (Eval drawing dt view color files strictness words) = files
+files_in (Check plant strictness) = record { vcd = None; svg = None }
 files_in (Plan plant until) = record { vcd = None; svg = None }
+
+-- what becomes of warnings
+abbrev pub strictness_of : TextRequest → Strictness
+strictness_of (Eval drawing dt view color files strictness words) = strictness
+strictness_of (Check plant strictness) = strictness
+strictness_of (Plan plant until) = Silent
 
 -- the words NAME=BITS and NAME==BITS
 abbrev pub words_in : TextRequest → List (List ℕ)
-words_in (Eval drawing dt view color files words) = map (λ w. w.now) words.items
-words_in (Check plant) = []
+words_in (Eval drawing dt view color files strictness words) = map (λ w. w.now) words.items
+words_in (Check plant strictness) = []
 words_in (Plan plant until) = []

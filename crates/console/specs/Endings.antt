@@ -23,7 +23,8 @@ use Rattle.console.specs.declared.request.SimRequest.{SimRequest}
 use Rattle.console.specs.declared.request.TextRequest.{TextRequest}
 use Rattle.console.specs.declared.request.VerifyRequest.{VerifyRequest}
 use Rattle.console.specs.Answers.{WritesAnswer, ExplainsAnswer}
-use Rattle.console.specs.CommandLine.{file_of}
+use Rattle.console.specs.CommandLine.{file_of, strictness_of}
+use Rattle.console.specs.Warned.{EndsWarned, IsDrawingQuiet, IsQuiet}
 use Rattle.console.specs.Giving.{command_fault}
 use Rattle.console.specs.ShellWord.{shell_word}
 use Rattle.console.specs.Statuses.{status_of, status_of_fault, status_of_question, status_of_plant_question, status_of_schedule, status_of_lines}
@@ -71,11 +72,12 @@ pub record EndsWith (status : ℕ) (answered : Answered) : Type 0 where
   pub status_is : answered.status ≡ status
   pub none : HasNoTexts answered.texts
 
--- how a command of one text ends, by what came of it
-abbrev pub EndsAfter : Result Traced TextCommandFault → Answered → Type 0
-EndsAfter (Ok traced) answered =
-    (answered.status ≡ status_of_difference traced.difference) × (answered.texts ≡ traced.texts)
-EndsAfter (Err fault) answered = EndsWith (status_of_fault (command_fault fault)) answered
+-- how a command of one text ends, by what came of it; what was done is followed by warnings
+abbrev pub EndsAfter : TextRequest → List ℕ → Result Traced TextCommandFault → Answered → Type 0
+EndsAfter request text (Ok traced) answered =
+    EndsWarned (IsQuiet request text) (strictness_of request) (status_of_difference traced.difference) answered.status
+    × (answered.texts ≡ traced.texts)
+EndsAfter request text (Err fault) answered = EndsWith (status_of_fault (command_fault fault)) answered
 
 -- what was asked for was written of the text of the file, or why it wasn't; and so it ended
 pub record IsObeyed (terminal : Bool) (request : TextRequest) (answered : Answered) : Type 0 where
@@ -84,17 +86,17 @@ pub record IsObeyed (terminal : Bool) (request : TextRequest) (answered : Answer
   pub new : Option (List ℕ)
   pub obeyed : Result Traced TextCommandFault
   pub is : MatchResult obeyed (WritesAnswer terminal request text old new) (ExplainsAnswer terminal request text old new)
-  pub ended : EndsAfter obeyed answered
+  pub ended : EndsAfter request text obeyed answered
 
 -- how a command of one text ends
 abbrev pub EndsText : Bool → TextRequest → Answered → Type 0
 EndsText terminal request answered =
     EndsWith (status_of_unread (file_of request)) answered ⊎ IsObeyed terminal request answered
 
--- the status of `plc verify`, by what came of it
-abbrev pub status_of_verdicts : Result Summary VerifyFault → ℕ
-status_of_verdicts (Ok summary) = status_of summary
-status_of_verdicts (Err fault) = status_of_question fault
+-- how `plc verify` of a drawing ends, by what came of it; verdicts are followed by warnings
+abbrev pub EndsVerdicts : VerifyRequest → List ℕ → Result Summary VerifyFault → ℕ → Type 0
+EndsVerdicts request text (Ok summary) status = EndsWarned (IsDrawingQuiet text) request.strictness (status_of summary) status
+EndsVerdicts request text (Err fault) status = status ≡ status_of_question fault
 
 -- the claims about the drawing in a text were answered, or why they weren't; and so it ended
 pub record IsDrawingVerified (request : VerifyRequest) (text : List ℕ) (status : ℕ) : Type 0 where
@@ -103,7 +105,7 @@ pub record IsDrawingVerified (request : VerifyRequest) (text : List ℕ) (status
   pub answered : Result Summary VerifyFault
   pub is : let question = asked_question (shell_word request.file.now) request in
       MatchResult answered (WritesVerdicts text question old new) (ExplainsVerdicts text question old new)
-  pub ended : status ≡ status_of_verdicts answered
+  pub ended : EndsVerdicts request text answered status
 
 -- the status of `plc verify` of a plant, by what came of it
 abbrev pub status_of_plant_verdicts : Result Summary VerifyPlantFault → ℕ

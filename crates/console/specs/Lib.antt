@@ -9,6 +9,7 @@ pub mod Giving
 pub mod Verifying
 pub mod TracedRun
 pub mod ShellWord
+pub mod Warned
 pub mod Endings
 pub mod PageAnswer
 pub mod Steps

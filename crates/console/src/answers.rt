@@ -10,6 +10,7 @@ use crate::piped::Piped;
 use crate::request::{Color, TextRequest, TraceFiles, View};
 use crate::shown::Shown;
 use crate::status::{DONE, WORD_REFUSED};
+use crate::warned::warn;
 use guidance::{explain, kinds};
 use std::alloc::Global;
 use std::io;
@@ -88,6 +89,7 @@ pub fn obey<W: Write>(
             color,
             files,
             words,
+            ..
         } => {
             let form = form_of(*view, *color, terminal);
             let wanted = wanted_for(drawing, *files);
@@ -123,11 +125,12 @@ fn tell_text<R: Eprint + AllocGlobal>(
     is_closed: bool,
     obeyed: Result<Traced, TextCommandFault>,
 ) -> io::Result<Answered>
-    ensures { IfOk result (EndsAfter obeyed) }
+    ensures { IfOk result (EndsAfter request.now text.now obeyed) }
 {
     match obeyed {
         Ok(Traced { difference, texts }) => {
             let status = tell_difference(rt, request.file(), difference)?;
+            let status = warn(rt, request, text, status)?;
             Ok(Answered { status, texts })
         }
         Err(fault) => {

@@ -3,11 +3,11 @@ ghost use Rattle.std.specs.Option.{option_map};
 ghost use Rattle.std.specs.Str.Parse.{digits_value};
 ghost use Rattle.clap.specs.Words.{rows_of, found_of, first_of, subcommand_of};
 ghost use Rattle.clap.specs.Takes.{takes};
-ghost use Rattle.console.specs.CommandLine.{plc_app, IsNumber, GivesNumber, GivesOption, AsksFiles, AsksFor, OnlyMemoryRefuses, given_word, words_given, claims_given, premises_given, journals_given, is_given, GivesView, GivesColor, GivesPace, GivesEnd};
+ghost use Rattle.console.specs.CommandLine.{plc_app, IsNumber, GivesNumber, GivesOption, AsksFiles, AsksFor, OnlyMemoryRefuses, given_word, words_given, claims_given, premises_given, journals_given, is_given, GivesView, GivesColor, GivesStrictness, GivesPace, GivesEnd};
 
 use crate::commands::commands;
 use crate::request::{
-    AuditRequest, Color, NodeRequest, Pace, Request, RunRequest, SimRequest, TextRequest,
+    AuditRequest, Color, NodeRequest, Pace, Request, RunRequest, SimRequest, Strictness, TextRequest,
     TraceFiles, VerifyRequest, View,
 };
 use clap::error::ErrorKind;
@@ -162,6 +162,28 @@ fn view_of<'a>(command: &mut Command<'a>, show: bool, chart: bool) -> Result<Vie
     }
 }
 
+/// What becomes of warnings, by the flags that were given.
+fn strictness_of<'a>(
+    command: &mut Command<'a>,
+    strict: bool,
+    silent: bool,
+) -> Result<Strictness, Error>
+    ensures ok { IfOk result (GivesStrictness strict silent) }
+    ensures refused { IfErr result (OnlyMemoryRefuses (GivesStrictness strict silent)) }
+{
+    match (strict, silent) {
+        (false, false) => Ok(Strictness::Told),
+        (true, false) => Ok(Strictness::Strict),
+        (false, true) => Ok(Strictness::Silent),
+        (true, true) => {
+            Err(command.error(
+                ErrorKind::ArgumentConflict,
+                "--strict and --no-warnings can't be given both",
+            )?)
+        }
+    }
+}
+
 /// When a command goes, by the flags that were given.
 fn pace_of<'a>(command: &mut Command<'a>, paced: bool, clock: bool) -> Result<Pace, Error>
     ensures ok { IfOk result (GivesPace paced clock) }
@@ -212,6 +234,11 @@ fn eval_request<'a>(
         view: view_of(command, is_given(inner, "show"), is_given(inner, "chart"))?,
         color: color_of(command, word_of(inner, "color"))?,
         files: files_of(inner),
+        strictness: strictness_of(
+            command,
+            is_given(inner, "strict"),
+            is_given(inner, "no-warnings"),
+        )?,
         words: words_given(alloc, inner)?,
     }))
 }
@@ -243,7 +270,29 @@ fn verify_request<'a>(
             "most-waiting",
             "N of --most-waiting is a number from 0 to 4294967295",
         )?,
+        strictness: strictness_of(
+            command,
+            is_given(inner, "strict"),
+            is_given(inner, "no-warnings"),
+        )?,
         words: words_given(alloc, inner)?,
+    }))
+}
+
+fn check_request<'a>(
+    command: &mut Command<'a>,
+    inner: &ArgMatches<'a>,
+) -> Result<Request<'a>, Error>
+    ensures ok { IfOk result (AsksFor (Some (codes "check", rows_of (found_of inner.now)))) }
+    ensures refused { IfErr result (OnlyMemoryRefuses (AsksFor (Some (codes "check", rows_of (found_of inner.now))))) }
+{
+    Ok(Request::Text(TextRequest::Check {
+        plant: given_word(inner, "PLANT"),
+        strictness: strictness_of(
+            command,
+            is_given(inner, "strict"),
+            is_given(inner, "no-warnings"),
+        )?,
     }))
 }
 
@@ -346,9 +395,7 @@ fn request_of<'a>(
     match name {
         "eval" => eval_request(alloc, command, inner),
         "verify" => verify_request(alloc, command, inner),
-        "check" => Ok(Request::Text(TextRequest::Check {
-            plant: given_word(inner, "PLANT"),
-        })),
+        "check" => check_request(command, inner),
         "plan" => plan_request(command, inner),
         "sim" => sim_request(command, inner),
         "run" => run_request(alloc, command, inner),

@@ -1,6 +1,6 @@
 ghost use Rattle.std.specs.Prelude.{◌≡◌, false, IfOk, codes};
 ghost use Rattle.clap.specs.Words.{app_of, new_app, rule_of};
-ghost use Rattle.console.specs.CommandLine.{needed_word, option_of, flag_of, words_rule, plant_rule, file_rule, until_rule, state_rule, journal_rule, paced_rule, clock_rule, cycle_rule, node_field_rule, end_rule, show_rule, chart_rule, color_rule, vcd_rule, svg_rule, traced, kind_rule, never_rule, given_rule, journals_rule, shown_app, eval_app, verify_app, check_app, plan_app, limited_app, sim_app, paced_app, run_app, node_app, explain_app, audit_app, page_app, versioned, commanded, plc_app, text_app};
+ghost use Rattle.console.specs.CommandLine.{needed_word, option_of, flag_of, words_rule, plant_rule, file_rule, until_rule, state_rule, journal_rule, paced_rule, clock_rule, cycle_rule, node_field_rule, end_rule, show_rule, chart_rule, color_rule, vcd_rule, svg_rule, traced, strict_rule, no_warnings_rule, warned, kind_rule, never_rule, given_rule, journals_rule, shown_app, eval_app, claimed_app, verify_app, check_app, plan_app, limited_app, sim_app, paced_app, run_app, node_app, explain_app, audit_app, page_app, versioned, commanded, plc_app, text_app};
 
 use crate::help::{
     AUDIT_HELP, CHECK_HELP, EVAL_HELP, EXPLAIN_HELP, FIRST_STEPS, NODE_HELP, PAGE_HELP, PLAN_HELP,
@@ -229,6 +229,31 @@ fn traced_command<'a>(alloc: Global, command: Command<'a>) -> Result<Command<'a>
     command.arg(vcd_arg(alloc))?.arg(svg_arg(alloc))
 }
 
+fn strict_arg<'a>(alloc: Global) -> Arg<'a>
+    ensures rule { rule_of result ≡ strict_rule }
+    ensures local { result.global ≡ false }
+{
+    flag_arg(
+        alloc,
+        "strict",
+        "Where there are warnings the exit status is 1 in place of 0",
+    )
+}
+
+fn no_warnings_arg<'a>(alloc: Global) -> Arg<'a>
+    ensures rule { rule_of result ≡ no_warnings_rule }
+    ensures local { result.global ≡ false }
+{
+    flag_arg(alloc, "no-warnings", "Warnings aren't told")
+}
+
+/// The flags for warnings.
+fn warned_command<'a>(alloc: Global, command: Command<'a>) -> Result<Command<'a>, AllocError>
+    ensures { IfOk result (λ c. app_of c ≡ warned (app_of command.entry)) }
+{
+    command.arg(strict_arg(alloc))?.arg(no_warnings_arg(alloc))
+}
+
 fn kind_arg<'a>(alloc: Global) -> Arg<'a>
     ensures rule { rule_of result ≡ kind_rule }
     ensures local { result.global ≡ false }
@@ -287,15 +312,16 @@ fn shown_command<'a>(alloc: Global) -> Result<Command<'a>, AllocError>
 fn eval_command<'a>(alloc: Global) -> Result<Command<'a>, AllocError>
     ensures { IfOk result (λ c. app_of c ≡ eval_app) }
 {
-    traced_command(alloc, shown_command(alloc)?)?.arg(words_arg(
+    warned_command(alloc, traced_command(alloc, shown_command(alloc)?)?)?.arg(words_arg(
         alloc,
         "NAME=BITS",
         "The values of a variable, a digit for each scan; NAME==BITS: what they are to be after it",
     ))
 }
 
-fn verify_command<'a>(alloc: Global) -> Result<Command<'a>, AllocError>
-    ensures { IfOk result (λ c. app_of c ≡ verify_app) }
+/// The command `verify` without its flags for warnings and its words.
+fn claimed_command<'a>(alloc: Global) -> Result<Command<'a>, AllocError>
+    ensures { IfOk result (λ c. app_of c ≡ claimed_app) }
 {
     Command::new(alloc, "verify")
         .about(
@@ -327,21 +353,27 @@ fn verify_command<'a>(alloc: Global) -> Result<Command<'a>, AllocError>
             "most-waiting",
             "N",
             "Of a plant: of how many images between a task and a resource the order is kept, 0 to 4294967295 [default: 8]",
-        ))?
-        .arg(words_arg(
-            alloc,
-            "WORD",
-            "Of a drawing NAME=BIT, an input that has this value in every scan; of a plant ADDRESS=VALUE or ADDRESS=LEAST..GREATEST, what a field address holds",
         ))
+}
+
+fn verify_command<'a>(alloc: Global) -> Result<Command<'a>, AllocError>
+    ensures { IfOk result (λ c. app_of c ≡ verify_app) }
+{
+    warned_command(alloc, claimed_command(alloc)?)?.arg(words_arg(
+        alloc,
+        "WORD",
+        "Of a drawing NAME=BIT, an input that has this value in every scan; of a plant ADDRESS=VALUE or ADDRESS=LEAST..GREATEST, what a field address holds",
+    ))
 }
 
 fn check_command<'a>(alloc: Global) -> Result<Command<'a>, AllocError>
     ensures { IfOk result (λ c. app_of c ≡ check_app) }
 {
-    Command::new(alloc, "check")
+    let command = Command::new(alloc, "check")
         .about("Reads a plant, and writes how many parts it has")
         .after_help(CHECK_HELP)
-        .arg(plant_arg(alloc))
+        .arg(plant_arg(alloc))?;
+    warned_command(alloc, command)
 }
 
 fn plan_command<'a>(alloc: Global) -> Result<Command<'a>, AllocError>

@@ -30,6 +30,10 @@ waves; with --svg FILE as a timing diagram, which a browser shows. The first sca
 or 1 ms where that is 0. A file is written whole, in the place of one of its name, but of none that is read; both options may
 be given.
 
+What is lawful and most likely not meant is told on standard error behind all else, with its place and kind as a fault is:
+DoubleCoil, a coil that another one overwrites in the same scan; MistypedContact, a contact on a variable that nothing stores,
+beside a name that is nearly the same. With --strict the exit status is then 1 in place of 0; --no-warnings tells nothing.
+
 Example, for the drawing examples/start_stop.ladder:
 
   $ plc eval examples/start_stop.ladder START=100 STOP=001
@@ -48,8 +52,8 @@ Example, for the drawing examples/start_stop.ladder:
   RUN   ##_
   $ plc eval examples/start_stop.ladder START=100 STOP=001 --svg start_stop.svg >/dev/null
 
-The exit status is 0; 1 if the text of the drawing is refused, with FILE:LINE:COLUMN: Kind on standard error;
-2 if a word is refused; 3 if the file can't be read, the output or a file can't be written or there is no memory left;
+The exit status is 0; 1 if the text of the drawing is refused, with FILE:LINE:COLUMN: Kind on standard error, or with --strict
+where there is a warning; 2 if a word is refused; 3 if the file can't be read, the output or a file can't be written or there is no memory left;
 4 if a variable isn't what a word NAME==BITS tells.";
 
 /// What `plc verify --help` tells behind the words.
@@ -91,8 +95,11 @@ Example:
   HOLDS R1.A.INSIDE, R2.O.INSIDE are never on together: 185 states, 1562 steps
   given each task every INTERVAL
 
+Warnings of a drawing are told behind all else, as plc eval --help says; --strict and --no-warnings are as there.
+
 The exit status is 0 if all claims hold; 4 if one fails; 5 if none fails and one is undecided; 1 if the text of the file
-is refused, with FILE:LINE:COLUMN: Kind on standard error; 2 if a word is refused; 3 if the file can't be read, the output
+is refused, with FILE:LINE:COLUMN: Kind on standard error, or with --strict where all hold and there is a warning; 2 if a
+word is refused; 3 if the file can't be read, the output
 can't be written or there is no memory left.";
 
 /// What `plc check --help` tells behind the words.
@@ -107,8 +114,14 @@ Example:
   programs 2
   connections 3
 
+What is lawful and most likely not meant is told on standard error: in a program's drawing with FILE:LINE:COLUMN: Kind, DoubleCoil,
+a coil that another one overwrites in the same evaluation, and NeverRead, a VAR that is stored into and never read; and with
+FILE:LINE: Kind UnboundInput, an input that an instance doesn't bind. With --strict the exit status is then 1 in place of 0;
+--no-warnings tells nothing.
+
 The exit status is 0; 1 if the text of the plant is refused, with FILE:LINE: Kind on standard error (and the kind of what
-is wrong in a program's drawing behind it, as FILE:LINE: Bind WritesInput); 2 if a word is refused; 3 if the file can't
+is wrong in a program's drawing behind it, as FILE:LINE: Bind WritesInput), or with --strict where there is a warning; 2 if a
+word is refused; 3 if the file can't
 be read, the output can't be written or there is no memory left.";
 
 /// What `plc plan --help` tells behind the words.

@@ -25,6 +25,7 @@ mod shown;
 mod status;
 mod verify_answer;
 mod version;
+mod warned;
 
 pub use answered::Answered;
 pub use answers::{answer_kind, answer_kinds, answer_text, obey, wanted_for};
@@ -38,8 +39,8 @@ pub use node_prepared::{PreparedNode, prepare_node};
 pub use page_answer::answer_page;
 pub use prepared::{Prepared, prepare};
 pub use request::{
-    AuditRequest, Color, NodeRequest, Pace, Request, RunRequest, SimRequest, TextRequest,
-    TraceFiles, VerifyRequest, View,
+    AuditRequest, Color, NodeRequest, Pace, Request, RunRequest, SimRequest, Strictness,
+    TextRequest, TraceFiles, VerifyRequest, View,
 };
 pub use schedules::{answer_schedule, obey_lines, obey_schedule};
 pub use shown::Shown;

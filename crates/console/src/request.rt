@@ -1,5 +1,5 @@
 ghost use Rattle.std.specs.Prelude.{◌≡◌, map};
-ghost use Rattle.console.specs.CommandLine.{file_of, files_in, words_in};
+ghost use Rattle.console.specs.CommandLine.{file_of, files_in, strictness_of, words_in};
 
 /// What is written of the scans of a drawing.
 #[derive(Clone, Copy, Debug, PartialEq, Eq)]
@@ -19,6 +19,17 @@ pub enum Color {
     /// Where standard output is a terminal, and NO_COLOR is unset or empty.
     Auto,
     Never,
+}
+
+/// What becomes of warnings.
+#[derive(Clone, Copy, Debug, PartialEq, Eq)]
+pub enum Strictness {
+    /// They are told.
+    Told,
+    /// They are told, and where there are some the status is 1 in place of 0.
+    Strict,
+    /// They aren't told.
+    Silent,
 }
 
 /// The files that are written of a trace: a value change dump, and a timing diagram.
@@ -47,11 +58,13 @@ pub enum TextRequest<'a> {
         view: View,
         color: Color,
         files: TraceFiles<'a>,
+        strictness: Strictness,
         words: Vec<&'a str>,
     },
     /// How many resources, tasks, programs and connections a plant has.
     Check {
         plant: &'a str,
+        strictness: Strictness,
     },
     /// When the tasks of a plant are due, up to and with `until` (in ms).
     Plan {
@@ -67,7 +80,7 @@ impl<'a> TextRequest<'a> {
     {
         match self {
             TextRequest::Eval { drawing, .. } => drawing,
-            TextRequest::Check { plant } => plant,
+            TextRequest::Check { plant, .. } => plant,
             TextRequest::Plan { plant, .. } => plant,
         }
     }
@@ -79,6 +92,16 @@ impl<'a> TextRequest<'a> {
         match self {
             TextRequest::Eval { files, .. } => *files,
             TextRequest::Check { .. } | TextRequest::Plan { .. } => TraceFiles::NONE,
+        }
+    }
+
+    /// What becomes of warnings; the plan of a plant is told without any.
+    pub fn strictness(&self) -> Strictness
+        ensures { result ≡ strictness_of self.now }
+    {
+        match self {
+            TextRequest::Eval { strictness, .. } | TextRequest::Check { strictness, .. } => *strictness,
+            TextRequest::Plan { .. } => Strictness::Silent,
         }
     }
 
@@ -95,7 +118,7 @@ impl<'a> TextRequest<'a> {
 
 /// Whether variables of a drawing, or outputs of a plant, are ever TRUE. The claims name them: by names without a dot the
 /// file is a drawing, by names `R.P.V` a plant. `dt` is the time between scans or evaluations in ms. What is given, restarts
-/// and `most_waiting` are of plants. At most `most_states` states are looked at; the words hold inputs.
+/// and `most_waiting` are of plants, warnings of drawings. At most `most_states` states are looked at; the words hold inputs.
 #[derive(Drop)]
 pub struct VerifyRequest<'a> {
     pub file: &'a str,
@@ -105,6 +128,7 @@ pub struct VerifyRequest<'a> {
     pub dt: Option<u32>,
     pub most_states: u32,
     pub most_waiting: Option<u32>,
+    pub strictness: Strictness,
     pub words: Vec<&'a str>,
 }
 

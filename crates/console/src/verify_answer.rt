@@ -4,7 +4,7 @@ ghost use Rattle.verifying.specs.VerifyText.{ExplainsAnswer, WritesAnswer};
 ghost use Rattle.verifying_plants.specs.VerifyPlant.{ExplainsAnswer as ExplainsPlantAnswer, WritesAnswer as WritesPlantAnswer};
 ghost use Rattle.console.specs.Statuses.{status_of, status_of_question, status_of_plant_question};
 ghost use Rattle.console.specs.Verifying.{are_of_plant, are_plain, asked_question, asked_of_plant, is_of_plant, is_of_drawings, subject_of};
-ghost use Rattle.console.specs.Endings.{EndsVerify, IsDrawingVerified, IsPlantVerified, status_of_verdicts, status_of_plant_verdicts};
+ghost use Rattle.console.specs.Endings.{EndsVerify, IsDrawingVerified, IsPlantVerified, EndsVerdicts, status_of_plant_verdicts};
 
 use crate::command_fault::CommandFault;
 use crate::faults::{print_failure, print_fault_of_text, print_fault_of_word};
@@ -13,6 +13,7 @@ use crate::piped::Piped;
 use crate::request::VerifyRequest;
 use crate::shell_word::shell_word;
 use crate::status::{CLAIM_FAILS, DONE, UNDECIDED, WORD_REFUSED};
+use crate::warned::warn_of_a_drawing;
 use std::alloc::Global;
 use std::io;
 use std::io::Write;
@@ -149,7 +150,7 @@ fn print_verify_fault<R: Eprint + AllocGlobal>(
     }
 }
 
-/// Tells why there is no answer, if there is none; the status.
+/// Tells why there is no answer, if there is none, and else the warnings of the drawing; the status.
 fn tell_verdicts<R: Eprint + AllocGlobal>(
     rt: &R,
     request: &VerifyRequest<'_>,
@@ -157,10 +158,13 @@ fn tell_verdicts<R: Eprint + AllocGlobal>(
     is_closed: bool,
     answered: Result<Summary, VerifyFault>,
 ) -> io::Result<u8>
-    ensures { IfOk result (λ status. status ≡ status_of_verdicts answered) }
+    ensures { IfOk result (EndsVerdicts request.now text.now answered) }
 {
     match answered {
-        Ok(summary) => Ok(status_of(summary)),
+        Ok(summary) => {
+            let status = status_of(summary);
+            warn_of_a_drawing(rt, request.file, text, request.strictness, status)
+        }
         Err(fault) => print_verify_fault(rt, request, text, is_closed, fault),
     }
 }

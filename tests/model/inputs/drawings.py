@@ -262,9 +262,10 @@ def with_comment(chance, rows):
     return rows[:at] + [chance.choice(COMMENTS)] + rows[at:]
 
 
-def drawing(chance):
-    """A drawing, with words for its scans."""
-    names = bench_names(chance) if chance.random() < 0.35 else free_names(chance)
+def drawing(chance, names=None):
+    """A drawing of such names, with words for its scans."""
+    if names is None:
+        names = bench_names(chance) if chance.random() < 0.35 else free_names(chance)
     rows = Drawer(chance, names).drawing(len(names.boxes) if names.is_bench else chance.randint(1, 6))
     for _ in range(chance.choice([0] * 8 + [1, 2])):
         rows = with_comment(chance, rows)

@@ -19,6 +19,7 @@ from .run import Run, do_in_turns, lines_of_run
 from .scan import Ladder, State
 from .schedule import MOST_U32, events_of
 from .traces import Track, diagram, dump
+from .warnings import warnings_of, warnings_of_plant
 from . import verify_plant
 from .verify import MOST_INPUTS, TIMERS, Search, line_of, premises, stored_names, verdict_lines
 
@@ -29,19 +30,20 @@ MOST_DIGITS = 1000
 
 @dataclass
 class Answer:
-    """The status, the lines on standard output, and the first line on standard error where it is fixed."""
+    """The status, the lines on standard output, the first line on standard error where it is fixed, and the lines of warnings there."""
 
     status: int = 0
     lines: list = field(default_factory=list)
     told: str | None = None
+    warned: list = field(default_factory=list)
 
 
 class Refused(Exception):
-    """The command ends with this status; what was written stays."""
+    """The command ends with this status; what was written stays. Warnings are told last."""
 
-    def __init__(self, status, told=None):
+    def __init__(self, status, told=None, warned=()):
         super().__init__(told)
-        self.status, self.told = status, told
+        self.status, self.told, self.warned = status, told, list(warned)
 
 
 @dataclass
@@ -60,11 +62,12 @@ class Shape:
 
 
 COLORS = ("always", "auto", "never")
+WARNING_FLAGS = ("--strict", "--no-warnings")
 
 SHAPES = {
-    "eval": Shape(1, ("--dt",), {"--color": COLORS}, ("--vcd", "--svg"), ("--show", "--chart"), has_more=True),
-    "verify": Shape(1, ("--dt", "--most-states", "--most-waiting"), flags=("--no-restarts",), lists=("--never", "--given"), needed=("--never",), has_more=True),
-    "check": Shape(1),
+    "eval": Shape(1, ("--dt",), {"--color": COLORS}, ("--vcd", "--svg"), ("--show", "--chart", *WARNING_FLAGS), has_more=True),
+    "verify": Shape(1, ("--dt", "--most-states", "--most-waiting"), flags=("--no-restarts", *WARNING_FLAGS), lists=("--never", "--given"), needed=("--never",), has_more=True),
+    "check": Shape(1, flags=WARNING_FLAGS),
     "plan": Shape(1, numbers=("--until",), needed=("--until",)),
     "sim": Shape(2, numbers=("--max-number",), names=("--vcd", "--svg")),
     "run": Shape(1, ("--until",), names=("--state", "--vcd", "--svg"), flags=("--paced",), needed=("--until",), has_more=True),
@@ -83,7 +86,7 @@ def answer_of(given, folder=".", read=(), write=None):
         answer.lines = []
         COMMANDS[given[0]](write or answer.lines.append, Files(folder, read), files, options, more)
     except Refused as refused:
-        answer.status, answer.told = refused.status, refused.told
+        answer.status, answer.told, answer.warned = refused.status, refused.told, refused.warned
     return answer
 
 
@@ -223,7 +226,7 @@ def plant_of(text):
 
 
 def evaluate(write, files, paths, options, more):
-    if {"--show", "--chart"} <= set(options):
+    if {"--show", "--chart"} <= set(options) or set(WARNING_FLAGS) <= set(options):
         raise Refused(REFUSED_WORDS)
     ladder = files.ladder(paths[0])
     variables = [it for it in ladder.declarations if it.role != "Instance"]
@@ -246,7 +249,18 @@ def evaluate(write, files, paths, options, more):
         write(line)
     tracks = [Track(None, it.name, it.kind, [values[words.fold(it.name)] for values in traced]) for it in variables]
     files.write_traces(options, paths[0], options.get("--dt", 0) or 1, len(traced), tracks)
-    tell_difference(paths[0], variables, expected, traced)
+    difference = first_difference(variables, expected, traced)
+    warnings = warnings_of(ladder.drawing, ladder.networks)
+    end_with_warnings(paths[0], warnings, options, DIFFERS if difference else 0, difference and f"{paths[0]}: {difference}")
+
+
+def end_with_warnings(path, warnings, options, status, told=None):
+    """Tells warnings behind all else; with --strict the status is 1 in place of 0."""
+    warned = [] if "--no-warnings" in options else [f"{path}:{it}" for it in warnings]
+    if warned and "--strict" in options:
+        status = status or REFUSED_TEXT
+    if status or warned:
+        raise Refused(status, told or (warned[0] if warned else None), warned)
 
 
 def lines_of_scans(variables, traced):
@@ -277,14 +291,14 @@ def chart_of(variables, traced):
         yield f"{it.name:{width}} {shown}"
 
 
-def tell_difference(path, variables, expected, traced):
-    """The first one by scan, and then by word."""
+def first_difference(variables, expected, traced):
+    """The first one by scan, and then by word; None where all is as expected."""
     declared = {words.fold(it.name): it.name for it in variables}
     for scan, values in enumerate(traced):
         for name, digits in expected.items():
             if scan < len(digits) and values[name] != (digits[scan] == "1"):
-                told = f"{declared[name]} is {words.shown(values[name])} after scan {scan + 1}, expected {digits[scan]}"
-                raise Refused(DIFFERS, f"{path}: {told}")
+                return f"{declared[name]} is {words.shown(values[name])} after scan {scan + 1}, expected {digits[scan]}"
+    return None
 
 
 def rows_of(given, variables):
@@ -308,6 +322,8 @@ MOST_STATES, MOST_WAITING = 1_000_000, 8
 
 def verify(write, files, paths, options, more):
     """Names of one part make the file a drawing, names of three a plant."""
+    if set(WARNING_FLAGS) <= set(options):
+        raise Refused(REFUSED_WORDS)
     names = [name for claim in options["--never"] for name in claim.split(",")]
     dots = {it.count(".") for it in [*names, *options.get("--given", ())]}
     if dots == {2}:
@@ -361,13 +377,13 @@ def verify_drawing(write, files, paths, options, more):
             write(line)
     if told := premises(found, stored):
         write("given " + ", ".join(told))
-    if found.runs:
-        raise Refused(CLAIM_FAILS)
-    if found.depth is not None:
-        raise Refused(UNDECIDED)
+    warnings = warnings_of(ladder.drawing, ladder.networks)
+    end_with_warnings(paths[0], warnings, options, CLAIM_FAILS if found.runs else UNDECIDED if found.depth is not None else 0)
 
 
-def check(write, files, paths, _options, _more):
+def check(write, files, paths, options, _more):
+    if set(WARNING_FLAGS) <= set(options):
+        raise Refused(REFUSED_WORDS)
     plant = files.plant(paths[0])
     counts = {
         "resources": len(plant.resources),
@@ -377,6 +393,7 @@ def check(write, files, paths, _options, _more):
     }
     for name, count in counts.items():
         write(f"{name} {count}")
+    end_with_warnings(paths[0], warnings_of_plant(plant), options, 0)
 
 
 def due_of(plant, until):

@@ -15,6 +15,7 @@ class ProgramType:
 
     def draw(self, lines, first_line):
         """Reads, builds and binds the body."""
+        self.first_line = first_line
         drawing = read_drawing(lines, first_line)
         networks = networks_of(drawing, first_line)
         refuse_names(drawing, self.declarations, first_line)
@@ -47,6 +48,7 @@ class Program:
     type: ProgramType
     task: "Task"
     binds: list = field(default_factory=list)
+    line: int = 0
 
 
 @dataclass(eq=False)

@@ -159,11 +159,12 @@ class PlantText:
 
     def use(self, resource):
         self.expect("PROGRAM")
+        line = self.words.line_at(self.words.peek()[1])
         name = self.new_name(resource.programs, MOST_PROGRAMS, len(self.read.programs()))
         self.expect("WITH")
         task = self.known(resource.tasks)
         self.expect(":")
-        it = Program(name, self.known(self.read.types), task)
+        it = Program(name, self.known(self.read.types), task, line=line)
         resource.programs.append(it)
         task.programs.append(it)
         if self.expect("(", ";") == "(":

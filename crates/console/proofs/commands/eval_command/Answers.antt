@@ -1,11 +1,12 @@
--- The words are added behind the files.
+-- The words are added behind the flags for warnings.
 use Rattle.std.proofs.Common.{ap, ap₂, ◌∙◌}
 use Rattle.std.proofs.lemmas.Result.{IfOk-weaker}
 use Rattle.clap.specs.Words.{with_rule}
-use Rattle.console.specs.CommandLine.{traced}
+use Rattle.console.specs.CommandLine.{traced, warned}
 use Rattle.console.proofs.commands.eval_command.Goals as goal
 
 pub returns : goal.returns
 returns c =
     let files = c.in_ok-traced_command.ensures ∙ ap traced c.in_ok-shown_command.ensures in
-    IfOk-weaker c.arg.result _ _ (λ new added. added.shape c.words_arg.ensures.local ∙ ap₂ with_rule files c.words_arg.ensures.rule) c.arg.ensures
+    let flags = c.in_ok-warned_command.ensures ∙ ap warned files in
+    IfOk-weaker c.arg.result _ _ (λ new added. added.shape c.words_arg.ensures.local ∙ ap₂ with_rule flags c.words_arg.ensures.rule) c.arg.ensures

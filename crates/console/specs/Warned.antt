@@ -1,0 +1,65 @@
+-- Warnings of a command.
+use Rattle.std.specs.Prelude.{◌≡◌, ◌⊎◌, ◌&&◌, ◌==◌, ℕ, if◌then◌else◌, List, [], ◌∷◌, Bool, true, false}
+use Rattle.text_commands.specs.Comments.{without_comments}
+use Rattle.warnings.specs.OfPlant.{AreWarningsOfPlant, IsNoPlant}
+use Rattle.warnings.specs.OfText.{AreWarningsOf, HasNoNetworks}
+use Rattle.warnings.specs.declared.of_plant.PlantWarnings.{PlantWarnings}
+use Rattle.warnings.specs.declared.warning.Warning.{Warning}
+use Rattle.console.specs.declared.request.Strictness.{Strictness}
+use Rattle.console.specs.declared.request.Strictness.TheVariants.{Told, Strict, Silent}
+use Rattle.console.specs.declared.request.TextRequest.{TextRequest}
+use Rattle.console.specs.declared.request.TextRequest.TheVariants.{Eval, Check, Plan}
+
+-- a list has nothing
+abbrev pub is_none : {X : Type 0} → List X → Bool
+is_none [] = true
+is_none (x ∷ more) = false
+
+-- the warnings of the text of a drawing: as it is; or, where it is no drawing, with its comments emptied
+abbrev pub AreDrawingWarnings : List ℕ → List Warning → Type 0
+AreDrawingWarnings text warnings =
+    AreWarningsOf text warnings ⊎ (HasNoNetworks 1 text × AreWarningsOf (without_comments text) warnings)
+
+-- it is no drawing, either way
+abbrev pub IsNoDrawing : List ℕ → Type 0
+IsNoDrawing text = HasNoNetworks 1 text × HasNoNetworks 1 (without_comments text)
+
+-- whether nothing is warned of in the text of a drawing
+abbrev pub IsDrawingQuiet : List ℕ → Bool → Type 0
+IsDrawingQuiet text quiet =
+    ((warnings : List Warning) × AreDrawingWarnings text warnings × (quiet ≡ is_none warnings))
+    ⊎ (IsNoDrawing text × (quiet ≡ true))
+
+-- nothing is warned of in the drawings and at the instances of a plant
+abbrev pub is_plant_quiet : PlantWarnings → Bool
+is_plant_quiet told = is_none told.bodies.items && is_none told.unbound.items
+
+-- the same of the text of a plant
+abbrev pub ArePlantWarnings : List ℕ → PlantWarnings → Type 0
+ArePlantWarnings text told =
+    AreWarningsOfPlant text told ⊎ (IsNoPlant text × AreWarningsOfPlant (without_comments text) told)
+
+abbrev pub IsNoPlantEither : List ℕ → Type 0
+IsNoPlantEither text = IsNoPlant text × IsNoPlant (without_comments text)
+
+abbrev pub IsPlantQuiet : List ℕ → Bool → Type 0
+IsPlantQuiet text quiet =
+    ((told : PlantWarnings) × ArePlantWarnings text told × (quiet ≡ is_plant_quiet told))
+    ⊎ (IsNoPlantEither text × (quiet ≡ true))
+
+-- what is warned of in the text of a request; a plan is told without warnings
+abbrev pub IsQuiet : TextRequest → List ℕ → Bool → Type 0
+IsQuiet (Eval drawing dt view color files strictness words) text quiet = IsDrawingQuiet text quiet
+IsQuiet (Check plant strictness) text quiet = IsPlantQuiet text quiet
+IsQuiet (Plan plant until) text quiet = quiet ≡ true
+
+-- where something is warned of it is 1 in place of 0
+abbrev pub strict_status : Bool → ℕ → ℕ
+strict_status quiet status = if quiet then status else (if status == 0 then 1 else status)
+
+-- the status behind warnings, where it was this one before them; it is 3 for want of memory
+abbrev pub EndsWarned : (Bool → Type 0) → Strictness → ℕ → ℕ → Type 0
+EndsWarned quiet_is Silent before status = status ≡ before
+EndsWarned quiet_is Told before status = (status ≡ before) ⊎ (status ≡ 3)
+EndsWarned quiet_is Strict before status =
+    ((quiet : Bool) × quiet_is quiet × (status ≡ strict_status quiet before)) ⊎ (status ≡ 3)

@@ -1,0 +1,195 @@
+//! Warnings: what is lawful, and most likely not meant.
+
+ghost use Rattle.std.specs.Prelude.{◌≡◌, IfOk, MatchOption};
+ghost use Rattle.console.specs.Warned.{AreDrawingWarnings, ArePlantWarnings, IsNoDrawing, IsNoPlantEither, EndsWarned, IsDrawingQuiet, IsPlantQuiet, IsQuiet, is_plant_quiet, strict_status};
+ghost use Rattle.console.specs.CommandLine.{strictness_of};
+
+use crate::command_fault::CommandFault;
+use crate::faults::print_failure;
+use crate::request::{Strictness, TextRequest};
+use crate::shown::Shown;
+use crate::status::TEXT_REFUSED;
+use guidance::{marked_column, marked_line};
+use std::alloc::{AllocError, Global};
+use std::io;
+use text_commands::without_comments;
+use warnings::{
+    PlantWarnings, UnboundInput, Warning, warnings_of_a_plant, warnings_of_a_text,
+};
+
+/// Tells a warning: its place and kind, the line with a mark, and what to write instead.
+fn print_warning<R: Eprint + AllocGlobal>(
+    rt: &R,
+    file: &str,
+    text: &str,
+    warning: Warning,
+) -> io::Result<()> {
+    let file = Shown(file);
+    eprintln!(rt; "{file}:{warning}")?;
+    if let Ok(shown) = marked_column(rt.alloc(), text, warning.line, warning.column) {
+        rt.eprint(shown.as_str())?;
+    }
+    let sentence = warning.kind.sentence();
+    eprintln!(rt; "{sentence}")
+}
+
+fn print_warnings<R: Eprint + AllocGlobal>(
+    rt: &R,
+    file: &str,
+    text: &str,
+    warnings: &[Warning],
+) -> io::Result<()> {
+    for warning in warnings {
+        print_warning(rt, file, text, *warning)?;
+    }
+    Ok(())
+}
+
+/// Tells that an input isn't bound: its line, and what to write instead.
+fn print_unbound<R: Eprint + AllocGlobal>(
+    rt: &R,
+    file: &str,
+    text: &str,
+    unbound: &UnboundInput,
+) -> io::Result<()> {
+    let file = Shown(file);
+    eprintln!(rt; "{file}:{unbound}")?;
+    if let Ok(shown) = marked_line(rt.alloc(), text, unbound.line) {
+        rt.eprint(shown.as_str())?;
+    }
+    if let Ok(sentence) = unbound.sentence(rt.alloc()) {
+        eprintln!(rt; "{sentence}")?;
+    }
+    Ok(())
+}
+
+/// The warnings of a drawing's text, if need be with its comments emptied. `None`: it is refused.
+fn drawing_warnings(alloc: Global, text: &str) -> Result<Option<Vec<Warning>>, AllocError>
+    ensures { IfOk result (λ told. MatchOption told (IsNoDrawing text.now) (λ warnings. AreDrawingWarnings text.now warnings.items)) }
+{
+    if let Some(warnings) = warnings_of_a_text(alloc, text)? {
+        return Ok(Some(warnings));
+    }
+    let text = without_comments(alloc, text)?;
+    warnings_of_a_text(alloc, text.as_str())
+}
+
+/// The same of a plant's text.
+fn plant_warnings(alloc: Global, text: &str) -> Result<Option<PlantWarnings>, AllocError>
+    ensures { IfOk result (λ told. MatchOption told (IsNoPlantEither text.now) (ArePlantWarnings text.now)) }
+{
+    if let Some(warnings) = warnings_of_a_plant(alloc, text)? {
+        return Ok(Some(warnings));
+    }
+    let text = without_comments(alloc, text)?;
+    warnings_of_a_plant(alloc, text.as_str())
+}
+
+/// Tells the warnings of a drawing; whether there are none. An error is want of memory.
+fn tell_drawing<R: Eprint + AllocGlobal>(
+    rt: &R,
+    file: &str,
+    text: &str,
+) -> io::Result<Result<bool, AllocError>>
+    ensures { IfOk result (λ told. IfOk told (IsDrawingQuiet text.now)) }
+{
+    match drawing_warnings(rt.alloc(), text) {
+        Ok(Some(warnings)) => {
+            print_warnings(rt, file, text, &warnings)?;
+            Ok(Ok(warnings.is_empty()))
+        }
+        Ok(None) => Ok(Ok(true)),
+        Err(fault) => Ok(Err(fault)),
+    }
+}
+
+/// Whether nothing is warned of in a plant.
+fn is_plant_quiet(warnings: &PlantWarnings) -> bool
+    ensures { result ≡ is_plant_quiet warnings.now }
+{
+    warnings.bodies.is_empty() && warnings.unbound.is_empty()
+}
+
+/// Tells the warnings of a plant; whether there are none. An error is want of memory.
+fn tell_plant<R: Eprint + AllocGlobal>(
+    rt: &R,
+    file: &str,
+    text: &str,
+) -> io::Result<Result<bool, AllocError>>
+    ensures { IfOk result (λ told. IfOk told (IsPlantQuiet text.now)) }
+{
+    match plant_warnings(rt.alloc(), text) {
+        Ok(Some(warnings)) => {
+            print_warnings(rt, file, text, &warnings.bodies)?;
+            for unbound in &warnings.unbound {
+                print_unbound(rt, file, text, unbound)?;
+            }
+            Ok(Ok(is_plant_quiet(&warnings)))
+        }
+        Ok(None) => Ok(Ok(true)),
+        Err(fault) => Ok(Err(fault)),
+    }
+}
+
+/// The status where warnings are a failure.
+fn strict_status(quiet: bool, status: u8) -> u8
+    ensures { result ≡ strict_status quiet status }
+{
+    if quiet || status != 0 {
+        status
+    } else {
+        TEXT_REFUSED
+    }
+}
+
+/// The status behind warnings; none were told where memory was wanting.
+fn status_behind<R: Eprint>(
+    rt: &R,
+    told: Result<bool, AllocError>,
+    strictness: Strictness,
+    status: u8,
+) -> io::Result<u8> {
+    match (told, strictness) {
+        (Err(_), _) => print_failure(rt, CommandFault::Memory),
+        (Ok(quiet), Strictness::Strict) => Ok(strict_status(quiet, status)),
+        (Ok(_), Strictness::Told | Strictness::Silent) => Ok(status),
+    }
+}
+
+/// Tells the warnings of a drawing's text behind all else that is told; the status, which was this one before them.
+pub fn warn_of_a_drawing<R: Eprint + AllocGlobal>(
+    rt: &R,
+    file: &str,
+    text: &str,
+    strictness: Strictness,
+    status: u8,
+) -> io::Result<u8>
+    ensures { IfOk result (EndsWarned (IsDrawingQuiet text.now) strictness status) }
+{
+    if strictness == Strictness::Silent {
+        return Ok(status);
+    }
+    let told = tell_drawing(rt, file, text)?;
+    status_behind(rt, told, strictness, status)
+}
+
+/// Tells the warnings of the text of a request behind all else that is told; the status, which was this one before them.
+pub fn warn<R: Eprint + AllocGlobal>(
+    rt: &R,
+    request: &TextRequest<'_>,
+    text: &str,
+    status: u8,
+) -> io::Result<u8>
+    ensures { IfOk result (EndsWarned (IsQuiet request.now text.now) (strictness_of request.now) status) }
+{
+    let strictness = request.strictness();
+    if strictness == Strictness::Silent {
+        return Ok(status);
+    }
+    let told = match request {
+        TextRequest::Eval { .. } => tell_drawing(rt, request.file(), text)?,
+        TextRequest::Check { .. } => tell_plant(rt, request.file(), text)?,
+        TextRequest::Plan { .. } => Ok(true),
+    };
+    status_behind(rt, told, strictness, status)
+}

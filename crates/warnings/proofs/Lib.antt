@@ -1,0 +1,5 @@
+pub mod SameNames
+pub mod LaterCoils
+pub mod WarningOrder
+pub mod FaultyNetworks
+pub mod WarnedBodies

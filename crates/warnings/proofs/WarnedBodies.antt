@@ -1,0 +1,47 @@
+-- The warnings of one program more.
+use Rattle.std.proofs.Common.{inr, ◌≡◌, List, [], ◌∷◌, ◌++◌, refl, sym, ap, ◌∙◌, append_assoc}
+use Rattle.std.proofs.lemmas.List.{append-nil}
+use Rattle.plant_grammar.specs.Grammar.{TextValue}
+use Rattle.warnings.specs.declared.warning.Warning.{Warning}
+use Rattle.std.specs.Prelude.{ℕ, Option, Some, None, MatchOption}
+use Rattle.words.specs.Lines.{without_last}
+use Rattle.plant_text.specs.declared.token.Token.{Token}
+use Rattle.plant_text.specs.Lines.{WordValue, IsSpelledBy}
+use Rattle.plant_grammar.specs.Steps.Reading.{IsTreeOf}
+use Rattle.plant_grammar.specs.declared.grammar.tree.Resource.{Resource}
+use Rattle.warnings.specs.declared.of_plant.PlantWarnings.{PlantWarnings}
+use Rattle.warnings.specs.OfPlant.{IsBodyWarned, AreBodiesWarned, AreWarningsOfTree, AreWarningsOfPlant, HasNoDrawingIn, IsNoPlant, tokens_of}
+
+pub passed_more : (all before left now : List TextValue) (t : TextValue) → left ≡ t ∷ now → before ++ left ≡ all → (before ++ t ∷ []) ++ now ≡ all
+passed_more all before left now t front parts = append_assoc before (t ∷ []) now ∙ ap (λ ts. before ++ ts) (sym front) ∙ parts
+
+pub warned_more : (texts : List TextValue) (t : TextValue) (warnings more : List Warning)
+    → AreBodiesWarned texts warnings → IsBodyWarned t more → AreBodiesWarned (texts ++ t ∷ []) (warnings ++ more)
+warned_more [] t warnings more none is = (more, [], is, refl, ap (λ (ws : List Warning). ws ++ more) none ∙ sym (append-nil more))
+warned_more (s ∷ texts) t warnings more are is = (
+  are.0,
+  are.1 ++ more,
+  are.2,
+  warned_more texts t are.1 more are.3 is,
+  ap (λ (ws : List Warning). ws ++ more) are.4 ∙ append_assoc are.0 are.1 more,
+)
+
+-- what is told of a text's programs and resources is told of the text
+pub plant_told : (text : List ℕ) (words : List WordValue) (texts : List TextValue) (resources : List Resource) (rest : List Token)
+    → IsSpelledBy (without_last 13 text) words → IsTreeOf (tokens_of words) texts resources rest
+    → (told : Option PlantWarnings) → MatchOption told (HasNoDrawingIn texts) (AreWarningsOfTree texts resources)
+    → MatchOption told (IsNoPlant text) (AreWarningsOfPlant text)
+plant_told text words texts resources rest spelled tree None faulty = record {
+  words = words;
+  spelled = spelled;
+  refused = inr (record { texts = texts; resources = resources; rest = rest; tree = tree; faulty = faulty });
+}
+plant_told text words texts resources rest spelled tree (Some told) warned = record {
+  words = words;
+  texts = texts;
+  resources = resources;
+  rest = rest;
+  spelled = spelled;
+  tree = tree;
+  warned = warned;
+}

@@ -1,0 +1,80 @@
+-- The warnings of a plant.
+use Rattle.std.specs.Prelude.{◌≡◌, ◌⊎◌, ◌++◌, ℕ, List, [], ◌∷◌, map, max, min}
+use Rattle.words.specs.Lines.{without_last}
+use Rattle.plant_text.specs.declared.token.Token.{Token}
+use Rattle.plant_text.specs.Lines.{WordValue, IsSpelledBy}
+use Rattle.network.specs.GraphValue.{GraphValue}
+use Rattle.plant_grammar.specs.Grammar.{TextValue, Tree, words_of}
+use Rattle.plant_grammar.specs.Lawful.{variables, IsTreeLawful}
+use Rattle.plant_grammar.specs.Steps.Reading.{IsTreeOf}
+use Rattle.plant_grammar.specs.declared.grammar.tree.Resource.{Resource}
+use Rattle.warnings.specs.declared.of_plant.PlantWarnings.{PlantWarnings}
+use Rattle.warnings.specs.declared.warning.Warning.{Warning}
+use Rattle.warnings.specs.NeverRead.{AreProgramWarnings}
+use Rattle.warnings.specs.OfText.{AreNetworksOf, HasNoNetworks}
+use Rattle.warnings.specs.Unbound.{names_in, all_unbound}
+
+-- the number of the first line of a program's drawing, from 1 to the greatest on which a drawing may begin
+abbrev pub drawing_line : TextValue → ℕ
+drawing_line t = max 1 (min t.first_line 9223372036854775807)
+
+-- a program has no drawing, or one whose networks have a fault
+abbrev pub HasNoDrawing : TextValue → Type 0
+HasNoDrawing t = HasNoNetworks (drawing_line t) t.program.body
+
+-- one of these programs has none
+pub record HasNoDrawingIn (texts : List TextValue) : Type 0 where
+  pub before : List TextValue
+  pub faulty : TextValue
+  pub behind : List TextValue
+  pub parts : texts ≡ before ++ faulty ∷ behind
+  pub refused : HasNoDrawing faulty
+
+-- these are the warnings of a program's drawing
+pub record IsBodyWarned (t : TextValue) (warnings : List Warning) : Type 0 where
+  pub graph : GraphValue
+  pub networks : AreNetworksOf (drawing_line t) t.program.body graph
+  pub warned : AreProgramWarnings graph (variables t.program) warnings
+
+-- these are the warnings of the drawings of programs, one after the other
+abbrev pub AreBodiesWarned : List TextValue → List Warning → Type 0
+AreBodiesWarned [] warnings = warnings ≡ []
+AreBodiesWarned (t ∷ texts) warnings =
+    (here more : List Warning) × IsBodyWarned t here × AreBodiesWarned texts more × (warnings ≡ here ++ more)
+
+-- these are the warnings of programs and resources
+pub record AreWarningsOfTree (texts : List TextValue) (resources : List Resource) (told : PlantWarnings) : Type 0 where
+  pub bodies : AreBodiesWarned texts told.bodies.items
+  pub unbound : map names_in told.unbound.items ≡ all_unbound texts resources
+
+-- the words of a text
+abbrev pub tokens_of : List WordValue → List Token
+tokens_of words = map (λ (w : WordValue). w.token) words
+
+-- A text begins with the words of a plant's programs and resources, and these are their warnings.
+pub record AreWarningsOfPlant (text : List ℕ) (told : PlantWarnings) : Type 0 where
+  pub words : List WordValue
+  pub texts : List TextValue
+  pub resources : List Resource
+  pub rest : List Token
+  pub spelled : IsSpelledBy (without_last 13 text) words
+  pub tree : IsTreeOf (tokens_of words) texts resources rest
+  pub warned : AreWarningsOfTree texts resources told
+
+-- no lawful plant begins these words
+abbrev pub BeginNoPlant : List Token → Type 0
+BeginNoPlant words = (tree : Tree) (rest : List Token) → words ≡ words_of tree ++ rest → IsTreeLawful tree → ⊥
+
+-- these words begin with a plant's, of which a program has no drawing
+pub record HasFaultyBody (words : List Token) : Type 0 where
+  pub texts : List TextValue
+  pub resources : List Resource
+  pub rest : List Token
+  pub tree : IsTreeOf words texts resources rest
+  pub faulty : HasNoDrawingIn texts
+
+-- a text doesn't begin with the words of a plant, or one of its programs has no drawing
+pub record IsNoPlant (text : List ℕ) : Type 0 where
+  pub words : List WordValue
+  pub spelled : IsSpelledBy (without_last 13 text) words
+  pub refused : BeginNoPlant (tokens_of words) ⊎ HasFaultyBody (tokens_of words)
