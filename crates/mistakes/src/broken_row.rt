@@ -1,0 +1,119 @@
+//! The row in which a box is broken.
+
+use crate::block_names::{Top, between, has_sides, top_at};
+use crate::rows::{row_at, sign_at};
+use words::is_identifier;
+
+/// What is wrong with a box.
+#[derive(Clone, Copy, Debug, PartialEq, Eq)]
+pub enum Break {
+    LeftSide,
+    RightSide,
+    Bottom,
+    NoBottom,
+    Pins,
+    PinName,
+}
+
+impl Break {
+    /// What has to stand at the place.
+    pub fn text(self) -> &'static str {
+        match self {
+            Break::LeftSide =>
+                "a | of the left side, or the + with which the bottom begins, is missing here",
+            Break::RightSide => "a | of the right side is missing here, right below the corner",
+            Break::Bottom =>
+                "the bottom isn't as long as the top, or has a gap: - throughout, and + below the corners",
+            Break::NoBottom => "below this row the bottom is missing: +, - throughout, +",
+            Break::Pins => "a row of a box has a left pin and a right pin at most",
+            Break::PinName => "a pin's name has letters, digits and single underscores alone",
+        }
+    }
+}
+
+/// What is wrong with a box, and where, by the row and the column, counted from 0.
+#[derive(Clone, Copy)]
+pub struct Broken {
+    pub row: usize,
+    pub column: usize,
+    pub kind: Break,
+}
+
+/// The first column of a bottom side that isn't as it has to be.
+fn gap_in(row: &str, top: Top) -> Option<usize> {
+    let first = top.left.saturating_add(1);
+    for column in first..top.right {
+        if sign_at(row, column) != b'-' {
+            return Some(column);
+        }
+    }
+    if sign_at(row, top.right) == b'+' {
+        None
+    } else {
+        Some(top.right)
+    }
+}
+
+/// Whether a row of pins has too many words, or one that is no name of a pin.
+fn break_of_pins(row: &str, top: Top) -> Option<Break> {
+    let mut count: usize = 0;
+    for word in between(row, top).split(|sign| *sign == b' ') {
+        if !word.is_empty() {
+            count = count.saturating_add(1);
+            if !is_identifier(word) {
+                return Some(Break::PinName);
+            }
+        }
+    }
+    if 2 < count { Some(Break::Pins) } else { None }
+}
+
+/// What is wrong with a row that is neither one of pins nor a bottom, by its column.
+fn break_of_sides(row: &str, top: Top) -> (usize, Break) {
+    let left = sign_at(row, top.left);
+    if left == b'+' {
+        (gap_in(row, top).unwrap_or(top.right), Break::Bottom)
+    } else if left == b'|' || left == b'>' {
+        (top.right, Break::RightSide)
+    } else {
+        (top.left, Break::LeftSide)
+    }
+}
+
+/// Whether a row is the bottom of a box.
+fn is_bottom(row: &str, top: Top) -> bool {
+    sign_at(row, top.left) == b'+' && gap_in(row, top).is_none()
+}
+
+/// What is wrong with a row of a box. `None`: nothing.
+fn break_in(row: &str, top: Top) -> Option<(usize, Break)> {
+    if has_sides(row, top) {
+        break_of_pins(row, top).map(|kind| (top.left.saturating_add(1), kind))
+    } else {
+        Some(break_of_sides(row, top))
+    }
+}
+
+/// What is wrong with the box that begins at a place. `None`: nothing, or no box begins there.
+pub fn broken_at(rows: &[&str], row: usize, left: usize) -> Option<Broken> {
+    let top = top_at(row_at(rows, row), left)?;
+    let first = row.saturating_add(2);
+    for below in first..rows.len() {
+        let text = row_at(rows, below);
+        if is_bottom(text, top) {
+            return None;
+        }
+        if let Some((column, kind)) = break_in(text, top) {
+            return Some(Broken {
+                row: below,
+                column,
+                kind,
+            });
+        }
+    }
+    Some(Broken {
+        row: rows.len().saturating_sub(1),
+        column: top.left,
+        kind: Break::NoBottom,
+    })
+}
