@@ -1,8 +1,8 @@
 //! The row in which a box is broken.
 
-use crate::block_names::{Top, between, has_sides, top_at};
+use crate::block_names::{Top, between, has_sides, top_at, word_between};
 use crate::rows::{row_at, sign_at};
-use words::is_identifier;
+use words::{block_type, is_identifier};
 
 /// What is wrong with a box.
 #[derive(Clone, Copy, Debug, PartialEq, Eq)]
@@ -94,6 +94,18 @@ fn break_in(row: &str, top: Top) -> Option<(usize, Break)> {
     }
 }
 
+/// Whether a box begins at a place: its top side, and below it a block type between the sides.
+fn begins_box(rows: &[&str], row: usize, left: usize) -> bool {
+    let second = row_at(rows, row.saturating_add(1));
+    match top_at(row_at(rows, row), left) {
+        Some(top) => {
+            has_sides(second, top)
+                && word_between(second, top).is_some_and(|word| block_type(word).is_some())
+        }
+        None => false,
+    }
+}
+
 /// What is wrong with the box that begins at a place. `None`: nothing, or no box begins there.
 pub fn broken_at(rows: &[&str], row: usize, left: usize) -> Option<Broken> {
     let top = top_at(row_at(rows, row), left)?;
@@ -116,4 +128,16 @@ pub fn broken_at(rows: &[&str], row: usize, left: usize) -> Option<Broken> {
         column: top.left,
         kind: Break::NoBottom,
     })
+}
+
+/// What is wrong with the first broken box that begins in a row. `None`: there is none.
+pub fn broken_in(rows: &[&str], row: usize) -> Option<Broken> {
+    for left in 0..row_at(rows, row).len() {
+        if begins_box(rows, row, left)
+            && let Some(broken) = broken_at(rows, row, left)
+        {
+            return Some(broken);
+        }
+    }
+    None
 }

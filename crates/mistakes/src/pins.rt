@@ -122,7 +122,18 @@ fn name_of(block: BlockType) -> &'static str {
     }
 }
 
-/// The pins of the type of the box at a place.
+/// The pins of a type.
+fn told_of_type(alloc: Global, block: BlockType) -> Result<String, AllocError> {
+    let mut text = String::from_str(alloc, name_of(block))?;
+    text.push_str(" has on its left")?;
+    push_pins(&mut text, block, &PINS, true)?;
+    text.push_str(", and on its right")?;
+    push_pins(&mut text, block, &PINS, false)?;
+    text.push_str(".\n")?;
+    Ok(text)
+}
+
+/// The pins of the type of the box at a place. `None`: none stands there.
 pub fn told_of_pins(
     alloc: Global,
     rows: &[&str],
@@ -130,14 +141,23 @@ pub fn told_of_pins(
     row: usize,
     column: usize,
 ) -> Result<Option<String>, AllocError> {
-    let Some(block) = block_at(rows, part, row, column) else {
-        return Ok(None);
-    };
-    let mut text = String::from_str(alloc, name_of(block))?;
-    text.push_str(" has on its left")?;
-    push_pins(&mut text, block, &PINS, true)?;
-    text.push_str(", and on its right")?;
-    push_pins(&mut text, block, &PINS, false)?;
-    text.push_str(".\n")?;
-    Ok(Some(text))
+    match block_at(rows, part, row, column) {
+        Some(block) => Ok(Some(told_of_type(alloc, block)?)),
+        None => Ok(None),
+    }
+}
+
+/// The pins of the type of the first box with a side in a row. `None`: no box has one there.
+pub fn told_of_pins_in(
+    alloc: Global,
+    rows: &[&str],
+    part: Part,
+    row: usize,
+) -> Result<Option<String>, AllocError> {
+    for column in 0..row_at(rows, row).len() {
+        if let Some(block) = block_at(rows, part, row, column) {
+            return Ok(Some(told_of_type(alloc, block)?));
+        }
+    }
+    Ok(None)
 }

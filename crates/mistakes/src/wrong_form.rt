@@ -162,25 +162,25 @@ struct Wrong<'a> {
 }
 
 /// The word from one column up to another one, where it is written wrong.
-fn wrong_from<'a>(row: &'a [u8], first: usize, end: usize, is_plant: bool) -> Option<Wrong<'a>> {
+fn wrong_from<'a>(row: &'a [u8], first: usize, end: usize, is_address_allowed: bool) -> Option<Wrong<'a>> {
     let word = without_dashes(row.get(first..end).unwrap_or(b""));
-    let form = wrong_form(word, is_plant)?;
+    let form = wrong_form(word, is_address_allowed)?;
     Some(Wrong { word, form })
 }
 
 /// The first word of a plant's line that is written wrong.
-fn wrong_on_a_line<'a>(row: &'a [u8]) -> Option<Wrong<'a>> {
+fn wrong_on_a_line<'a>(row: &'a [u8], is_address_allowed: bool) -> Option<Wrong<'a>> {
     let row = before_comment(row);
     let mut first = 0;
     for (at, sign) in row.iter().enumerate() {
         if is_between(*sign) {
-            if let Some(wrong) = wrong_from(row, first, at, true) {
+            if let Some(wrong) = wrong_from(row, first, at, is_address_allowed) {
                 return Some(wrong);
             }
             first = at.saturating_add(1);
         }
     }
-    wrong_from(row, first, row.len(), true)
+    wrong_from(row, first, row.len(), is_address_allowed)
 }
 
 /// The word of a drawing's row at a column, where it is written wrong.
@@ -215,7 +215,11 @@ pub fn told_of_form(alloc: Global, row: &str, column: usize) -> Result<Option<St
     told_of_wrong(alloc, wrong_in(row.as_bytes(), column))
 }
 
-/// What is told of the first word of a plant's line that is written as elsewhere.
-pub fn told_of_forms(alloc: Global, row: &str) -> Result<Option<String>, AllocError> {
-    told_of_wrong(alloc, wrong_on_a_line(row.as_bytes()))
+/// What is told of the first word of a plant's line that is written as elsewhere. In a body an address is one.
+pub fn told_of_forms(
+    alloc: Global,
+    row: &str,
+    is_address_allowed: bool,
+) -> Result<Option<String>, AllocError> {
+    told_of_wrong(alloc, wrong_on_a_line(row.as_bytes(), is_address_allowed))
 }
