@@ -14,5 +14,6 @@ mod table;
 mod topic;
 mod unknown_word;
 
+pub use excerpt::marked_column;
 pub use explanation::{explain, kinds};
 pub use help::{help_with, help_with_a_schedule, help_with_a_word};

@@ -1,7 +1,7 @@
 //! The row in which a box is broken.
 
 use crate::block_names::{Top, between, has_sides, top_at, word_between};
-use crate::rows::{row_at, sign_at};
+use crate::rows::{is_drawn, row_at, sign_at};
 use words::{block_type, is_identifier};
 
 /// What is wrong with a box.
@@ -19,14 +19,14 @@ impl Break {
     /// What has to stand at the place.
     pub fn text(self) -> &'static str {
         match self {
-            Break::LeftSide =>
-                "a | of the left side, or the + with which the bottom begins, is missing here",
-            Break::RightSide => "a | of the right side is missing here, right below the corner",
-            Break::Bottom =>
-                "the bottom isn't as long as the top, or has a gap: - throughout, and + below the corners",
-            Break::NoBottom => "below this row the bottom is missing: +, - throughout, +",
-            Break::Pins => "a row of a box has a left pin and a right pin at most",
-            Break::PinName => "a pin's name has letters, digits and single underscores alone",
+            Break::LeftSide => "The left side has no | here, in the column of the corner.",
+            Break::RightSide => "The right side has no | here, in the column of the corner.",
+            Break::Bottom => "The bottom is as long as the top, without a gap: here is no - or +.",
+            Break::NoBottom => "Below this row the bottom is missing.",
+            Break::Pins => "This row has more words than a left and a right pin.",
+            Break::PinName => {
+                "This row has a word that is no pin's: these have letters and digits alone."
+            }
         }
     }
 }
@@ -106,28 +106,37 @@ fn begins_box(rows: &[&str], row: usize, left: usize) -> bool {
     }
 }
 
+/// A box that ends above a row without a bottom.
+fn without_bottom(row: usize, top: Top) -> Broken {
+    Broken {
+        row: row.saturating_sub(1),
+        column: top.left,
+        kind: Break::NoBottom,
+    }
+}
+
+/// What is wrong with a row of a box. `None`: nothing.
+fn broken_row(rows: &[&str], row: usize, top: Top) -> Option<Broken> {
+    let text = row_at(rows, row);
+    if !is_drawn(text) {
+        return Some(without_bottom(row, top));
+    }
+    let (column, kind) = break_in(text, top)?;
+    Some(Broken { row, column, kind })
+}
+
 /// What is wrong with the box that begins at a place. `None`: nothing, or no box begins there.
 pub fn broken_at(rows: &[&str], row: usize, left: usize) -> Option<Broken> {
     let top = top_at(row_at(rows, row), left)?;
-    let first = row.saturating_add(2);
-    for below in first..rows.len() {
-        let text = row_at(rows, below);
-        if is_bottom(text, top) {
+    for below in row.saturating_add(2)..rows.len() {
+        if is_bottom(row_at(rows, below), top) {
             return None;
         }
-        if let Some((column, kind)) = break_in(text, top) {
-            return Some(Broken {
-                row: below,
-                column,
-                kind,
-            });
+        if let Some(broken) = broken_row(rows, below, top) {
+            return Some(broken);
         }
     }
-    Some(Broken {
-        row: rows.len().saturating_sub(1),
-        column: top.left,
-        kind: Break::NoBottom,
-    })
+    Some(without_bottom(rows.len(), top))
 }
 
 /// What is wrong with the first broken box that begins in a row. `None`: there is none.

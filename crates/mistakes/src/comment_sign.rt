@@ -46,8 +46,7 @@ fn told_of_sign(alloc: Global, sign: Option<&str>) -> Result<Option<String>, All
     let Some(sign) = sign else {
         return Ok(None);
     };
-    let text = format!(
-        in alloc;
+    let text = format!(in alloc;
         "No comment begins with {sign} here: a comment is a row of its own, (* .. *).\n"
     )?;
     Ok(Some(text))

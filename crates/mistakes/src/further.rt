@@ -1,6 +1,11 @@
 //! The faults behind the first.
 
-use crate::emptied::without_part;
+ghost use Rattle.std.specs.Prelude.{◌≤◌, ◌+◌, All, OnOk, IfOk, IfSome, length, string_bytes};
+ghost use Rattle.text_commands.specs.CheckText.{RefusesPlantText};
+ghost use Rattle.text_commands.specs.EvalText.{RefusesDrawing};
+ghost use Rattle.mistakes.specs.Further.{IsEmptiedFrom, IsFurther, IsFurtherIn, IsLeftOf, Refuses};
+
+use crate::emptied::without_rows;
 use crate::pins::before_a_dot;
 use crate::rows::{row_at, rows_of};
 use crate::rung::{Part, rail_of, rung_of};
@@ -69,8 +74,15 @@ fn is_worth(row: &str) -> bool {
     !drawn.is_empty() && drawn != "|"
 }
 
-/// The text, of which the rung is emptied in which a fault stands. `None`: nothing is drawn there, or in no drawing.
-fn without_rung(alloc: Global, text: &str, fault: TextFault) -> Result<Option<String>, AllocError> {
+/// Rows of a drawing that are to be emptied, and the column of its rail.
+#[derive(Clone, Copy)]
+struct Rung {
+    rows: Part,
+    rail: usize,
+}
+
+/// The rung in which a fault stands. `None`: nothing is drawn there, or in no drawing.
+fn rung_around(alloc: Global, text: &str, fault: TextFault) -> Result<Option<Rung>, AllocError> {
     let Some(row) = drawn_row(fault) else {
         return Ok(None);
     };
@@ -80,22 +92,59 @@ fn without_rung(alloc: Global, text: &str, fault: TextFault) -> Result<Option<St
         return Ok(None);
     }
     let rail = rail_of(&rows, part);
-    let rung = rung_of(&rows, part, row, rail);
-    Ok(Some(without_part(alloc, &rows, rung, rail)?))
+    Ok(Some(Rung {
+        rows: rung_of(&rows, part, row, rail),
+        rail,
+    }))
+}
+
+/// The text, its rung emptied.
+fn without_rung(alloc: Global, text: &str, rung: Rung) -> Result<String, AllocError>
+    ensures { IfOk result (λ rest. IsEmptiedFrom text.now (string_bytes rest)) }
+{
+    let rows = rows_of(alloc, text)?;
+    let count = rung.rows.end.saturating_sub(rung.rows.first);
+    without_rows(alloc, &rows, rung.rows.first, count, rung.rail)
+}
+
+/// What is left of a text without the rung in which a fault stands. `None`: there is none.
+fn rest_of(alloc: Global, text: &str, fault: TextFault) -> Result<Option<String>, AllocError>
+    ensures { IfOk result (λ left. IfSome left (λ rest. IsEmptiedFrom text.now (string_bytes rest))) }
+{
+    match rung_around(alloc, text, fault)? {
+        Some(rung) => Ok(Some(without_rung(alloc, text, rung)?)),
+        None => Ok(None),
+    }
+}
+
+/// The first fault of a drawing. `None`: it has none, or there is no memory left.
+fn fault_of_drawing(alloc: Global, text: &str) -> Option<TextFault>
+    ensures { IfSome result (RefusesDrawing text.now) }
+{
+    match read_ladder(alloc, text) {
+        Err(TextCommandFault::Text(fault)) => Some(fault),
+        _ => None,
+    }
+}
+
+/// The first fault of a plant. `None`: it has none, or there is no memory left.
+fn fault_of_plant(alloc: Global, text: &str) -> Option<TextFault>
+    ensures { IfSome result (RefusesPlantText text.now) }
+{
+    match read_plant(alloc, text) {
+        Err(TextCommandFault::Text(fault)) => Some(fault),
+        _ => None,
+    }
 }
 
 /// The first fault of a text, which is that of a plant or of a drawing. `None`: it has none, or there is no memory left.
-fn first_fault(alloc: Global, text: &str, is_plant: bool) -> Option<TextFault> {
+fn first_fault(alloc: Global, text: &str, is_plant: bool) -> Option<TextFault>
+    ensures { IfSome result (Refuses text.now) }
+{
     if is_plant {
-        match read_plant(alloc, text) {
-            Err(TextCommandFault::Text(fault)) => Some(fault),
-            _ => None,
-        }
+        fault_of_plant(alloc, text)
     } else {
-        match read_ladder(alloc, text) {
-            Err(TextCommandFault::Text(fault)) => Some(fault),
-            _ => None,
-        }
+        fault_of_drawing(alloc, text)
     }
 }
 
@@ -133,31 +182,50 @@ fn is_doubtful(alloc: Global, text: &str, fault: TextFault) -> Result<bool, Allo
     }
 }
 
+/// Notes the first fault of what is left of a text; what is then left of it. `None`: no further fault is sought.
+fn add_fault(
+    alloc: Global,
+    whole: &str,
+    rest: &str,
+    is_plant: bool,
+    faults: &mut Vec<TextFault>,
+) -> Result<Option<String>, AllocError>
+    requires { IsLeftOf whole.now rest.now }
+    ensures every { OnOk result (All (IsFurtherIn whole.now) faults.old.items → All (IsFurtherIn whole.now) faults.new.items) }
+    ensures few { OnOk result (length faults.new.items ≤ length faults.old.items + 1) }
+    ensures left { IfOk result (λ left. IfSome left (λ more. IsLeftOf whole.now (string_bytes more))) }
+{
+    let Some(fault) = first_fault(alloc, rest, is_plant) else {
+        return Ok(None);
+    };
+    if !stands(alloc, rest, fault)? {
+        return Ok(None);
+    }
+    if !is_doubtful(alloc, whole, fault)? {
+        faults.push(fault)?;
+    }
+    rest_of(alloc, rest, fault)
+}
+
 /// The faults behind the first, nine at most. Each time the rung of the fault before is emptied, as comments are, and the
 /// text is read again; it ends where the text is lawful, or with a fault of a plant's word.
 pub fn further_faults(
     alloc: Global,
     text: &str,
     first: TextFault,
-) -> Result<Vec<TextFault>, AllocError> {
+) -> Result<Vec<TextFault>, AllocError>
+    ensures every { IfOk result (λ faults. All (IsFurther text.now) faults.items) }
+    ensures few { IfOk result (λ faults. length faults.items ≤ 9) }
+{
     let is_plant = matches!(first, TextFault::Plant(_));
     let whole = without_comments(alloc, text)?;
     let mut faults = Vec::new(alloc);
-    let mut rest = without_rung(alloc, whole.as_str(), first)?;
+    let mut rest = rest_of(alloc, whole.as_str(), first)?;
     for _round in 0..MOST {
-        let Some(read) = &rest else {
+        let Some(read) = rest else {
             return Ok(faults);
         };
-        let Some(fault) = first_fault(alloc, read.as_str(), is_plant) else {
-            return Ok(faults);
-        };
-        if !stands(alloc, read.as_str(), fault)? {
-            return Ok(faults);
-        }
-        if !is_doubtful(alloc, whole.as_str(), fault)? {
-            faults.push(fault)?;
-        }
-        rest = without_rung(alloc, read.as_str(), fault)?;
+        rest = add_fault(alloc, whole.as_str(), read.as_str(), is_plant, &mut faults)?;
     }
     Ok(faults)
 }

@@ -38,7 +38,7 @@ fn told_of_break(
     let mut told = format!(in alloc; "Line {line}, column {column}:\n")?;
     told.push_str(marked_column(alloc, text, line, column)?.as_str())?;
     told.push_str(broken.kind.text())?;
-    told.push_str(".\n")?;
+    told.push_str("\n")?;
     Ok(Some(told))
 }
 
@@ -125,11 +125,7 @@ impl<'a> Refused<'a> {
 }
 
 /// What is told of the place of a fault.
-fn told_of(
-    alloc: Global,
-    text: &str,
-    fault: TextFault,
-) -> Result<Option<String>, AllocError> {
+fn told_of(alloc: Global, text: &str, fault: TextFault) -> Result<Option<String>, AllocError> {
     let rows = rows_of(alloc, text)?;
     let part = drawing_around(alloc, text, &rows, fault)?;
     let refused = Refused {

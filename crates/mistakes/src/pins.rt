@@ -1,6 +1,6 @@
 //! The pins of a box's type.
 
-use crate::block_names::{Top, between, top_at, word_between};
+use crate::block_names::{Top, between, has_sides, top_at, word_between};
 use crate::rows::{row_at, sign_at};
 use crate::rung::Part;
 use std::alloc::{AllocError, Global};
@@ -47,11 +47,21 @@ fn top_with(row: &str, column: usize) -> Option<Top> {
     None
 }
 
+/// The type of the box of which a row has both sides, one of them in a column, and that begins in a row above.
+fn block_from(rows: &[&str], above: usize, row: usize, column: usize) -> Option<BlockType> {
+    let top = top_with(row_at(rows, above), column)?;
+    if has_sides(row_at(rows, row), top) {
+        block_type(word_between(row_at(rows, above.saturating_add(1)), top)?)
+    } else {
+        None
+    }
+}
+
 /// The type of the box of which a side stands at a place.
 fn block_beside(rows: &[&str], part: Part, row: usize, column: usize) -> Option<BlockType> {
     for above in (part.first..row).rev() {
-        if let Some(top) = top_with(row_at(rows, above), column) {
-            return block_type(word_between(row_at(rows, above.saturating_add(1)), top)?);
+        if let Some(block) = block_from(rows, above, row, column) {
+            return Some(block);
         }
     }
     None

@@ -7,8 +7,10 @@ use plant::{Plant, PlantFault, PlantFaultKind};
 use std::alloc::{AllocError, Global};
 use std::fmt::Write;
 
-/// Longer texts aren't read again and again.
+/// Longer texts aren't read again for each word of a line.
 const LONGEST: usize = 65_536;
+/// Nor are they for longer lines.
+const WIDEST: usize = 500;
 
 /// A word that is tried, and how it is told.
 #[derive(Clone, Copy)]
@@ -50,11 +52,26 @@ const NEXT: [Next; 31] = [
     fixed("BOOL"),
     fixed("INT"),
     fixed("TIME"),
-    Next { word: "TON", told: "a block type" },
-    Next { word: "Q_Q9", told: "a name" },
-    Next { word: "7", told: "a number" },
-    Next { word: "T#7s", told: "a duration" },
-    Next { word: "%IX7", told: "an address" },
+    Next {
+        word: "TON",
+        told: "a block type",
+    },
+    Next {
+        word: "Q_Q9",
+        told: "a name",
+    },
+    Next {
+        word: "7",
+        told: "a number",
+    },
+    Next {
+        word: "T#7s",
+        told: "a duration",
+    },
+    Next {
+        word: "%IX7",
+        told: "an address",
+    },
 ];
 
 /// A word of a text: from this byte up to that one, and its column from 1.
@@ -73,7 +90,11 @@ fn is_in_word(sign: u8) -> bool {
 fn word_length(text: &[u8]) -> usize {
     match text {
         [b':', b'=', ..] => 2,
-        _ => text.iter().take_while(|sign| is_in_word(**sign)).count().max(1),
+        _ => text
+            .iter()
+            .take_while(|sign| is_in_word(**sign))
+            .count()
+            .max(1),
     }
 }
 
@@ -107,8 +128,8 @@ fn is_refused(alloc: Global, text: &[u8], next: &str, line: u64) -> Result<bool,
 
 /// Whether this word can't stand behind a text, on this line.
 fn is_misplaced(alloc: Global, text: &[u8], next: &str, line: u64) -> Result<bool, AllocError> {
-    Ok(fault_of(alloc, text, next)?
-        .is_some_and(|fault| fault.line == line && fault.kind == PlantFaultKind::Syntax))
+    Ok(fault_of(alloc, text, next)?.is_some_and(|fault| fault.line == line
+        && fault.kind == PlantFaultKind::Syntax))
 }
 
 /// The first word of a line up to which the text is refused there.
@@ -185,23 +206,27 @@ pub fn told_of_place(
     text: &str,
     fault: PlantFault,
 ) -> Result<Option<String>, AllocError> {
-    if LONGEST < text.len() {
-        return Ok(None);
-    }
     let rows = rows_of(alloc, text)?;
     let row = row_of(fault.line);
+    let line = row_at(&rows, row);
+    if LONGEST < text.len() || WIDEST < line.len() {
+        return Ok(None);
+    }
     let start = start_of(&rows, row);
-    let Some(found) = find_word(alloc, text, row_at(&rows, row), start, fault.line)? else {
+    let Some(found) = find_word(alloc, text, line, start, fault.line)? else {
         return Ok(None);
     };
     let column = found.column;
     let mut told = format!(in alloc; "Column {column}, at ")?;
-    push_word(&mut told, text.as_bytes().get(found.first..found.end).unwrap_or(b""))?;
+    push_word(
+        &mut told,
+        text.as_bytes().get(found.first..found.end).unwrap_or(b""),
+    )?;
     if fault.kind == PlantFaultKind::Syntax {
         let before = text.as_bytes().get(..found.first).unwrap_or(b"");
         told.push_str(": expected ")?;
         push_choice(&mut told, &nexts(alloc, before, fault.line, &NEXT)?)?;
     }
-    told.push_str(".\n")?;
+    told.push_str("\n")?;
     Ok(Some(told))
 }

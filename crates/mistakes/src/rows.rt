@@ -1,12 +1,14 @@
 //! Rows of a text, and the signs in them, both counted from 0.
 
-ghost use Rattle.std.specs.Prelude.{◌≡◌};
-ghost use Rattle.mistakes.specs.Rows.{sign_at};
+ghost use Rattle.std.specs.Prelude.{◌≡◌, map, IfOk};
+ghost use Rattle.mistakes.specs.Rows.{rows_of, sign_at};
 
 use std::alloc::{AllocError, Global};
 
 /// The rows of a text.
-pub fn rows_of<'a>(alloc: Global, text: &'a str) -> Result<Vec<&'a str>, AllocError> {
+pub fn rows_of<'a>(alloc: Global, text: &'a str) -> Result<Vec<&'a str>, AllocError>
+    ensures { IfOk result (λ rows. map (λ row. row.now) rows.items ≡ rows_of text.now) }
+{
     let mut rows = Vec::new(alloc);
     for row in text.split('\n') {
         rows.push(row)?;

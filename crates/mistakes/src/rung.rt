@@ -1,7 +1,7 @@
 //! Which rows of a drawing belong together.
 
 use crate::comment_sign::comment_sign;
-use crate::rows::{leftmost, row_at, sign_at};
+use crate::rows::{is_drawn, leftmost, row_at, sign_at};
 use words::is_word_char;
 
 /// Rows of a text, from the first up to the end, which isn't one of them.
@@ -29,23 +29,52 @@ fn is_in_a_symbol(row: &str, column: usize) -> bool {
     (left == b'|' && right == b'|') || (left == b'(' && right == b')')
 }
 
-/// Whether what stands in a column of a row goes with what stands in the row below: an upright, the side of a box, or a
-/// word above a symbol.
-fn is_tied_in(above: &str, below: &str, column: usize) -> bool {
+/// Whether a `|` or `+` stands in a column of a row right of the rail.
+fn has_line(row: &str, column: usize, rail: usize) -> bool {
+    rail < column && is_line(sign_at(row, column))
+}
+
+/// Whether a `|` or `+` stands in a column of a row or beside it, right of the rail.
+fn has_line_near(row: &str, column: usize, rail: usize) -> bool {
+    has_line(row, column.saturating_sub(1), rail)
+        || has_line(row, column, rail)
+        || has_line(row, column.saturating_add(1), rail)
+}
+
+/// Whether what stands in a column of a row goes with what stands in the row below: an upright or the side of a box, if
+/// need be one column off, or a word above a symbol.
+fn is_tied_in(above: &str, below: &str, column: usize, rail: usize) -> bool {
     let sign = sign_at(above, column);
     if is_line(sign) {
-        is_line(sign_at(below, column))
+        has_line_near(below, column, rail)
     } else {
         is_word_char(sign) && !is_in_a_symbol(above, column) && is_drawn_near(below, column)
     }
 }
 
+/// Whether a row has signs by whose bytes its columns can't be counted.
+fn is_odd(row: &str) -> bool {
+    row.trim_end()
+        .as_bytes()
+        .iter()
+        .any(|sign| *sign < b' ' || b'~' < *sign)
+}
+
+/// Whether two rows that are no comments, of which one stands right below the other, belong together.
+fn are_joined(above: &str, below: &str, rail: usize) -> bool {
+    let first = rail.saturating_add(1);
+    is_odd(above)
+        || is_odd(below)
+        || (first..above.len()).any(|column| is_tied_in(above, below, column, rail))
+}
+
 /// Whether two rows, of which one stands right below the other, belong together. The rail doesn't join them.
 fn are_tied(above: &str, below: &str, rail: usize) -> bool {
-    let first = rail.saturating_add(1);
-    comment_sign(above).is_none()
+    is_drawn(above)
+        && is_drawn(below)
+        && comment_sign(above).is_none()
         && comment_sign(below).is_none()
-        && (first..above.len()).any(|column| is_tied_in(above, below, column))
+        && are_joined(above, below, rail)
 }
 
 /// The topmost of the rows that belong together with one.

@@ -1,9 +1,12 @@
 //! Durations, numbers, addresses and names that are written as elsewhere.
 
+ghost use Rattle.std.specs.Prelude.{IfSome, IsFalse};
+ghost use Rattle.words.specs.Chars.{is_operand};
+
 use crate::block_names::push_word;
 use crate::rows::is_among;
 use std::alloc::{AllocError, Global};
-use words::{is_duration, is_number};
+use words::{is_number, is_operand};
 
 /// In which way a word is none.
 #[derive(Clone, Copy, Debug, PartialEq, Eq)]
@@ -101,11 +104,9 @@ fn is_address(word: &[u8]) -> bool {
     }
 }
 
-/// In which way a word that begins with a digit or has a # is written wrong. `None`: it isn't.
+/// In which way a word that begins with a digit or has a # is written wrong. `None`: in none of these.
 fn wrong_number(word: &[u8]) -> Option<WrongForm> {
-    if is_duration(word) || is_number(word) {
-        None
-    } else if is_begun_duration(word) || is_bare_duration(word) {
+    if is_begun_duration(word) || is_bare_duration(word) {
         Some(WrongForm::Duration)
     } else if 0 < digits(word) && (word.contains(&b'#') || word.contains(&b'.')) {
         Some(WrongForm::Number)
@@ -118,15 +119,27 @@ fn wrong_number(word: &[u8]) -> Option<WrongForm> {
     }
 }
 
-/// In which way a word is written wrong. `None`: in none of these.
-fn wrong_form(word: &[u8], is_address_allowed: bool) -> Option<WrongForm> {
+/// In which way a word that is no operand is written wrong. `None`: in none of these.
+fn wrong_word(word: &[u8]) -> Option<WrongForm> {
     match word {
         [b'"' | b'\'', ..] => Some(WrongForm::Quotes),
-        [b'%', ..] if is_address_allowed && is_address(word) => None,
         [b'%', ..] => Some(WrongForm::Address),
         _ if is_dashed(word) => Some(WrongForm::Dash),
         _ => wrong_number(word),
     }
+}
+
+/// In which way a word is written wrong. `None`: in none of these, as each name, number and duration.
+fn wrong_form(word: &[u8], is_address_allowed: bool) -> Option<WrongForm>
+    ensures { IfSome result (λ form. IsFalse (is_operand word.now)) }
+{
+    if is_operand(word) {
+        return None;
+    }
+    if is_address_allowed && is_address(word) {
+        return None;
+    }
+    wrong_word(word)
 }
 
 /// Whether a sign stands between words.
@@ -162,7 +175,12 @@ struct Wrong<'a> {
 }
 
 /// The word from one column up to another one, where it is written wrong.
-fn wrong_from<'a>(row: &'a [u8], first: usize, end: usize, is_address_allowed: bool) -> Option<Wrong<'a>> {
+fn wrong_from<'a>(
+    row: &'a [u8],
+    first: usize,
+    end: usize,
+    is_address_allowed: bool,
+) -> Option<Wrong<'a>> {
     let word = without_dashes(row.get(first..end).unwrap_or(b""));
     let form = wrong_form(word, is_address_allowed)?;
     Some(Wrong { word, form })
