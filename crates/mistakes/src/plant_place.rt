@@ -12,63 +12,62 @@ const LONGEST: usize = 65_536;
 /// Nor are they for longer lines.
 const WIDEST: usize = 500;
 
-/// A word that is tried, and how it is told.
+/// The marks and keywords of a plant outside bodies, which are told as they are.
+const FIXED: [&str; 26] = [
+    ";",
+    ":",
+    ",",
+    ".",
+    ":=",
+    "(",
+    ")",
+    "VAR_INPUT",
+    "VAR_OUTPUT",
+    "VAR",
+    "RETAIN",
+    "END_VAR",
+    "PROGRAM",
+    "END_PROGRAM",
+    "CONFIGURATION",
+    "END_CONFIGURATION",
+    "RESOURCE",
+    "END_RESOURCE",
+    "ON",
+    "TASK",
+    "WITH",
+    "INTERVAL",
+    "PRIORITY",
+    "BOOL",
+    "INT",
+    "TIME",
+];
+
+/// A word for all of its kind, and how these are told.
 #[derive(Clone, Copy)]
-struct Next {
+struct Example {
     word: &'static str,
     told: &'static str,
 }
 
-/// A word that is told as it is.
-const fn fixed(word: &'static str) -> Next {
-    Next { word, told: word }
-}
-
-/// What may stand in a plant outside bodies.
-const NEXT: [Next; 31] = [
-    fixed(";"),
-    fixed(":"),
-    fixed(","),
-    fixed("."),
-    fixed(":="),
-    fixed("("),
-    fixed(")"),
-    fixed("VAR_INPUT"),
-    fixed("VAR_OUTPUT"),
-    fixed("VAR"),
-    fixed("RETAIN"),
-    fixed("END_VAR"),
-    fixed("PROGRAM"),
-    fixed("END_PROGRAM"),
-    fixed("CONFIGURATION"),
-    fixed("END_CONFIGURATION"),
-    fixed("RESOURCE"),
-    fixed("END_RESOURCE"),
-    fixed("ON"),
-    fixed("TASK"),
-    fixed("WITH"),
-    fixed("INTERVAL"),
-    fixed("PRIORITY"),
-    fixed("BOOL"),
-    fixed("INT"),
-    fixed("TIME"),
-    Next {
+/// The other words of a plant.
+const EXAMPLES: [Example; 5] = [
+    Example {
         word: "TON",
         told: "a block type",
     },
-    Next {
+    Example {
         word: "Q_Q9",
         told: "a name",
     },
-    Next {
+    Example {
         word: "7",
         told: "a number",
     },
-    Next {
+    Example {
         word: "T#7s",
         told: "a duration",
     },
-    Next {
+    Example {
         word: "%IX7",
         told: "an address",
     },
@@ -172,19 +171,43 @@ fn start_of(rows: &[&str], row: usize) -> usize {
     start
 }
 
-/// The words that could stand behind a text on this line.
-fn nexts(
+/// Adds those of some words that could stand behind a text on this line.
+fn add_fixed<'a>(
     alloc: Global,
+    told: &mut Vec<&'a str>,
     text: &[u8],
     line: u64,
-    tries: &[Next],
-) -> Result<Vec<&'static str>, AllocError> {
-    let mut told = Vec::new(alloc);
-    for next in tries {
-        if !is_misplaced(alloc, text, next.word, line)? {
-            told.push(next.told)?;
+    words: &[&'a str],
+) -> Result<(), AllocError> {
+    for word in words {
+        if !is_misplaced(alloc, text, word, line)? {
+            told.push(*word)?;
         }
     }
+    Ok(())
+}
+
+/// Adds how those kinds of words are told that could stand behind a text on this line.
+fn add_examples<'a>(
+    alloc: Global,
+    told: &mut Vec<&'a str>,
+    text: &[u8],
+    line: u64,
+    examples: &[Example],
+) -> Result<(), AllocError> {
+    for example in examples {
+        if !is_misplaced(alloc, text, example.word, line)? {
+            told.push(example.told)?;
+        }
+    }
+    Ok(())
+}
+
+/// The words that could stand behind a text on this line.
+fn nexts(alloc: Global, text: &[u8], line: u64) -> Result<Vec<&'static str>, AllocError> {
+    let mut told = Vec::new(alloc);
+    add_fixed(alloc, &mut told, text, line, &FIXED)?;
+    add_examples(alloc, &mut told, text, line, &EXAMPLES)?;
     Ok(told)
 }
 
@@ -225,7 +248,7 @@ pub fn told_of_place(
     if fault.kind == PlantFaultKind::Syntax {
         let before = text.as_bytes().get(..found.first).unwrap_or(b"");
         told.push_str(": expected ")?;
-        push_choice(&mut told, &nexts(alloc, before, fault.line, &NEXT)?)?;
+        push_choice(&mut told, &nexts(alloc, before, fault.line)?)?;
     }
     told.push_str("\n")?;
     Ok(Some(told))
