@@ -31,11 +31,12 @@
     });
     const boxes = all(picture, ".box").map((it) => [Number(it.dataset.row), Number(it.dataset.column), it.dataset.name]);
     const pins = all(picture, ".pin").map((it) => [Number(it.closest(".row").dataset.row), Math.round(it.getAttribute("x") / 10), it.textContent]);
+    const comments = all(picture, ".row > .comment").map((it) => [Number(it.parentNode.dataset.row), Math.round(it.getAttribute("x") / 10), it.textContent]);
     const thin = all(picture, ".wire:not(.live)").some((it) => parseFloat(getComputedStyle(it).strokeWidth) > 2);
     if (thin) wrong.push("a line without power is thick");
     const worths = all(picture, ".worth").map((it) => [it.previousSibling.textContent, it.textContent]);
     const on = all(picture, ".row > .word.on").map((it) => [Number(it.parentNode.dataset.row), Math.round(it.getAttribute("x") / 10)]);
-    return { live, words, symbols, boxes, pins, worths, on, wrong };
+    return { live, words, symbols, boxes, pins, comments, worths, on, wrong };
   }
 
   function timing(node) {

@@ -2,10 +2,11 @@
 import re
 
 from rules.drawing import Drawing
+from rules.lines import is_comment
 
-MARKS = {"RESTART": "restart", "REFUSED": "refused", "FAULT": "fault", "UNANSWERED": "unanswered", "UNSHOWN": "unshown", "NOJOURNAL": "unshown"}
+MARKS = {"RESTART": "restart", "REFUSED": "refused", "FAULT": "fault", "UNANSWERED": "unanswered", "UNSHOWN": "unshown", "NOJOURNAL": "unshown", "OVERRUN": "overrun", "FIELD": "ended"}
 # The word of a line that names its lane.
-PLACES = {"EVAL": 2, "DELIVER": 2, "RESTART": 1, "START": 1, "HEAR": 1, "FAULT": 1}
+PLACES = {"EVAL": 2, "DELIVER": 2, "RESTART": 1, "START": 1, "HEAR": 1, "FAULT": 1, "OVERRUN": 1}
 
 
 # Ladders.
@@ -16,18 +17,20 @@ def ladder_rows(text):
 
 
 def ladder_of(rows):
-    drawing = Drawing(rows)
+    drawing = Drawing(["" if is_comment(row) else row for row in rows])
+    drawing.comments = [(k, len(row) - len(row.lstrip()), row.strip()) for k, row in enumerate(rows) if is_comment(row)]
     drawing.mark_places()
     return drawing
 
 
 def ladder_differences(drawing, drawn):
-    """Symbols, boxes, pins and words: each stands where it is drawn in the text, whole, and none else."""
+    """Symbols, boxes, pins, words and comments: each stands where it is drawn in the text, whole, and none else."""
     symbols = sorted((it.row - 1, it.column - 1, it.is_coil, it.sign, it.name) for it in drawing.symbols)
     boxes = sorted((it.top - 1, it.left - 1, it.name) for it in drawing.boxes)
     pins = sorted((pin.row - 1, pin.name) for box in drawing.boxes for pin in box.pins)
     words = sorted((it.row - 1, it.column - 1, it.text) for it in drawing.words)
     yield from differs("symbols", symbols, sorted(tuple(it[:5]) for it in drawn["symbols"]))
+    yield from differs("comments", drawing.comments, list(map(tuple, drawn["comments"])))
     yield from differs("boxes", boxes, sorted(map(tuple, drawn["boxes"])))
     yield from differs("pins", pins, sorted((row, name) for row, _, name in drawn["pins"]))
     yield from differs("words", words, sorted(map(tuple, drawn["words"])))
@@ -271,7 +274,7 @@ def label_differences(lines, at):
             wanted = [f"{words[1]} {words[2]} {words[3]}"]
         elif words[0] in ("RESTART", "START"):
             wanted = [words[0].lower(), words[2]]
-        elif words[0] in ("REFUSED", "UNANSWERED", "UNSHOWN", "NOJOURNAL", "REPLAY"):
+        elif words[0] in ("REFUSED", "UNANSWERED", "UNSHOWN", "NOJOURNAL", "REPLAY", "OVERRUN", "FIELD", "INPUT"):
             wanted = [line]
         elif words[0] == "FAULT":
             wanted = [words[2], words[3]]

@@ -16,7 +16,7 @@ use Rattle.keepers.specs.declared.bad_line.BadLine.{BadLine}
 use Rattle.keepers.specs.declared.keeper_fault.KeeperFault.{KeeperFault}
 use Rattle.keepers.specs.declared.keeper_fault.KeeperFault.TheVariants as fault
 use Rattle.keepers.specs.BadLines.{IsBadAt, IsBadLineOf, IsBadLineFault}
-use Rattle.keepers.specs.KnownFiles.{KnownFile, IsRead}
+use Rattle.keepers.specs.KnownFiles.{KnownFile, Reading, IsRead}
 use Rattle.keepers.specs.KnownFiles.KnownFile.{Unknown, Missing, Holding, Broken}
 use Rattle.keepers.specs.KeptRetained.{line_text, retained_text, BeginsWith, Differs, DepartsAt}
 use Rattle.keepers.specs.Steps.Raising.{IsReadOf}
@@ -98,15 +98,16 @@ bad_some (Holding held) code most place bytes bad longer read departs at = (plac
 bad_some Broken code most place bytes bad longer read departs at = absurd read
 
 -- or that the file can't be read
-bad_failed : (file : KnownFile) (most : ℕ) (e : KeeperFault) → IsReadOf file most (Err e) → IsBadLineFault file e
-bad_failed Unknown most fault.Unreadable read = tt
-bad_failed Missing most fault.Unreadable read = absurd read
-bad_failed (Holding held) most fault.Unreadable read = absurd read
-bad_failed Broken most fault.Unreadable read = tt
-bad_failed file most fault.Unwritable read = absurd read
-bad_failed file most fault.Spent read = absurd read
-bad_failed file most fault.Memory read = tt
+bad_failed : (answers : Reading) (file : KnownFile) (name : List ℕ) (most : ℕ) (e : KeeperFault) → IsReadOf answers file name most (Err e) → IsBadLineFault file e
+bad_failed answers Unknown name most fault.Unreadable read = tt
+bad_failed answers Missing name most fault.Unreadable read = absurd read.0
+bad_failed answers (Holding held) name most fault.Unreadable read = absurd read.0
+bad_failed answers Broken name most fault.Unreadable read = tt
+bad_failed answers file name most fault.Unwritable read = absurd read
+bad_failed answers file name most fault.Spent read = absurd read
+bad_failed answers file name most fault.Memory read = tt
 
-pub bad_fault : {T : Type 0} (file : KnownFile) (most : ℕ) (e : KeeperFault) (r : Result T KeeperFault) → IsErrAnd r (λ f. f ≡ e) → IsReadOf file most (Err e) → IfErr r (IsBadLineFault file)
-bad_fault file most e (Ok found) is read = tt
-bad_fault file most e (Err f) is read = subst (IsBadLineFault file) (sym is) (bad_failed file most e read)
+pub bad_fault : {T : Type 0} (answers : Reading) (file : KnownFile) (name : List ℕ) (most : ℕ) (e : KeeperFault) (r : Result T KeeperFault) → IsErrAnd r (λ f. f ≡ e) → IsReadOf answers file name most (Err e)
+    → IfErr r (IsBadLineFault file)
+bad_fault answers file name most e (Ok found) is read = tt
+bad_fault answers file name most e (Err f) is read = subst (IsBadLineFault file) (sym is) (bad_failed answers file name most e read)

@@ -1,5 +1,5 @@
 -- Which number a file keeps.
-use Rattle.std.proofs.Common.{arith, ◌≡◌, ℕ, ◌<◌, ◌^◌, Option, Some, None, Result, Ok, Err, sym, subst, ◌∙◌}
+use Rattle.std.proofs.Common.{arith, ◌≡◌, ℕ, ◌<◌, ◌^◌, List, Option, Some, None, Result, Ok, Err, sym, subst, ◌∙◌}
 use Rattle.std.specs.Prelude.{MatchOption, IsErrAnd}
 use Rattle.std.specs.Global.{Vec}
 use Rattle.std.specs.Option.{ok_or}
@@ -7,7 +7,7 @@ use Rattle.std.proofs.lemmas.Option.{none-some}
 use Rattle.keepers.specs.declared.keeper_fault.KeeperFault.{KeeperFault}
 use Rattle.keepers.specs.declared.keeper_fault.KeeperFault.TheVariants.{Unreadable, Unwritable, Spent, Memory}
 use Rattle.keepers.specs.declared.folder_fault.FolderFault.TheVariants.{Failed}
-use Rattle.keepers.specs.KnownFiles.{KnownFile, IsRead}
+use Rattle.keepers.specs.KnownFiles.{KnownFile, Reading, IsRead}
 use Rattle.keepers.specs.KnownFiles.KnownFile.{Unknown, Missing, Holding, Broken}
 use Rattle.keepers.specs.KeptNumbers.{KeepsNumber, KeepsNoneFrom, number_text}
 use Rattle.keepers.specs.Steps.Raising.{IsFound, IsReadOf}
@@ -51,12 +51,12 @@ none_failed Missing read = absurd read
 none_failed (Holding held) read = absurd read
 none_failed Broken read = tt
 
-fault_found : (file : KnownFile) (e : KeeperFault) → IsReadOf file 12 (Err e) → IsFound file (Err e)
-fault_found file Unreadable read = none_failed file read
-fault_found file Unwritable read = absurd read
-fault_found file Spent read = absurd read
-fault_found file Memory read = tt
+fault_found : (answers : Reading) (file : KnownFile) (name : List ℕ) (e : KeeperFault) → IsReadOf answers file name 12 (Err e) → IsFound file (Err e)
+fault_found answers file name Unreadable read = none_failed file read.0
+fault_found answers file name Unwritable read = absurd read
+fault_found answers file name Spent read = absurd read
+fault_found answers file name Memory read = tt
 
-pub found_failed : (file : KnownFile) (e : KeeperFault) (r : Result ℕ KeeperFault) → IsErrAnd r (λ f. f ≡ e) → IsReadOf file 12 (Err e) → IsFound file r
-found_failed file e (Ok n) is read = absurd is
-found_failed file e (Err f) is read = subst (λ (g : KeeperFault). IsFound file (Err g)) (sym is) (fault_found file e read)
+pub found_failed : (answers : Reading) (file : KnownFile) (name : List ℕ) (e : KeeperFault) (r : Result ℕ KeeperFault) → IsErrAnd r (λ f. f ≡ e) → IsReadOf answers file name 12 (Err e) → IsFound file r
+found_failed answers file name e (Ok n) is read = absurd is
+found_failed answers file name e (Err f) is read = subst (λ (g : KeeperFault). IsFound file (Err g)) (sym is) (fault_found answers file name e read)

@@ -10,7 +10,7 @@ use Rattle.task_codes.specs.CodeValue.{CodeValue}
 use Rattle.evaluation.specs.Retained.{Suits}
 use Rattle.text_lines.specs.ReadParts.{IsInRange}
 use Rattle.keepers.specs.declared.folder_fault.FolderFault.TheVariants.{Failed}
-use Rattle.keepers.specs.KnownFiles.{KnownFile, IsRead}
+use Rattle.keepers.specs.KnownFiles.{KnownFile, Reading, IsRead}
 use Rattle.keepers.specs.KnownFiles.KnownFile.{Unknown, Missing, Holding, Broken}
 use Rattle.keepers.specs.KeptRetained.{KeepsValues, KeepsNoValues, IsToldOf, retained_text, DepartsAt}
 use Rattle.keepers.specs.Steps.Reading.{IsLonger}
@@ -58,12 +58,13 @@ keeps_none_failed (Holding held) code most read = absurd read
 keeps_none_failed Broken code most read = tt
 
 -- what a fault in reading a file tells
-told_fault : (file : KnownFile) (code : CodeValue) (most : ℕ) (e : KeeperFault) → IsReadOf file most (Err e) → IsToldOf file code (Err e)
-told_fault file code most fault.Unreadable read = keeps_none_failed file code most read
-told_fault file code most fault.Unwritable read = absurd read
-told_fault file code most fault.Spent read = absurd read
-told_fault file code most fault.Memory read = tt
+told_fault : (answers : Reading) (file : KnownFile) (name : List ℕ) (code : CodeValue) (most : ℕ) (e : KeeperFault) → IsReadOf answers file name most (Err e) → IsToldOf file code (Err e)
+told_fault answers file name code most fault.Unreadable read = keeps_none_failed file code most read.0
+told_fault answers file name code most fault.Unwritable read = absurd read
+told_fault answers file name code most fault.Spent read = absurd read
+told_fault answers file name code most fault.Memory read = tt
 
-pub told_failed : (file : KnownFile) (code : CodeValue) (most : ℕ) (e : KeeperFault) (r : Result (List Value) KeeperFault) → IsErrAnd r (λ f. f ≡ e) → IsReadOf file most (Err e) → IsToldOf file code r
-told_failed file code most e (Ok values) is read = absurd is
-told_failed file code most e (Err f) is read = subst (λ (g : KeeperFault). IsToldOf file code (Err g)) (sym is) (told_fault file code most e read)
+pub told_failed : (answers : Reading) (file : KnownFile) (name : List ℕ) (code : CodeValue) (most : ℕ) (e : KeeperFault) (r : Result (List Value) KeeperFault) → IsErrAnd r (λ f. f ≡ e) → IsReadOf answers file name most (Err e)
+    → IsToldOf file code r
+told_failed answers file name code most e (Ok values) is read = absurd is
+told_failed answers file name code most e (Err f) is read = subst (λ (g : KeeperFault). IsToldOf file code (Err g)) (sym is) (told_fault answers file name code most e read)

@@ -1,3 +1,4 @@
+pub mod Answered
 pub mod Departing
 pub mod Keeping
 pub mod KeptFiles

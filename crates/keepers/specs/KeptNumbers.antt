@@ -5,7 +5,7 @@ use Rattle.keepers.specs.declared.keeper_fault.KeeperFault.{KeeperFault}
 use Rattle.keepers.specs.declared.keeper_fault.KeeperFault.TheVariants as fault
 use Rattle.keepers.specs.declared.folder_fault.FolderFault.{FolderFault}
 use Rattle.keepers.specs.declared.folder_fault.FolderFault.TheVariants as folder
-use Rattle.keepers.specs.KnownFiles.{KnownFile, Replacing, IsReplaced, IsRefused}
+use Rattle.keepers.specs.KnownFiles.{KnownFile, Reading, Replacing, MayFail, IsReplaced, IsRefused}
 use Rattle.keepers.specs.KnownFiles.KnownFile.{Unknown, Missing, Holding, Broken}
 
 -- the name of a resource's file
@@ -72,11 +72,12 @@ IsRaisedIn answers old new resource last (Err fault.Memory) =
 -- What a raise may answer, by the file and what the folder may answer alone: the number after the one that it keeps; or why
 -- there is none, in this order, where Unwritable is told only if there is one, and the folder may answer that it can't
 -- keep it.
-abbrev pub MayAnswer : Replacing → KnownFile → List ℕ → ℕ → Result ℕ KeeperFault → Type 0
-MayAnswer answers file resource last (Ok i) = (n : ℕ) × IsRaisable file last n × (i ≡ n + 1)
-MayAnswer answers file resource last (Err fault.Unreadable) = KeepsNoneFrom file last
-MayAnswer answers file resource last (Err fault.Spent) = KeepsNumber file 4294967295
-MayAnswer answers file resource last (Err fault.Unwritable) =
+abbrev pub MayAnswer : Reading → Replacing → KnownFile → List ℕ → ℕ → Result ℕ KeeperFault → Type 0
+MayAnswer reads answers file resource last (Ok i) = (n : ℕ) × IsRaisable file last n × (i ≡ n + 1)
+MayAnswer reads answers file resource last (Err fault.Unreadable) =
+    KeepsNoneFrom file last × MayFail reads (number_file resource) file
+MayAnswer reads answers file resource last (Err fault.Spent) = KeepsNumber file 4294967295
+MayAnswer reads answers file resource last (Err fault.Unwritable) =
     (n : ℕ) × IsRaisable file last n
     × answers (number_file resource) (temporary_file resource) (number_text (n + 1)) (Err folder.Failed)
-MayAnswer answers file resource last (Err fault.Memory) = Unit {0}
+MayAnswer reads answers file resource last (Err fault.Memory) = Unit {0}

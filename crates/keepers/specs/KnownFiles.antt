@@ -25,6 +25,24 @@ IsRead Missing most (Err fault.Failed) = ⊥
 IsRead (Holding bytes) most (Err fault.Failed) = ⊥
 IsRead Broken most (Err fault.Failed) = Unit {0}
 
+-- what a folder may answer where so many of the first bytes of a file are to be read
+abbrev pub Reading : Type 1
+Reading = List ℕ → ℕ → Result (Option (Vec ℕ)) FolderFault → Type 0
+
+-- If a file can't be read, the folder may answer so.
+abbrev pub MayFail : Reading → List ℕ → KnownFile → Type 0
+MayFail answers name Unknown = Unit {0}
+MayFail answers name Missing = Unit {0}
+MayFail answers name (Holding bytes) = Unit {0}
+MayFail answers name Broken = (most : ℕ) × answers name most (Err fault.Failed)
+
+-- Unreadable is told of a file that can't be read only where the folder may answer so.
+abbrev pub IsAnswered : Reading → List ℕ → KnownFile → KeeperFault → Type 0
+IsAnswered answers name file keeper.Unreadable = MayFail answers name file
+IsAnswered answers name file keeper.Unwritable = Unit {0}
+IsAnswered answers name file keeper.Spent = Unit {0}
+IsAnswered answers name file keeper.Memory = Unit {0}
+
 -- If anything is known of a file, it is that it can't be read.
 abbrev pub CantBeRead : KnownFile → Type 0
 CantBeRead Unknown = Unit {0}

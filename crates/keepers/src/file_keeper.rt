@@ -2,7 +2,7 @@ ghost use Rattle.std.specs.Prelude.{◌≡◌, IfOk, IfErr, string_bytes};
 ghost use Rattle.evaluation.specs.Retained.{Suits};
 ghost use Rattle.keepers.specs.BadLines.{IsBadLineFault, IsBadLineOf};
 ghost use Rattle.keepers.specs.Keepers.{Raises, KeepsOthers};
-ghost use Rattle.keepers.specs.KnownFiles.{IsStored, MayStore};
+ghost use Rattle.keepers.specs.KnownFiles.{IsAnswered, IsStored, MayStore};
 ghost use Rattle.keepers.specs.KeptNumbers.{IsNext, IsRaisedIn, MayAnswer, number_file, number_text, temporary_file};
 ghost use Rattle.keepers.specs.KeptRetained.{IsToldOf, retained_file, retained_text, tells_of};
 ghost use Rattle.keepers.specs.Steps.Raising.{IsFound, IsReadOf};
@@ -42,9 +42,9 @@ impl<F: Folder> FileKeeper<F> {
         })
     }
 
-    /// The first bytes of a file; None where there is none. Unreadable: the folder can't read it.
+    /// The first bytes of a file; None where there is none. Unreadable: the folder can't read it. Memory: it answers so.
     fn read(&self, name: &str, most: usize) -> Result<Option<Vec<u8>>, KeeperFault>
-        ensures { IsReadOf (F.file self.now.folder name.now) most result }
+        ensures { IsReadOf (F.read_gives self.now.folder) (F.file self.now.folder name.now) name.now most result }
     {
         match self.folder.read(name, most) {
             Ok(found) => Ok(found),
@@ -72,9 +72,10 @@ impl<F: Folder> FileKeeper<F> {
     }
 
     /// The number that is kept; 0 where there is no file. Unreadable: no incarnation is kept.
-    #[tactic(auto, using(crate::proofs::KeptFiles::found_failed))]
+    #[tactic(auto, using(crate::proofs::KeptFiles::found_failed, crate::proofs::Answered::answered_read, crate::proofs::Answered::answered_failed))]
     fn kept_number(&self) -> Result<u32, KeeperFault>
-        ensures { IsFound (F.file self.now.folder (number_file (string_bytes self.now.resource))) result }
+        ensures found { IsFound (F.file self.now.folder (number_file (string_bytes self.now.resource))) result }
+        ensures answered { IfErr result (IsAnswered (F.read_gives self.now.folder) (number_file (string_bytes self.now.resource)) (F.file self.now.folder (number_file (string_bytes self.now.resource)))) }
     {
         let name = format!(in self.alloc; "{}.inc", self.resource)?;
         let Some(bytes) = self.read(name.as_str(), MOST_BYTES)? else {
@@ -86,7 +87,8 @@ impl<F: Folder> FileKeeper<F> {
     /// The number that a raise would keep now. Unreadable: the file can't be read, or is no incarnation from the last
     /// answer on. Spent: it is 4,294,967,295.
     pub fn next_number(&self) -> Result<u32, KeeperFault>
-        ensures { IsNext (F.file self.now.folder (number_file (string_bytes self.now.resource))) self.now.last result }
+        ensures next { IsNext (F.file self.now.folder (number_file (string_bytes self.now.resource))) self.now.last result }
+        ensures answered { IfErr result (IsAnswered (F.read_gives self.now.folder) (number_file (string_bytes self.now.resource)) (F.file self.now.folder (number_file (string_bytes self.now.resource)))) }
     {
         let kept = self.kept_number()?;
         if kept < self.last {
@@ -119,9 +121,10 @@ impl<F: Folder> FileKeeper<F> {
 
     /// The retained variables that a task's file has; the initial ones where there is no file. Unreadable: the file can't
     /// be read, or isn't what is kept of this code.
-    #[tactic(auto, using(crate::proofs::KeptTexts::keeps_values, crate::proofs::KeptTexts::keeps_no_values, crate::proofs::KeptTexts::keeps_none_read, crate::proofs::KeptTexts::told_failed))]
+    #[tactic(auto, using(crate::proofs::KeptTexts::keeps_values, crate::proofs::KeptTexts::keeps_no_values, crate::proofs::KeptTexts::keeps_none_read, crate::proofs::KeptTexts::told_failed, crate::proofs::Answered::answered_read, crate::proofs::Answered::answered_failed))]
     fn told_values(&self, task: usize, code: &TaskCode) -> Result<Retained, KeeperFault>
         ensures told { IsToldOf (F.file self.now.folder (retained_file (string_bytes self.now.resource) task)) code.now result }
+        ensures answered { IfErr result (IsAnswered (F.read_gives self.now.folder) (retained_file (string_bytes self.now.resource) task) (F.file self.now.folder (retained_file (string_bytes self.now.resource) task))) }
         ensures suits { IfOk result (Suits code.now) }
     {
         let name = self.retained_name(task)?;
@@ -138,10 +141,11 @@ impl<F: Folder> FileKeeper<F> {
 
     /// The first line of a task's file that isn't what is kept of this code; None where all are, and where there is no
     /// file. Unreadable: the file can't be read.
-    #[tactic(auto, using(crate::proofs::Departing::bad_missing, crate::proofs::Departing::bad_none, crate::proofs::Departing::bad_some, crate::proofs::Departing::bad_fault))]
+    #[tactic(auto, using(crate::proofs::Departing::bad_missing, crate::proofs::Departing::bad_none, crate::proofs::Departing::bad_some, crate::proofs::Departing::bad_fault, crate::proofs::Answered::answered_read, crate::proofs::Answered::answered_failed))]
     pub fn bad_line(&self, task: usize, code: &TaskCode) -> Result<Option<BadLine>, KeeperFault>
         ensures line { IfOk result (IsBadLineOf (F.file self.now.folder (retained_file (string_bytes self.now.resource) task)) code.now) }
         ensures fault { IfErr result (IsBadLineFault (F.file self.now.folder (retained_file (string_bytes self.now.resource) task))) }
+        ensures answered { IfErr result (IsAnswered (F.read_gives self.now.folder) (retained_file (string_bytes self.now.resource) task) (F.file self.now.folder (retained_file (string_bytes self.now.resource) task))) }
     {
         let name = self.retained_name(task)?;
         let most = most_bytes(self.alloc, code)?;
@@ -159,7 +163,7 @@ impl<F: Folder> FileKeeper<F> {
 impl<F: Folder + Send> Keeper for FileKeeper<F> {
     ghost last = { λ k. k.last };
 
-    ghost raise_gives = { λ k answer. MayAnswer (F.replace_gives k.folder) (F.file k.folder (number_file (string_bytes k.resource))) (string_bytes k.resource) k.last answer };
+    ghost raise_gives = { λ k answer. MayAnswer (F.read_gives k.folder) (F.replace_gives k.folder) (F.file k.folder (number_file (string_bytes k.resource))) (string_bytes k.resource) k.last answer };
 
     ghost kept_gives = { λ k task code answer. IsToldOf (F.file k.folder (retained_file (string_bytes k.resource) task)) code answer };
 
@@ -172,6 +176,7 @@ impl<F: Folder + Send> Keeper for FileKeeper<F> {
         ensures raised { Raises self.old.last self.new.last result }
         ensures kept { IsRaisedIn (F.replace_gives self.old.folder) (F.file self.old.folder) (F.file self.new.folder)
             (string_bytes self.old.resource) self.old.last result }
+        ensures answered { IfErr result (IsAnswered (F.read_gives self.old.folder) (number_file (string_bytes self.old.resource)) (F.file self.old.folder (number_file (string_bytes self.old.resource)))) }
         ensures resource { self.new.resource ≡ self.old.resource }
     {
         let next = self.next_number()?;
@@ -202,6 +207,7 @@ impl<F: Folder + Send> Keeper for FileKeeper<F> {
         ensures suits { IfOk result (Suits code.now) }
         ensures last { self.new.last ≡ self.old.last }
         ensures told { IsToldOf (F.file self.old.folder (retained_file (string_bytes self.old.resource) task)) code.now result }
+        ensures answered { IfErr result (IsAnswered (F.read_gives self.old.folder) (retained_file (string_bytes self.old.resource) task) (F.file self.old.folder (retained_file (string_bytes self.old.resource) task))) }
         ensures same { self.new ≡ self.old }
     {
         self.told_values(task, code)

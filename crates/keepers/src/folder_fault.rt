@@ -1,4 +1,4 @@
-ghost use Rattle.std.specs.Prelude.{◌≡◌};
+ghost use Rattle.std.specs.Prelude.{◌≡◌, ◌↔◌};
 
 use std::alloc::AllocError;
 use std::io;
@@ -24,6 +24,12 @@ impl From<AllocError> for FolderFault {
 }
 
 impl From<io::Error> for FolderFault {
+    ghost use Rattle.std.specs.IoError.{error_kind};
+    ghost use Rattle.std.specs.declared.io.ErrorKind.TheVariants.{OutOfMemory};
+    ghost use Rattle.keepers.specs.declared.folder_fault.FolderFault.TheVariants.{Memory};
+
+    ghost from_gives = { λ error fault. (fault ≡ Memory) ↔ (error_kind error ≡ OutOfMemory) };
+
     fn from(error: io::Error) -> FolderFault {
         match error.kind() {
             ErrorKind::OutOfMemory => FolderFault::Memory,

@@ -1,7 +1,11 @@
-use std::alloc::Global;
+ghost use Rattle.std.specs.Prelude.{◌≡◌};
+
+use std::alloc::{AllocError, Global};
+use std::fs;
 use std::fs::{File, OpenOptions, TryLockError};
+use std::io::ErrorKind;
+use std::os::unix::fs::OpenOptionsExt;
 use std::rt::Files;
-use std::{fs, io};
 use thiserror::Error;
 
 /// Why a folder can't be held.
@@ -13,6 +17,25 @@ pub enum LockFault {
     /// The system has no lock for it.
     #[error("this folder can't be locked")]
     NoLock,
+    /// There is no such folder.
+    #[error("this folder is missing")]
+    Missing,
+    /// It is there, but it or its file `NAME.lock` can't be opened, or a link stands in that file's place.
+    #[error("this folder's lock can't be opened")]
+    Unopened,
+    /// There was no memory left.
+    #[error("there is no memory left")]
+    Memory,
+}
+
+impl From<AllocError> for LockFault {
+    ghost use Rattle.keepers.specs.declared.folder_lock.LockFault.TheVariants.{Memory};
+
+    ghost from_gives = { λ _ fault. fault ≡ Memory };
+
+    fn from(_fault: AllocError) -> LockFault {
+        LockFault::Memory
+    }
 }
 
 impl From<TryLockError> for LockFault {
@@ -24,6 +47,15 @@ impl From<TryLockError> for LockFault {
     }
 }
 
+/// Opens a folder.
+fn open_folder<R: Files<File = File>>(rt: &R, path: &str) -> Result<File, LockFault> {
+    match fs::open(rt, path) {
+        Ok(folder) => Ok(folder),
+        Err(error) if error.kind() == ErrorKind::NotFound => Err(LockFault::Missing),
+        Err(_) => Err(LockFault::Unopened),
+    }
+}
+
 /// Holds a folder for one program, as long as it lives.
 #[derive(Drop)]
 pub struct FolderLock {
@@ -31,16 +63,11 @@ pub struct FolderLock {
 }
 
 impl FolderLock {
-    /// Holds the folder of this path. None: it can't be opened.
-    pub fn take<R: Files<File = File>>(
-        rt: &R,
-        path: &str,
-    ) -> Result<Option<FolderLock>, LockFault> {
-        let Ok(folder) = fs::open(rt, path) else {
-            return Ok(None);
-        };
+    /// Holds the folder of this path.
+    pub fn take<R: Files<File = File>>(rt: &R, path: &str) -> Result<FolderLock, LockFault> {
+        let folder = open_folder(rt, path)?;
         folder.try_lock()?;
-        Ok(Some(FolderLock { _folder: folder }))
+        Ok(FolderLock { _folder: folder })
     }
 }
 
@@ -53,39 +80,42 @@ pub struct ResourceLock {
 }
 
 impl ResourceLock {
-    /// Holds the files of the resource of this name in the folder of this path, by way of a file `NAME.lock`. None: the
-    /// folder or that file can't be opened.
+    /// Holds the files of the resource of this name in the folder of this path, by way of a file `NAME.lock`.
     pub fn take<R: Files<File = File>>(
         rt: &R,
         alloc: Global,
         path: &str,
         resource: &str,
-    ) -> Result<Option<ResourceLock>, LockFault> {
-        let Ok(folder) = fs::open(rt, path) else {
-            return Ok(None);
-        };
+    ) -> Result<ResourceLock, LockFault> {
+        let folder = open_folder(rt, path)?;
         folder.try_lock_shared()?;
-        let Ok(file) = lock_file(rt, alloc, path, resource) else {
-            return Ok(None);
-        };
+        let name = format!(in alloc; "{path}/{resource}.lock")?;
+        let file = open_file(rt, name.as_str())?;
         file.try_lock()?;
-        Ok(Some(ResourceLock {
+        Ok(ResourceLock {
             _folder: folder,
             _file: file,
-        }))
+        })
     }
 }
 
-/// The file `NAME.lock` of a folder, which is made where there is none.
-fn lock_file<R: Files<File = File>>(
-    rt: &R,
-    alloc: Global,
-    path: &str,
-    resource: &str,
-) -> io::Result<File> {
-    let file = format!(in alloc; "{path}/{resource}.lock")?;
-    OpenOptions::new()
-        .append(true)
-        .create(true)
-        .open(rt, file.as_str())
+/// Whether a symbolic link stands at a path.
+fn is_link<R: Files>(rt: &R, path: &str) -> bool {
+    match fs::symlink_metadata(rt, path) {
+        Ok(found) => found.is_symlink(),
+        Err(_) => false,
+    }
+}
+
+/// Opens the file of a lock, which is made where there is none, for its owner alone. A link isn't followed.
+fn open_file<R: Files<File = File>>(rt: &R, path: &str) -> Result<File, LockFault> {
+    if is_link(rt, path) {
+        return Err(LockFault::Unopened);
+    }
+    let mut options = OpenOptions::new();
+    options.append(true).create(true).mode(0o600);
+    match options.open(rt, path) {
+        Ok(file) => Ok(file),
+        Err(_) => Err(LockFault::Unopened),
+    }
 }

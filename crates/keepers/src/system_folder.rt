@@ -3,8 +3,9 @@ ghost use Rattle.keepers.specs.KnownFiles.KnownFile.{Unknown};
 use crate::folder::Folder;
 use crate::folder_fault::FolderFault;
 use std::alloc::{AllocError, Global};
-use std::fs::OpenFile;
+use std::fs::{OpenFile, OpenOptions};
 use std::io::{ErrorKind, Read, Write};
+use std::os::unix::fs::OpenOptionsExt;
 use std::rt::Files;
 use std::{fs, io};
 
@@ -13,13 +14,23 @@ use std::{fs, io};
 pub struct SystemFolder<R: Files + Alloc<A = Global> + Drop> {
     rt: R,
     path: String,
+    /// The mode of files that are made, as far as the system's `umask` lets.
+    mode: u32,
 }
 
 impl<R: Files + Alloc<A = Global> + Drop> SystemFolder<R> {
     /// The folder of this path. It need not exist.
     pub fn new(rt: R, path: &str) -> Result<SystemFolder<R>, AllocError> {
         let path = String::from_str(rt.alloc(), path)?;
-        Ok(SystemFolder { rt, path })
+        let mode = 0o666;
+        Ok(SystemFolder { rt, path, mode })
+    }
+
+    /// The same folder, in which files are made for their owner alone.
+    pub fn private(self) -> SystemFolder<R> {
+        let mut folder = self;
+        folder.mode = 0o600;
+        folder
     }
 
     /// The path of a file; none where the folder has none.
@@ -47,7 +58,7 @@ impl<R: Files + Alloc<A = Global> + Drop> SystemFolder<R> {
 
     /// Writes a file beside, up to the disk, and then puts it in the place of another one, up to the disk too.
     fn replace_file(&self, path: &str, beside: &str, bytes: &[u8]) -> io::Result<()> {
-        write_synced(&self.rt, beside, bytes)?;
+        write_synced(&self.rt, beside, self.mode, bytes)?;
         fs::rename(&self.rt, beside, path)?;
         fs::open(&self.rt, self.path.as_str())?.sync_all()
     }
@@ -62,9 +73,22 @@ fn is_there<R: Files>(rt: &R, path: &str) -> io::Result<bool> {
     }
 }
 
+/// A new file. What stood there, as after a crash, goes; a link isn't followed.
+fn new_file<R: Files>(rt: &R, path: &str, mode: u32) -> io::Result<R::File> {
+    let mut options = OpenOptions::new();
+    options.write(true).create_new(true).mode(mode);
+    match options.open(rt, path) {
+        Err(error) if error.kind() == ErrorKind::AlreadyExists => {
+            fs::remove_file(rt, path)?;
+            options.open(rt, path)
+        }
+        opened => opened,
+    }
+}
+
 /// Writes bytes to a new file, all of them, up to the disk.
-fn write_synced<R: Files>(rt: &R, path: &str, bytes: &[u8]) -> io::Result<()> {
-    let mut file = fs::create(rt, path)?;
+fn write_synced<R: Files>(rt: &R, path: &str, mode: u32, bytes: &[u8]) -> io::Result<()> {
+    let mut file = new_file(rt, path, mode)?;
     file.write_all(bytes)?;
     file.sync_all()
 }

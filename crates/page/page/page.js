@@ -46,6 +46,9 @@ const EVENT_FORMS = {
     { kind: "delivery", isOwn: true, from: f[1], task: `${f[1]}.${f[2]}`, pair: f[3], answer: f[4] })]],
   SEND: [[/^SEND (\w+) ((?:HELLO|MESSAGE) .+)$/, (f) => ({ kind: "sending", isOwn: true, to: f[1], sent: f[2] })]],
   REFUSED: [[/^REFUSED(?: (\d+))? (\w+)$/, (f) => ({ kind: "refused", isOwn: !f[1], event: f[1], cause: f[2] })]],
+  OVERRUN: [[/^OVERRUN (\w+)\.(\w+) (\d+)$/, (f) => ({ kind: "overrun", lane: f[1], late: `${f[1]}.${f[2]}`, skipped: f[3] })]],
+  INPUT: [[/^INPUT taken$/, () => ({ kind: "input", isOwn: true })]],
+  FIELD: [[/^FIELD ended$/, () => ({ kind: "ended", isOwn: true })]],
   UNANSWERED: [[/^UNANSWERED (\d+)$/, (f) => ({ kind: "unanswered", ticket: f[1] })]],
   FAULT: [[/^FAULT (\w+) (\d+) (\w+)$/, (f) => ({ kind: "fault", lane: f[1], ticket: f[2], cause: f[3] })]],
   UNSHOWN: [[/^UNSHOWN (.+:(?:\d+) \w+(?: .*)?)$/, (f) => ({ kind: "unshown", told: f[1] })]],
@@ -64,8 +67,11 @@ function eventOf(line) {
   return undefined;
 }
 
+/** Whether a line is a comment on a row of its own. */
+const isComment = (line) => /^\s*\(\*(?:(?!\*\)).)*\*\)\s*$/.test(line);
+
 /** Whether a line can be one of a drawing. */
-const isDrawn = (line) => line === "" || line[0] === " " || line[0] === "|" || line[0] === "+";
+const isDrawn = (line) => line === "" || line[0] === " " || line[0] === "|" || line[0] === "+" || isComment(line);
 
 // A drawing has at most so many lines; a page draws so many parts, and what stands behind them as text.
 const MOST_ROWS = 2000;
@@ -178,7 +184,7 @@ function endOf(lines, first, isSo) {
 /** These lines as a drawing, or undefined. What shows power without a row above is none. */
 function drawingOf(lines, first, end) {
   const drawn = lines.slice(first, end);
-  const isPlain = drawn.some((line) => line.includes("-")) && drawn.every((line) => !line.includes("=") && withoutHashes(line) === line);
+  const isPlain = drawn.some((line) => line.includes("-") && !isComment(line)) && drawn.every((line) => isComment(line) || (!line.includes("=") && withoutHashes(line) === line));
   const ladder = isPlain && ladderOf([drawn]);
   return ladder ? { form: "drawing", rows: [], drawn: [drawn], ladder, end } : undefined;
 }
@@ -195,6 +201,10 @@ function withoutPower(scans) {
   const rows = [];
   for (let row = 0; row < scans[0].length; row += 1) {
     const shown = [...new Set(scans.map((scan) => scan[row]))];
+    if (shown.length === 1 && isComment(shown[0])) {
+      rows.push(shown[0]);
+      continue;
+    }
     if (shown.some((it) => it.length !== shown[0].length)) return undefined;
     const signs = [...shown[0]].map((_, column) => {
       const drawn = shown.map((it) => it[column]).find((sign) => sign !== "=" && sign !== "#");
@@ -216,7 +226,7 @@ function withoutHashes(row) {
 /** The ladder that all these scans show, or undefined where they show no whole one, or not the same. */
 function ladderOf(scans) {
   const rows = scans[0].length > MOST_ROWS ? undefined : withoutPower(scans);
-  if (!rows || !rows.some((row) => row.trim())) return undefined;
+  if (!rows || !rows.some((row) => row.trim() && !isComment(row))) return undefined;
   const ladder = new Ladder(rows);
   return ladder.isWhole ? ladder : undefined;
 }
@@ -224,8 +234,9 @@ function ladderOf(scans) {
 /** What stands at each place of a drawing. Rows and columns count from 0. */
 class Ladder {
   constructor(rows) {
-    this.rows = rows.map((row) => row.trimEnd());
-    this.width = Math.max(...this.rows.map((row) => row.length));
+    this.comments = rows.map((row) => (isComment(row) ? row.trimEnd() : ""));
+    this.rows = rows.map((row) => (isComment(row) ? "" : row.trimEnd()));
+    this.width = Math.max(...rows.map((row) => row.trimEnd().length));
     this.rail = Math.min(...this.rows.filter(Boolean).map((row) => row.search(/[^ ]/)));
     this.marks = this.rows.map((row) => new Uint8Array(row.length));
     this.boxes = [];
@@ -589,7 +600,7 @@ function isMark(event) {
   if (event.kind === "delivery") return event.answer !== "taken" && event.answer !== "";
   if (event.kind === "restart") return !event.isStart || event.incarnation !== "1";
   if (event.kind === "replay") return event.answer === "differs";
-  return ["refused", "fault", "unanswered", "unshown"].includes(event.kind);
+  return ["refused", "overrun", "ended", "fault", "unanswered", "unshown"].includes(event.kind);
 }
 
 /** What kind of mark an event is, in a word. */
@@ -718,9 +729,16 @@ class LadderView {
     const things = ladder.byRow[row];
     return svg("g", { class: "row", "data-row": row, "data-worth": this.wordsWorth(row), transform: `translate(0 ${row * LINE})` },
       things.boxes.map((box) => this.boxPart(box, row)),
+      this.comment(row),
       this.lines(row),
       things.symbols.map((symbol) => this.symbol(symbol)),
       things.words.flatMap((word) => this.word(word)));
+  }
+
+  /** A comment where it stands. */
+  comment(row) {
+    const told = this.ladder.comments[row];
+    return told !== "" && svg("text", { x: told.search(/\S/) * CELL, y: LINE / 2 + 5, class: "comment" }, told.trim());
   }
 
   /** Rails, wires, joins and uprights of a row. */
@@ -1314,7 +1332,7 @@ class LanesView {
   /** What has no lane, or says something of all lanes, has a band across. */
   band(event) {
     if (event.column !== undefined && !["fault", "unshown"].includes(event.kind)) return undefined;
-    if (event.kind === "hearing" || event.kind === "sending") return undefined;
+    if (["hearing", "sending", "input"].includes(event.kind)) return undefined;
     return svg("rect", { x: GUTTER - 6, y: this.y(event.at) - EVENT / 2 + 2, width: this.width - GUTTER, height: EVENT - 4, class: `band is-${event.kind} is-${event.answer ?? ""}` });
   }
 
@@ -1393,12 +1411,28 @@ class LanesView {
 
   fault(event, y) {
     const x = event.column === undefined ? GUTTER : this.x(event.column);
-    return [path(`M${x} ${y - 9}L${x + 9} ${y + 7}H${x - 9}Z`, "fault-sign"), this.told(x + 15, y, LABELS.fault(event), "strong")];
+    return [path(`M${x} ${y - 9}L${x + 9} ${y + 7}H${x - 9}Z`, "fault-sign"), this.told(x + 15, y, LABELS[event.kind](event), "strong")];
   }
 
   unshown(event, y) {
-    const x = event.column === undefined ? GUTTER : this.x(event.column) + 15;
-    return [this.told(x, y, LABELS.unshown(event), "strong")];
+    return [this.inLane(event, y, "strong")];
+  }
+
+  input(event, y) {
+    return [this.inLane(event, y, "faint")];
+  }
+
+  overrun(event, y) {
+    return this.fault(event, y);
+  }
+
+  ended(event, y) {
+    return this.fault(event, y);
+  }
+
+  /** What an event tells, beside its lane if it has one. */
+  inLane(event, y, kind) {
+    return this.told(event.column === undefined ? GUTTER : this.x(event.column) + 15, y, LABELS[event.kind](event), kind);
   }
 
   // Lines between events.
@@ -1572,6 +1606,9 @@ const TALLIES = {
   restart: (event, number) => `${event.isStart ? "start" : "restart"}${number === 1 ? "" : "s"}`,
   hearing: (_, number) => (number === 1 ? "hearing" : "hearings"),
   sending: (_, number) => (number === 1 ? "line sent" : "lines sent"),
+  input: (_, number) => (number === 1 ? "input told" : "inputs told"),
+  overrun: () => "OVERRUN",
+  ended: () => "FIELD ended",
   refused: () => "REFUSED",
   fault: () => "FAULT",
   unanswered: () => "UNANSWERED",
@@ -1579,6 +1616,9 @@ const TALLIES = {
 };
 
 const LABELS = {
+  input: () => "INPUT taken",
+  overrun: (event) => `OVERRUN ${event.late} ${event.skipped}`,
+  ended: () => "FIELD ended",
   refused: (event) => `REFUSED ${event.event ?? ""} ${event.cause}`.replace(/ +/g, " "),
   unanswered: (event) => `UNANSWERED ${event.ticket}`,
   fault: (event) => `FAULT ${event.ticket} ${event.cause}`,

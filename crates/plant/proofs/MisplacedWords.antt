@@ -1,22 +1,23 @@
 -- Where a Syntax stands.
-use Rattle.std.proofs.Common.{◌≡◌, ◌≢◌, ◌⊎◌, inl, inr, ℕ, true, false, List, [], ◌∷◌, ◌++◌, map, length, refl, sym, ap, subst, ◌∙◌, append_assoc, arith}
-use Rattle.std.specs.List.{flat_map}
+use Rattle.std.proofs.Common.{◌≡◌, ◌≢◌, ◌≤◌, ◌⊎◌, inl, inr, ℕ, true, false, List, [], ◌∷◌, ◌++◌, map, length, refl, sym, ap, subst, ◌∙◌, append_assoc, arith}
+use Rattle.std.specs.List.{flat_map, list_all}
 use Rattle.std.proofs.lemmas.Bool.{cases_Bool}
-use Rattle.std.proofs.lemmas.List.{append_cancel_left, length-append, map-append}
+use Rattle.std.proofs.lemmas.List.{append-nil, append_cancel_left, length-append, map-append}
 use Rattle.std.proofs.lemmas.List.Elements.{All-head}
 use Rattle.lists.proofs.Members.{all_first, all_last}
 use Rattle.words.specs.Lines.{without_last}
 use Rattle.plant_text.specs.declared.token.Token.{Token}
 use Rattle.plant_text.specs.declared.token.Token.TheVariants as token
+use Rattle.plant_text.specs.Spelling.{Spells}
 use Rattle.plant_text.specs.Places.{is_body, may_be_due, FitsPlace, is_body_due}
-use Rattle.plant_text.specs.Lines.{WordValue, IsSpelledBy, IsBegunBy, BeginsWithWordsThen, HasNoWordBehind, IsStoppedBy, AreWordsButLast, AreInTheirPlaces}
-use Rattle.plant_grammar.specs.Grammar.{program_words}
-use Rattle.plant_grammar.specs.WellFormed.{is_plain}
+use Rattle.plant_text.specs.Lines.{WordValue, last_line, IsSpelledBy, IsBegunBy, BeginsWithWordsThen, HasNoWordBehind, IsStoppedBy, AreWordsButLast, AreInTheirPlaces}
+use Rattle.plant_grammar.specs.Grammar.{Tree, program_words, words_of}
+use Rattle.plant_grammar.specs.WellFormed.{is_plain, IsTreeWellFormed}
 use Rattle.plant_grammar.specs.GoesOn.{GoesOn, IsLastMisplaced}
 use Rattle.plant_grammar.specs.Steps.Lines.{ReaderValue, HasLinesOf}
 use Rattle.plant_grammar.specs.Steps.Declaring.{BeginWith, IsLineBefore}
 use Rattle.plant_grammar.specs.Steps.Expected.{MeetsMisplaced}
-use Rattle.plant.specs.PlantText.{AreBodiesDrawn, IsMisplacedIn, IsUnknownIn, EndsEarly}
+use Rattle.plant.specs.PlantText.{HasFaultlessWords, SpellsNoTree, IsFaultlessBeforeMore, AreBodiesDrawn, IsMisplacedIn, IsUnknownIn, EndsEarly}
 use Rattle.plant.proofs.KnownWords.{IsKnown, AreKnown, nothing, behind, both, words_known}
 use Rattle.plant.proofs.BodyCounts.{same_fronts}
 use Rattle.plant.proofs.RefusedKnown.{CutAtLine, cut_at_line}
@@ -88,14 +89,22 @@ plain_word _ known none = refl
 front_drawn : (xs ys : List Token) → AreBodiesDrawn (xs ++ ys) → AreBodiesDrawn xs
 front_drawn xs ys drawn = λ ps more formed e. drawn ps (more ++ ys) formed (ap (λ zs. zs ++ ys) e ∙ append_assoc (flat_map program_words ps) more ys)
 
+-- such is what is known of trees and the words behind them
+pub no_tree : (text : List ℕ) → ((tree : Tree) (more : List Token) → length tree.programs ≤ 65 → IsTreeWellFormed tree → list_all is_plain more ≡ true → Spells (without_last 13 text) (words_of tree ++ more) → (more ≢ []) × HasFaultlessWords tree)
+    → SpellsNoTree text × IsFaultlessBeforeMore text
+no_tree text of = (
+  λ tree few formed s. (of tree [] few formed refl (subst (Spells (without_last 13 text)) (sym (append-nil (words_of tree))) s)).0 refl,
+  λ tree more few formed plain s. (of tree more few formed plain s).1,
+)
+
 -- what is known of the words read says where the first misplaced one stands
-pub syntax_first : (text : List ℕ) (ws : List WordValue) (r : ReaderValue) (line : ℕ) → map (λ (w : WordValue). w.token) ws ≡ r.words → AreBodiesDrawn r.words → HasLinesOf (map (λ (w : WordValue). w.line) ws) r → IsSpelledBy (without_last 13 text) ws → IsBegunBy (without_last 13 text) ws → IsStoppedBy (without_last 13 text) ws → AreWordsButLast ws → AreInTheirPlaces ws
-    → MeetsMisplaced r line → IsMisplacedIn text line ⊎ (IsUnknownIn text line ⊎ EndsEarly text)
-syntax_first text ws r line words drawn lines spelled begun stopped last_one in_places (inl g) =
+pub syntax_first : (text : List ℕ) (ws : List WordValue) (r : ReaderValue) (line : ℕ) → map (λ (w : WordValue). w.token) ws ≡ r.words → AreBodiesDrawn r.words → HasLinesOf (map (λ (w : WordValue). w.line) ws) r → r.last ≡ last_line text → IsSpelledBy (without_last 13 text) ws → IsBegunBy (without_last 13 text) ws → IsStoppedBy (last_line text) (without_last 13 text) ws → AreWordsButLast ws → AreInTheirPlaces ws
+    → MeetsMisplaced r line → IsMisplacedIn text line ⊎ (IsUnknownIn text line ⊎ EndsEarly text line)
+syntax_first text ws r line words drawn lines ends spelled begun stopped last_one in_places (inl (g, last)) =
     let tokens = map (λ (w : WordValue). w.token) ws in
     let here : GoesOn tokens = subst GoesOn (sym words) g in
-    inr (inr (tokens, spelled (goes_on_known tokens here), here, subst AreBodiesDrawn (sym words) drawn))
-syntax_first text ws r line words drawn lines spelled begun stopped last_one in_places (inr b) =
+    inr (inr (last (map (λ (w : WordValue). w.line) ws) lines ∙ ends, tokens, spelled (goes_on_known tokens here), here, subst AreBodiesDrawn (sym words) drawn))
+syntax_first text ws r line words drawn lines ends spelled begun stopped last_one in_places (inr b) =
     let line_of : WordValue → ℕ = λ (w : WordValue). w.line in
     let here : BeginWith (IsLineBefore (map line_of ws) line) IsLastMisplaced r.words =
     record { front = b.front; rest = b.rest; parts = b.parts; holds = b.holds; behind = b.behind (map line_of ws) lines } in
@@ -109,7 +118,7 @@ syntax_first text ws r line words drawn lines spelled begun stopped last_one in_
         let cuts : r.words ≡ map token_of cut.before ++ map token_of behind = sym words ∙ ap (map token_of) parts ∙ map-append token_of cut.before behind in
         front_drawn (map token_of cut.before) (map token_of behind) (subst AreBodiesDrawn cuts drawn)
 
-    is : (cut : CutAtLine IsLastMisplaced ws line) → GoesOn (map (λ (w : WordValue). w.token) cut.before) → (is_body_due (map (λ (w : WordValue). w.token) cut.before) ≡ true → may_be_due cut.word.token ≡ false) → (cut.word.token ≡ token.Unknown) ⊎ (cut.word.token ≢ token.Unknown) → IsMisplacedIn text line ⊎ (IsUnknownIn text line ⊎ EndsEarly text)
+    is : (cut : CutAtLine IsLastMisplaced ws line) → GoesOn (map (λ (w : WordValue). w.token) cut.before) → (is_body_due (map (λ (w : WordValue). w.token) cut.before) ≡ true → may_be_due cut.word.token ≡ false) → (cut.word.token ≡ token.Unknown) ⊎ (cut.word.token ≢ token.Unknown) → IsMisplacedIn text line ⊎ (IsUnknownIn text line ⊎ EndsEarly text line)
     is cut goes_on misfit (inr known) =
         let token_of : WordValue → Token = λ (w : WordValue). w.token in
         let words : AreKnown (map token_of (cut.before ++ cut.word ∷ [])) = subst AreKnown (sym (map-append token_of cut.before (cut.word ∷ []))) (both (map token_of cut.before) (cut.word.token ∷ []) (goes_on_known (map token_of cut.before) goes_on) (behind cut.word.token [] known nothing)) in
@@ -135,11 +144,11 @@ syntax_first text ws r line words drawn lines spelled begun stopped last_one in_
         inr (inl (record {
           before = cut.before;
           goes_on = goes_on;
-          stopped = subst (λ line. BeginsWithWordsThen (λ n rest. HasNoWordBehind cut.before n rest line) (without_last 13 text) cut.before) (sym cut.line_is) (stopped cut.before cut.word alone unknown);
+          stopped = subst (λ line. BeginsWithWordsThen (λ n rest. HasNoWordBehind (last_line text) cut.before n rest line) (without_last 13 text) cut.before) (sym cut.line_is) (stopped cut.before cut.word alone unknown);
           drawn = before_drawn cut;
         }))
 
-    of_cut : CutAtLine IsLastMisplaced ws line → IsMisplacedIn text line ⊎ (IsUnknownIn text line ⊎ EndsEarly text)
+    of_cut : CutAtLine IsLastMisplaced ws line → IsMisplacedIn text line ⊎ (IsUnknownIn text line ⊎ EndsEarly text line)
     of_cut cut =
         let token_of : WordValue → Token = λ (w : WordValue). w.token in
         let before : map token_of cut.before ≡ cut.holds.before = front_is (map token_of cut.before) cut.holds.before cut.word.token cut.holds.word (sym (map-append token_of cut.before (cut.word ∷ [])) ∙ cut.holds.parts) in

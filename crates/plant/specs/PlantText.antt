@@ -18,7 +18,7 @@ use Rattle.plant.specs.Ladders.{HasLadder}
 use Rattle.plant.specs.BodyFaults.{IsFirstBodyFault}
 use Rattle.plant_text.specs.Places.{is_body_due}
 use Rattle.plant_text.specs.Spelling.{Spells}
-use Rattle.plant_text.specs.Lines.{WordValue, body_lines, BeginsWithWords, BeginsWithWordsThen, HasNoWordBehind}
+use Rattle.plant_text.specs.Lines.{WordValue, last_line, body_lines, BeginsWithWords, BeginsWithWordsThen, HasNoWordBehind}
 use Rattle.plant_grammar.specs.GoesOn.{GoesOn}
 use Rattle.plant.specs.Faultless.{AreBindsFed, IsTreeFaultless}
 use Rattle.plant.specs.SourceFaults.{HasFirstSourceFault}
@@ -40,12 +40,17 @@ IsNoPlant text = (tree : Tree) → Spells (without_last 13 text) (words_of tree)
 abbrev pub HasFaultlessWords : Tree → Type 0
 HasFaultlessWords tree = (t : Tree) × (words_of t ≡ words_of tree) × IsTreeFaultless t
 
--- Where the text, but for a carriage return at its end, spells a tree as the grammar has it, whatever its names, of at
--- most 65 program types, and then further words, no body among these: there is such a word, and the tree is without fault.
-abbrev pub IsNotOfGrammar : List ℕ → Type 0
-IsNotOfGrammar text =
+-- The text, but for a carriage return at its end, spells no tree as the grammar has it, whatever its names, of at most 65
+-- program types.
+abbrev pub SpellsNoTree : List ℕ → Type 0
+SpellsNoTree text =
+    (tree : Tree) → length tree.programs ≤ 65 → IsTreeWellFormed tree → Spells (without_last 13 text) (words_of tree) → ⊥
+
+-- Where it spells such a tree and then further words, no body among these, the tree is without fault.
+abbrev pub IsFaultlessBeforeMore : List ℕ → Type 0
+IsFaultlessBeforeMore text =
     (tree : Tree) (more : List Token) → length tree.programs ≤ 65 → IsTreeWellFormed tree → list_all is_plain more ≡ true
-    → Spells (without_last 13 text) (words_of tree ++ more) → (more ≢ []) × HasFaultlessWords tree
+    → Spells (without_last 13 text) (words_of tree ++ more) → HasFaultlessWords tree
 
 -- Programs, as the grammar has them, that begin these words have bodies with ladders.
 abbrev pub AreBodiesDrawn : List Token → Type 0
@@ -68,23 +73,26 @@ pub record IsMisplacedIn (text : List ℕ) (line : ℕ) : Type 0 where
   pub drawn : AreBodiesDrawn (map (λ (w : WordValue). w.token) before)
   pub line_is : line ≡ word.line
 
--- The text begins with words from which a plant goes on, each on its line, and then with no word. The line is that of an
--- unknown word. The bodies of the programs before it have ladders.
+-- The text begins with words from which a plant goes on, each on its line, and then with no word, which is told on this
+-- line. The bodies of the programs before it have ladders.
 pub record IsUnknownIn (text : List ℕ) (line : ℕ) : Type 0 where
   pub before : List WordValue
   pub goes_on : GoesOn (map (λ (w : WordValue). w.token) before)
-  pub stopped : BeginsWithWordsThen (λ n rest. HasNoWordBehind before n rest line) (without_last 13 text) before
+  pub stopped : BeginsWithWordsThen (λ n rest. HasNoWordBehind (last_line text) before n rest line) (without_last 13 text) before
   pub drawn : AreBodiesDrawn (map (λ (w : WordValue). w.token) before)
 
--- The text spells words from which a plant goes on, and the bodies of the programs there have ladders.
-abbrev pub EndsEarly : List ℕ → Type 0
-EndsEarly text = (words : List Token) × Spells (without_last 13 text) words × GoesOn words × AreBodiesDrawn words
+-- The text spells words from which a plant goes on, and the bodies of the programs there have ladders. The line is the last
+-- of the text.
+abbrev pub EndsEarly : List ℕ → ℕ → Type 0
+EndsEarly text line =
+    (line ≡ last_line text) × (words : List Token) × Spells (without_last 13 text) words × GoesOn words × AreBodiesDrawn words
 
 -- The text isn't as the grammar has it: a plant goes on from its words up to one, on this line, which can't stand there; or
 -- up to what is no word; or from all of them.
 pub record IsSyntaxIn (text : List ℕ) (fault : PlantFault) : Type 0 where
-  pub no_plant : IsNotOfGrammar text
-  pub first : IsMisplacedIn text fault.line ⊎ (IsUnknownIn text fault.line ⊎ EndsEarly text)
+  pub no_tree : SpellsNoTree text
+  pub faultless : IsFaultlessBeforeMore text
+  pub first : IsMisplacedIn text fault.line ⊎ (IsUnknownIn text fault.line ⊎ EndsEarly text fault.line)
 
 -- Trees of at most 64 program types that a text, but for a carriage return at its end, spells say the same.
 abbrev pub OneTree : Type 0

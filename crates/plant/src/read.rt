@@ -11,7 +11,7 @@ use crate::sources::resolve::resolve;
 use plant_grammar::{
     Reader, programs_are_the_first, read_tree, words_are_in_place, words_behind_are_in_place,
 };
-use plant_text::read_words;
+use plant_text::{last_line, read_words};
 use std::alloc::Global;
 
 impl Plant {
@@ -32,7 +32,7 @@ impl Plant {
         words_behind_are_in_place();
         programs_are_the_first();
         let words = read_words(alloc, text)?;
-        let mut reader = Reader::new(words.words(), words.last());
+        let mut reader = Reader::new(words.words(), last_line(text));
         let mut texts = Vec::new(alloc);
         let tree = read_tree(alloc, &mut reader, &mut texts);
         let types = draw_all(alloc, texts)?;

@@ -4,7 +4,7 @@ use Rattle.plant_text.specs.declared.token.Token.{Token}
 use Rattle.plant_grammar.specs.Steps.Lines.{ReaderValue, KeepsLines, next_line}
 use Rattle.plant_grammar.specs.Steps.Declaring.{BeginWith}
 use Rattle.plant_grammar.specs.Steps.Expected.{Expected, and_then, step, walk, EndsUnexpected, IsUnended, IsOnLine, IsStuck}
-use Rattle.plant_grammar.proofs.ReadLines.{line_before}
+use Rattle.plant_grammar.proofs.ReadLines.{line_before, line_last}
 
 -- the step to the first of words
 abbrev pub StepsOn : List Expected → Token → List Token → Option (List Expected) → Type 0
@@ -53,14 +53,14 @@ unexpected_behind es fs read words e s = record {
 
 -- words were read, and behind them it is so
 pub stuck_behind : (es fs : List Expected) (read : List Token) (old new : ReaderValue) (line : ℕ) → old.words ≡ read ++ new.words → KeepsLines old new → walk es read ≡ Some fs → IsStuck fs new line → IsStuck es old line
-stuck_behind es fs read old new line e keeps w (inl (expected, walked, more)) = inl (expected, ap (walk es) e ∙ walk_append es fs read new.words w ∙ walked, more)
+stuck_behind es fs read old new line e keeps w (inl ((expected, walked, more), last)) = inl ((expected, ap (walk es) e ∙ walk_append es fs read new.words w ∙ walked, more), λ all h. last all (keeps.0 all h) ∙ keeps.1)
 stuck_behind es fs read old new line e keeps w (inr b) =
     inr (record {
       front = read ++ b.front;
       rest = b.rest;
       parts = e ∙ ap (λ ws. read ++ ws) b.parts ∙ sym (append_assoc read b.front b.rest);
       holds = unexpected_behind es fs read b.front w b.holds;
-      behind = λ all h. b.behind all (keeps all h);
+      behind = λ all h. b.behind all (keeps.0 all h);
     })
 
 -- the next word can't stand where it does, or there is none
@@ -69,7 +69,7 @@ unfolding walk
 stuck_here es r line is some none = go r.words refl
   where
     go : (words : List Token) → r.words ≡ words → IsStuck es r line
-    go [] e = inl (es, rw e refl, some)
+    go [] e = inl ((es, rw e refl, some), λ all h. line_last all r line h is e)
     go (t ∷ rest) e = inr (record {
       front = t ∷ [];
       rest = rest;
@@ -120,5 +120,5 @@ stuck_as es fs r line some same stuck = go r.words refl stuck
     }
 
     go : (words : List Token) → r.words ≡ words → IsStuck es r line → IsStuck fs r line
-    go words e (inl un) = inl (unended r.words refl un)
+    go words e (inl (un, last)) = inl (unended r.words refl un, last)
     go words e (inr b) = inr (seen b)

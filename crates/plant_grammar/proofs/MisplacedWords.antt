@@ -61,7 +61,7 @@ unexpected_ends words s (tree, more, e, formed) =
 
 -- where the words are stuck, a plant goes on from all of them or they lead to the first from which none does
 pub meets_misplaced : (r : ReaderValue) (line : ℕ) → length r.words < 2 ^ 63 → IsStuck whole_plant r line → MeetsMisplaced r line
-meets_misplaced r line few (inl (expected, walked, more)) = inl (goes_on r.words expected few walked)
+meets_misplaced r line few (inl ((expected, walked, more), last)) = inl (goes_on r.words expected few walked, last)
 meets_misplaced r line few (inr b) =
     let parts : r.words ≡ b.holds.before ++ (b.holds.word ∷ b.rest) = b.parts ∙ ap (λ ws. ws ++ b.rest) b.holds.parts ∙ append_assoc b.holds.before (b.holds.word ∷ []) b.rest in
     let all = ap length parts ∙ length-append b.holds.before (b.holds.word ∷ b.rest) in
@@ -101,7 +101,7 @@ walk_ended (t ∷ more) es e = cc (e)
 
 -- where the words are stuck, they don't begin with all that is expected
 stuck_no_whole : (es : List Expected) (r : ReaderValue) (line : ℕ) (whole rest : List Token) → IsStuck es r line → walk es whole ≡ Some [] → r.words ≡ whole ++ rest → ⊥
-stuck_no_whole es r line whole rest (inl (expected, walked, more)) all e =
+stuck_no_whole es r line whole rest (inl ((expected, walked, more), last)) all e =
     more (walk_ended rest expected (sym (walk_append es [] whole rest all) ∙ ap (walk es) (sym e) ∙ walked))
 stuck_no_whole es r line whole rest (inr b) all e =
     let s = b.holds in
@@ -165,5 +165,5 @@ misplaced_behind tree old new e keeps lawful some = on new.words refl
             cc;
         misfit = λ due. absurd (none_due (words_of tree) (tree_walked tree (tree_formed tree lawful)) due);
       };
-      behind = λ all h. line_before all new (next_line new) (keeps all h) refl t more is;
+      behind = λ all h. line_before all new (next_line new) (keeps.0 all h) refl t more is;
     })

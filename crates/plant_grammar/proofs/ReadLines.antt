@@ -23,6 +23,16 @@ pub kept_behind : (ws : List WordValue) (last : ℕ) (all : List ℕ) → 1 ≤ 
 kept_behind [] last all some h = absurd (omega (arith, some))
 kept_behind (w ∷ ws) last all some h = subst (λ (us : List WordValue). HasLinesOf all (all_left us last)) (sym (rest_of w ws)) (one_behind w ws last all h)
 
+-- where no word is left, the line of the next is the one on which the text ends
+pub line_last : (all : List ℕ) (r : ReaderValue) (line : ℕ) → HasLinesOf all r → line ≡ next_line r → r.words ≡ [] → line ≡ r.last
+line_last all r line h there none =
+    let many : length r.lines ≡ 0 = h.each ∙ ap length none in
+    there ∙ ap (λ (lines : List ℕ). next_line (record { words = r.words; lines = lines; bodies = r.bodies; last = r.last })) (nothing r.lines many)
+  where
+    nothing : (lines : List ℕ) → length lines ≡ 0 → lines ≡ []
+    nothing [] many = refl
+    nothing (first ∷ more) many = absurd (omega (arith, many))
+
 -- the line of the next word
 pub line_before : (all : List ℕ) (r : ReaderValue) (line : ℕ) → HasLinesOf all r → line ≡ next_line r → (t : Token) (rest : List Token) → r.words ≡ t ∷ rest → IsLineBefore all line rest
 line_before all r line h there t rest e =

@@ -107,8 +107,8 @@ abbrev pub IsCountedTo : List ℕ → List WordValue → LexerValue → Type 0
 IsCountedTo text ws left = AreKnown ws → (n : ℕ) × (left.line ≡ min n 18446744073709551615)
     × BeginsWithThen (IsLeft n left.text) 1 text (tokens ws) (word_lines ws)
 
-pub counted_first : (text : List ℕ) (left : LexerValue) → left ≡ record { text = text; line = 1; stage = stage.Outside; bodies = 0 } → IsCountedTo text [] left
-counted_first text left e known = (1, ap (λ (l : LexerValue). l.line) e, (refl, (refl, sym (ap (λ (l : LexerValue). l.text) e))))
+pub counted_first : (text : List ℕ) (last : ℕ) (left : LexerValue) → left ≡ record { text = text; line = 1; stage = stage.Outside; bodies = 0; last = last } → IsCountedTo text [] left
+counted_first text last left e known = (1, ap (λ (l : LexerValue). l.line) e, (refl, (refl, sym (ap (λ (l : LexerValue). l.text) e))))
 
 pub begun_first : (text : List ℕ) → IsBegunBy text []
 begun_first text [] back e known = (refl, tt)

@@ -189,8 +189,8 @@ IsReadUpTo text ws left =
     (ts : List Token) → AreWordsInPlace ts → Spells text ts → AllByRecursion IsText ts
     → (more : List Token) × (ts ≡ ws ++ more) × AreInPlace left.stage left.bodies more × Spells left.text more × AllByRecursion IsText more
 
-pub up_to_first : (text : List ℕ) (left : LexerValue) → left ≡ record { text = text; line = 1; stage = stage.Outside; bodies = 0 } → IsReadUpTo text [] left
-up_to_first text left e = λ ts a s x.
+pub up_to_first : (text : List ℕ) (last : ℕ) (left : LexerValue) → left ≡ record { text = text; line = 1; stage = stage.Outside; bodies = 0; last = last } → IsReadUpTo text [] left
+up_to_first text last left e = λ ts a s x.
     (ts, refl, subst (λ (l : LexerValue). AreInPlace l.stage l.bodies ts) (sym e) a, subst (λ (l : LexerValue). Spells l.text ts) (sym e) s, x)
 
 pub up_to_next : (text : List ℕ) (ws us : List Token) (w : WordValue) (left new : LexerValue) → us ≡ ws ++ w.token ∷ [] → IsReadUpTo text ws left → ReadsFirst left (Some w) new → ReadsNone left (Some w) → IsReadUpTo text us new

@@ -10,9 +10,9 @@ use Rattle.plant_text.specs.declared.lexer.Stage.TheVariants as stage
 use Rattle.plant_text.specs.Words.{front_len, word_of}
 use Rattle.plant_text.specs.Places.{stage_behind, is_due, stage_after, stage_after_all}
 use Rattle.plant_text.specs.Spelling.{feeds, BeginsNoBlock, HasNoBodyThen}
-use Rattle.plant_text.specs.Lines.{WordValue, body_line, body_lines, BeginsWithWordsThen, IsBodyPlace, HasNoWord, unknown_word, open_comment, no_body, many_bodies, HasNoWordBehind, IsStoppedBy, AreWordsButLast}
+use Rattle.plant_text.specs.Lines.{WordValue, body_line, body_lines, BeginsWithWordsThen, IsBodyPlace, BeginsBlank, IsLineOfNoBody, HasNoWord, unknown_word, open_comment, no_body, many_bodies, HasNoWordBehind, IsStoppedBy, AreWordsButLast}
 use Rattle.plant_text.specs.Steps.Gaps.{behind_comment, behind_space, IsBehindGap}
-use Rattle.plant_text.specs.Steps.Lexing.{LexerValue, MovesOn, FindsNoWord, StopsAt}
+use Rattle.plant_text.specs.Steps.Lexing.{LexerValue, MovesOn, FindsNoWord, IsToldThere, StopsAt}
 use Rattle.plant_text.proofs.FirstWords.{word_of-body}
 use Rattle.plant_text.proofs.BodyLines.{no_end}
 use Rattle.plant_text.proofs.FoundGaps.{no_piece}
@@ -31,10 +31,10 @@ no_word_found old passing inner front w ei g some ep el ew et = λ unknown n is.
     inl (g.0, front, behind, g.2, λ piece rest e space. no_piece piece rest front space g.3 e, some, none, ew ∙ along)
 
 -- a comment behind a gap that doesn't end
-pub open_found : (old : LexerValue) (inner front more : List ℕ) (w : WordValue) → old.text ≡ inner → IsBehindGap inner front → front ≡ 40 ∷ 42 ∷ more → FindsNoWord old w
-open_found old inner front more w ei g c = λ unknown n is.
+pub open_found : (old : LexerValue) (inner front more : List ℕ) (w : WordValue) → old.text ≡ inner → IsBehindGap inner front → front ≡ 40 ∷ 42 ∷ more → w.line ≡ old.last → FindsNoWord old w
+open_found old inner front more w ei g c el = λ unknown n is.
     let none : behind_comment more ≡ None = sym (ap (λ x. behind_space x) c) ∙ g.3 in
-    inr (g.0, more, ei ∙ g.1 ∙ ap (λ x. g.0 ++ x) c ∙ sym (append_assoc g.0 (40 ∷ 42 ∷ []) more), g.2, no_end more none)
+    inr ((g.0, more, ei ∙ g.1 ∙ ap (λ x. g.0 ++ x) c ∙ sym (append_assoc g.0 (40 ∷ 42 ∷ []) more), g.2, no_end more none), el)
 
 -- where the word behind one stands that is no body
 same_stage : (t : Token) (s : Stage) → ((b : List ℕ) → t ≡ token.Body b → ⊥) → stage_after s t ≡ stage_behind t s
@@ -58,7 +58,7 @@ body_moves_on old new w body et es eb = λ known.
 stops_elsewhere : (old : LexerValue) (w : WordValue) → (IsBodyPlace (is_due old.stage) old.text → ⊥) → FindsNoWord old w → StopsAt old w
 stops_elsewhere old w none finds = λ unknown n is. elim (finds unknown n is) [
   | inl h ↦ unknown_word none h
-  | inr h ↦ open_comment none h
+  | inr h ↦ open_comment none h.0 h.1
 ]
 
 -- the same of a word, if there is one
@@ -70,8 +70,12 @@ some_left : (text : List ℕ) → 0 < length text → text ≢ []
 some_left text l e = let none : length text ≡ 0 = ap length e in omega (arith, l, none)
 
 -- where a body is due, but there is none
-pub stops_for_body : (old : LexerValue) (w : WordValue) → is_due old.stage ≡ true → 0 < length old.text → BeginsNoBlock old.text → (w.token ≡ token.Unknown → HasNoBodyThen old.text) → StopsAt old w
-stops_for_body old w due some none bodiless = λ unknown n is. no_body (due, some_left old.text some, none) (bodiless unknown)
+pub stops_for_body : (old : LexerValue) (w : WordValue) → is_due old.stage ≡ true → 0 < length old.text → BeginsNoBlock old.text → (w.token ≡ token.Unknown → HasNoBodyThen old.text) → IsToldThere old w → StopsAt old w
+stops_for_body old w due some none bodiless told = λ unknown n is. no_body (due, some_left old.text some, none) (bodiless unknown) (there (told unknown) n is)
+  where
+    there : ((BeginsBlank old.text → ⊥) × (w.line ≡ old.line)) ⊎ (BeginsBlank old.text × (w.line ≡ old.last)) → (n : ℕ) → old.line ≡ min n 18446744073709551615 → IsLineOfNoBody old.last n old.text w.line
+    there (inl (some, first)) n is = inl (some, first ∙ is)
+    there (inr last) n is = inr last
 
 -- where the next word stands, and behind how many bodies
 abbrev pub IsPlacedTo : List WordValue → LexerValue → Type 0
@@ -81,8 +85,8 @@ stage_after_last : (s : Stage) (ts : List Token) (t : Token) → stage_after_all
 stage_after_last s [] t = refl
 stage_after_last s (u ∷ ts) t = stage_after_last (stage_after s u) ts t
 
-pub placed_first : (text : List ℕ) (left : LexerValue) → left ≡ record { text = text; line = 1; stage = stage.Outside; bodies = 0 } → IsPlacedTo [] left
-placed_first text left e known =
+pub placed_first : (text : List ℕ) (last : ℕ) (left : LexerValue) → left ≡ record { text = text; line = 1; stage = stage.Outside; bodies = 0; last = last } → IsPlacedTo [] left
+placed_first text last left e known =
     let none : left.bodies ≡ 0 = ap (λ (l : LexerValue). l.bodies) e in
     (ap (λ (l : LexerValue). l.stage) e, omega (arith, none))
 
@@ -135,29 +139,30 @@ last_parts {A} (z ∷ xs) (u ∷ ys) x y e =
     (ap (λ (v : A). v ∷ xs) first ∙ ap (λ (vs : List A). u ∷ vs) parts.0, parts.1)
 
 -- no word stands there behind as many bodies or more
-no_word_behind : (due : Bool) (k m n : ℕ) (text : List ℕ) (line : ℕ) → k ≤ m → HasNoWord due k n text line → HasNoWord due m n text line
-no_word_behind due k m n text line l (unknown_word a b) = unknown_word a b
-no_word_behind due k m n text line l (open_comment a b) = open_comment a b
-no_word_behind due k m n text line l (no_body a b) = no_body a b
-no_word_behind due k m n text line l (many_bodies a b c) = many_bodies a b (omega (arith, c, l))
+no_word_behind : (last : ℕ) (due : Bool) (k m n : ℕ) (text : List ℕ) (line : ℕ) → k ≤ m → HasNoWord last due k n text line → HasNoWord last due m n text line
+no_word_behind last due k m n text line l (unknown_word a b) = unknown_word a b
+no_word_behind last due k m n text line l (open_comment a b e) = open_comment a b e
+no_word_behind last due k m n text line l (no_body a b e) = no_body a b e
+no_word_behind last due k m n text line l (many_bodies a b c e) = many_bodies a b (omega (arith, c, l)) e
 
-abbrev StopsBehind : List ℕ → List WordValue → WordValue → Type 0
-StopsBehind text front w = BeginsWithWordsThen (λ n rest. HasNoWordBehind front n rest w.line) text front
+abbrev StopsBehind : ℕ → List ℕ → List WordValue → WordValue → Type 0
+StopsBehind last text front w = BeginsWithWordsThen (λ n rest. HasNoWordBehind last front n rest w.line) text front
 
-pub stopped_first : (text : List ℕ) → IsStoppedBy text []
-stopped_first text [] w e unknown = absurd cc
-stopped_first text (v ∷ front) w e unknown = absurd cc
+pub stopped_first : (last : ℕ) (text : List ℕ) → IsStoppedBy last text []
+stopped_first last text [] w e unknown = absurd cc
+stopped_first last text (v ∷ front) w e unknown = absurd cc
 
-pub stopped_next : (text : List ℕ) (ws us : List WordValue) (w : WordValue) (left : LexerValue) → us ≡ ws ++ w ∷ [] → AreKnown ws → IsCountedTo text ws left → IsPlacedTo ws left → StopsAt left w → IsStoppedBy text us
-stopped_next text ws us w left e known counts places stops = λ front v parts unknown.
+pub stopped_next : (last : ℕ) (text : List ℕ) (ws us : List WordValue) (w : WordValue) (left : LexerValue) → us ≡ ws ++ w ∷ [] → AreKnown ws → IsCountedTo text ws left → IsPlacedTo ws left → left.last ≡ last → StopsAt left w → IsStoppedBy last text us
+stopped_next last text ws us w left e known counts places ends stops = λ front v parts unknown.
     let same = last_parts ws front w v (sym e ∙ parts) in
     let c = counts known in
     let p = places known in
-    let none : HasNoWord (is_due left.stage) left.bodies c.0 left.text w.line = stops (ap (λ (x : WordValue). x.token) same.1 ∙ unknown) c.0 c.1 in
-    let behind : HasNoWord (is_due left.stage) (length (body_lines ws)) c.0 left.text w.line = no_word_behind (is_due left.stage) left.bodies (length (body_lines ws)) c.0 left.text w.line p.1 none in
-    let placed : HasNoWordBehind ws c.0 left.text w.line = subst (λ s. HasNoWord (is_due s) (length (body_lines ws)) c.0 left.text w.line) p.0 behind in
-    let made : StopsBehind text ws w = begins_then (λ n rest. HasNoWordBehind ws n rest w.line) c.0 left.text (tokens ws) (word_lines ws) 1 text c.2 placed in
-    subst (λ (x : List WordValue). StopsBehind text x v) same.0 (subst (λ (x : WordValue). StopsBehind text ws x) same.1 made)
+    let found : HasNoWord left.last (is_due left.stage) left.bodies c.0 left.text w.line = stops (ap (λ (x : WordValue). x.token) same.1 ∙ unknown) c.0 c.1 in
+    let none : HasNoWord last (is_due left.stage) left.bodies c.0 left.text w.line = subst (λ l. HasNoWord l (is_due left.stage) left.bodies c.0 left.text w.line) ends found in
+    let behind : HasNoWord last (is_due left.stage) (length (body_lines ws)) c.0 left.text w.line = no_word_behind last (is_due left.stage) left.bodies (length (body_lines ws)) c.0 left.text w.line p.1 none in
+    let placed : HasNoWordBehind last ws c.0 left.text w.line = subst (λ s. HasNoWord last (is_due s) (length (body_lines ws)) c.0 left.text w.line) p.0 behind in
+    let made : StopsBehind last text ws w = begins_then (λ n rest. HasNoWordBehind last ws n rest w.line) c.0 left.text (tokens ws) (word_lines ws) 1 text c.2 placed in
+    subst (λ (x : List WordValue). StopsBehind last text x v) same.0 (subst (λ (x : WordValue). StopsBehind last text ws x) same.1 made)
 
 pub known_first : AreWordsButLast []
 known_first [] w e = absurd cc

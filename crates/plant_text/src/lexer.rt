@@ -5,9 +5,10 @@ ghost use Rattle.plant_text.specs.Words.{word_of, front_len};
 ghost use Rattle.words.specs.Lines.{without_last};
 ghost use Rattle.plant_text.specs.declared.token.Token.TheVariants as token;
 ghost use Rattle.plant_text.specs.declared.lexer.Stage.TheVariants as stage;
+ghost use Rattle.plant_text.specs.Lines.{last_line};
 ghost use Rattle.plant_text.specs.Spelling.{HasNoBodyThen, BeginsNoBlock, IsGap, feeds};
 ghost use Rattle.plant_text.specs.Places.{stage_behind, is_due, is_body};
-ghost use Rattle.plant_text.specs.Steps.Lexing.{part_before, line_behind, IsPart, IsKnownThen, IsFirstWord, FindsFirstWord, StandsFirst, MovesOn, FindsNoWord, StopsAt, IsNoBodyThere, StandsInPlace, IsWhole, ReadsWord, ReadsBody, ReadsFirst, ReadsNone};
+ghost use Rattle.plant_text.specs.Steps.Lexing.{part_before, line_behind, IsPart, IsKnownThen, IsFirstWord, FindsFirstWord, StandsFirst, MovesOn, FindsNoWord, StopsAt, IsNoBodyThere, StandsInPlace, IsWhole, ReadsWord, ReadsBody, ReadsFirst, ReadsNone, IsToldThere};
 
 use crate::bodies::{
     begins_no_block, behind_blank_line, behind_body, is_blank_line, without_return,
@@ -60,12 +61,21 @@ fn feeds(text: &[u8]) -> u64
     text.iter().filter(|c| **c == b'\n').count() as u64
 }
 
-/// The number of the last line. A line feed at the end begins no further line.
-fn last_line(text: &[u8]) -> u64 {
+/// The text without its last byte, where that is a line feed.
+fn without_feed(text: &[u8]) -> &[u8]
+    ensures { result.now ≡ without_last 10 text.now }
+{
     match text {
-        [front @ .., b'\n'] => feeds(front).saturating_add(1),
-        _ => feeds(text).saturating_add(1),
+        [front @ .., b'\n'] => front,
+        _ => text,
     }
+}
+
+/// The number of a text's last line. A line feed at the end begins no further line.
+pub fn last_line(text: &str) -> u64
+    ensures { result ≡ last_line text.now }
+{
+    feeds(without_feed(text.as_bytes())).saturating_add(1)
 }
 
 /// The text of a body that lies before `rest`. `None`: it is not UTF-8.
@@ -93,27 +103,21 @@ impl<'a> Model for Lexer<'a> {
 
     ghost Value = { LexerValue };
 
-    ghost view = { λ l. record { text = l.rest.now; line = l.line; stage = l.stage; bodies = l.bodies } };
+    ghost view = { λ l. record { text = l.rest.now; line = l.line; stage = l.stage; bodies = l.bodies; last = l.last } };
 }
 
 impl<'a> Lexer<'a> {
     /// All words of a text.
     pub fn new(text: &'a str) -> Lexer<'a>
-        ensures { result ≡ record { text = without_last 13 text.now; line = 1; stage = stage.Outside; bodies = 0 } }
+        ensures { result ≡ record { text = without_last 13 text.now; line = 1; stage = stage.Outside; bodies = 0; last = last_line text.now } }
     {
-        let text = text.as_bytes();
         Lexer {
-            rest: without_return(text),
+            rest: without_return(text.as_bytes()),
             line: 1,
             last: last_line(text),
             stage: Stage::Outside,
             bodies: 0,
         }
-    }
-
-    /// The number of the text's last line.
-    pub fn last(&self) -> u64 {
-        self.last
     }
 
     /// Whether a body begins here, unless a block of variables does.
@@ -131,6 +135,7 @@ impl<'a> Lexer<'a> {
         ensures line { self.new.line ≡ line_behind self.old rest.now }
         ensures stage { self.new.stage ≡ self.old.stage }
         ensures counted { self.new.bodies ≡ self.old.bodies }
+        ensures ends { self.new.last ≡ self.old.last }
     {
         let passed = &self.rest[..self.rest.len().saturating_sub(rest.len())];
         self.line = self.line.saturating_add(feeds(passed));
@@ -144,6 +149,7 @@ impl<'a> Lexer<'a> {
         ensures end { self.new.text ≡ [] }
         ensures line { self.new.line ≡ self.old.line }
         ensures counted { self.new.bodies ≡ self.old.bodies }
+        ensures ends { self.new.last ≡ self.old.last }
     {
         self.rest = &[];
         Word::new(Token::Unknown, line)
@@ -156,6 +162,7 @@ impl<'a> Lexer<'a> {
         ensures every { IfOk result (λ w. (word rest : List ℕ) → IsWhole self.old.text word rest → (w.token ≡ word_of word) × (self.new.text ≡ rest)) }
         ensures stage { IfOk result (λ w. w.token ≢ token.Unknown → self.new.stage ≡ stage_behind w.token self.old.stage) }
         ensures counted { OnOk result (self.new.bodies ≡ self.old.bodies) }
+        ensures ends { OnOk result (self.new.last ≡ self.old.last) }
         ensures line { OnOk result (self.new.line ≡ self.old.line) }
         ensures begins { IfOk result (λ w. w.line ≡ self.old.line) }
         ensures is { IfOk result (λ w. w.token ≡ word_of (take (front_len self.old.text) self.old.text)) }
@@ -181,6 +188,8 @@ impl<'a> Lexer<'a> {
         ensures word { IfOk result (λ w. IsFirstWord self.old.text w.token self.new.text) }
         ensures first { IfOk result (λ w. StandsFirst self.old w self.new) }
         ensures none { IfOk result (λ w. w.token ≡ token.Unknown → HasNoBodyThen self.old.text) }
+        ensures told { IfOk result (λ w. IsToldThere self.old w) }
+        ensures ends { OnOk result (self.new.last ≡ self.old.last) }
         ensures body { IfOk result (λ w. w.token ≢ token.Unknown → is_body w.token ≡ true) }
         ensures every { IfOk result (λ w. ReadsBody self.old w self.new) }
         ensures moves_on { IfOk result (λ w. MovesOn self.old w self.new) }
@@ -212,6 +221,7 @@ impl<'a> Lexer<'a> {
         ensures every { IfOk result (λ w. ReadsWord self.old w self.new) }
         ensures none { IfOk result (λ w. IsGap self.old.text → w ≡ None) }
         ensures word { IfOk result (λ w. FindsFirstWord self.old.text w self.new.text) }
+        ensures ends { OnOk result (self.new.last ≡ self.old.last) }
         ensures first { IfOk result (λ w. IfSome w (λ t. StandsFirst self.old t self.new)) }
         ensures moves_on { IfOk result (λ w. IfSome w (λ t. MovesOn self.old t self.new)) }
         ensures stops { IfOk result (λ w. IfSome w (λ t. FindsNoWord self.old t)) }
@@ -236,6 +246,7 @@ impl<'a> Lexer<'a> {
         ensures every { IfOk result (λ w. ReadsFirst self.old w self.new) }
         ensures none { IfOk result (λ w. ReadsNone self.old w) }
         ensures word { IfOk result (λ w. FindsFirstWord self.old.text w self.new.text) }
+        ensures ends { OnOk result (self.new.last ≡ self.old.last) }
         ensures first { IfOk result (λ w. IfSome w (λ t. StandsFirst self.old t self.new)) }
         ensures moves_on { IfOk result (λ w. IfSome w (λ t. MovesOn self.old t self.new)) }
         ensures stops { IfOk result (λ w. IfSome w (λ t. StopsAt self.old t)) }

@@ -12,6 +12,7 @@ mod word_kinds;
 mod word_list;
 
 pub use laws::one_words;
+pub use lexer::last_line;
 pub use token::{Keyword, Punctuation, Token};
 pub use word::Word;
 pub use word_list::{Words, read_words};

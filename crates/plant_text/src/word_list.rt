@@ -1,6 +1,6 @@
 ghost use Rattle.std.specs.Prelude.{◌≡◌, ◌<◌, ◌^◌, length, IfOk};
 ghost use Rattle.words.specs.Lines.{without_last};
-ghost use Rattle.plant_text.specs.Lines.{IsSpelledBy, IsBegunBy, IsStoppedBy, AreWordsButLast, AreInTheirPlaces};
+ghost use Rattle.plant_text.specs.Lines.{last_line, IsSpelledBy, IsBegunBy, IsStoppedBy, AreWordsButLast, AreInTheirPlaces};
 ghost use Rattle.plant_text.specs.Steps.Lexing.{AreAllWords};
 
 use crate::lexer::Lexer;
@@ -12,7 +12,6 @@ use std::marker::Model;
 #[derive(Debug, Drop)]
 pub struct Words {
     words: Vec<Word>,
-    last: u64,
 }
 
 impl Model for Words {
@@ -32,11 +31,6 @@ impl Words {
     {
         self.words.as_slice()
     }
-
-    /// The number of the text's last line.
-    pub fn last(&self) -> u64 {
-        self.last
-    }
 }
 
 /// Reads the words of a plant's text. What is no word ends them as `Unknown`: an unknown character, an unfinished
@@ -45,15 +39,14 @@ pub fn read_words(alloc: Global, text: &str) -> Result<Words, AllocError>
     ensures spelled { IfOk result (IsSpelledBy (without_last 13 text.now)) }
     ensures every { IfOk result (AreAllWords (without_last 13 text.now)) }
     ensures begun { IfOk result (IsBegunBy (without_last 13 text.now)) }
-    ensures stops { IfOk result (IsStoppedBy (without_last 13 text.now)) }
+    ensures stops { IfOk result (IsStoppedBy (last_line text.now) (without_last 13 text.now)) }
     ensures known { IfOk result AreWordsButLast }
     ensures placed { IfOk result AreInTheirPlaces }
 {
     let mut lexer = Lexer::new(text);
-    let last = lexer.last();
     let mut words = Vec::new(alloc);
     'words: while let Some(word) = lexer.next(alloc)? {
         words.push(word)?;
     }
-    Ok(Words { words, last })
+    Ok(Words { words })
 }

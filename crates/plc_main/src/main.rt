@@ -74,7 +74,7 @@ fn keeper_in(
     ensures { IfOk result (λ k. string_bytes k.resource ≡ resource_text plant.now resource) }
 {
     let name = resource_name(plant, resource);
-    let folder = SystemFolder::new(host.clone()?, folder)?;
+    let folder = SystemFolder::new(host.clone()?, folder)?.private();
     FileKeeper::new(alloc, folder, name)
 }
 
@@ -295,7 +295,9 @@ fn run_kept<R: Clock + Print + Eprint + AllocGlobal + Threads + Wait + Sync>(
     requires { IsRead (one_text_of request.now.words.items) prepared.inputs }
 {
     let _lock = match FolderLock::take(host, folder) {
-        Ok(lock) => lock,
+        Ok(lock) => Some(lock),
+        // The keepers tell it.
+        Err(LockFault::Missing) => None,
         Err(fault) => return Ok(Answered::with(print_lock_fault(rt, folder, fault)?)),
     };
     let Ok(plant) = Arc::try_clone(&prepared.plant) else {

@@ -151,12 +151,21 @@ def try_links():
         os.symlink("../kept", path)
         compare("a link", run(place), (0, lines(7, 1), ""))
         holds("a link", path, b"7\n")
+        # One in the place of the temporary file isn't.
+        os.symlink("../kept", path.replace(".inc", ".tmp"))
+        compare("a link for the temporary file", run(place), (0, lines(8, 2), ""))
+        holds("a link for the temporary file", os.path.join(place, "kept"), b"6\n")
+        if os.path.islink(path) or os.stat(path).st_mode & 0o777 != 0o600:
+            told.append("a file that is made isn't its owner's alone")
 
 
 def try_folders():
     with tempfile.TemporaryDirectory() as place:
         for folder in ("D", "", "D/E"):
             compare(f"no folder {folder!r}", run(place, folder), (3, "", NO_REPORT))
+        os.symlink("loop", os.path.join(place, "loop"))
+        compare("a link to itself for the folder", run(place, "loop"), (3, "", "plc: loop: this folder's lock can't be opened\n"))
+        os.remove(os.path.join(place, "loop"))
         with open(os.path.join(place, "file"), "wb"):
             pass
         ran = run(place, "file")

@@ -1,19 +1,20 @@
 -- What is found in a resource's files.
-use Rattle.std.specs.Prelude.{ℕ, Option, Result, Ok, Err}
+use Rattle.std.specs.Prelude.{ℕ, List, Option, Result, Ok, Err}
 use Rattle.std.specs.Global.{Vec}
 use Rattle.keepers.specs.declared.keeper_fault.KeeperFault.{KeeperFault}
 use Rattle.keepers.specs.declared.keeper_fault.KeeperFault.TheVariants as fault
-use Rattle.keepers.specs.declared.folder_fault.FolderFault.TheVariants.{Failed}
-use Rattle.keepers.specs.KnownFiles.{KnownFile, IsRead}
+use Rattle.keepers.specs.declared.folder_fault.FolderFault.TheVariants as folder
+use Rattle.keepers.specs.KnownFiles.{KnownFile, Reading, IsRead}
 use Rattle.keepers.specs.KeptNumbers.{KeepsNumber, KeepsNoneFrom}
 
--- what is read of a file, as a keeper tells it
-abbrev pub IsReadOf : KnownFile → ℕ → Result (Option (Vec ℕ)) KeeperFault → Type 0
-IsReadOf file most (Ok found) = IsRead file most (Ok found)
-IsReadOf file most (Err fault.Unreadable) = IsRead file most (Err Failed)
-IsReadOf file most (Err fault.Unwritable) = ⊥
-IsReadOf file most (Err fault.Spent) = ⊥
-IsReadOf file most (Err fault.Memory) = Unit {0}
+-- What is read of a file, as a keeper tells it: Unreadable where the folder answers that it can't read it, Memory where it
+-- answers that memory is wanting.
+abbrev pub IsReadOf : Reading → KnownFile → List ℕ → ℕ → Result (Option (Vec ℕ)) KeeperFault → Type 0
+IsReadOf answers file name most (Ok found) = IsRead file most (Ok found)
+IsReadOf answers file name most (Err fault.Unreadable) = IsRead file most (Err folder.Failed) × answers name most (Err folder.Failed)
+IsReadOf answers file name most (Err fault.Unwritable) = ⊥
+IsReadOf answers file name most (Err fault.Spent) = ⊥
+IsReadOf answers file name most (Err fault.Memory) = answers name most (Err folder.Memory)
 
 -- the number that a file keeps was found, or it keeps none
 abbrev pub IsFound : KnownFile → Result ℕ KeeperFault → Type 0

@@ -220,14 +220,22 @@ IsUnended es words = (expected : List Expected) × (walk es words ≡ Some expec
 abbrev pub IsOnLine : ReaderValue → ℕ → List Token → Type 0
 IsOnLine left line rest = (all : List ℕ) → HasLinesOf all left → IsLineBefore all line rest
 
--- The words that are left lead to one that can't stand there, and this is its line; or they end too early.
+-- this is the line on which the text ends
+abbrev pub IsOnLast : ReaderValue → ℕ → Type 0
+IsOnLast left line = (all : List ℕ) → HasLinesOf all left → line ≡ left.last
+
+-- The words that are left lead to one that can't stand there, and this is its line; or they end too early, and this is
+-- the line on which the text ends.
 abbrev pub IsStuck : List Expected → ReaderValue → ℕ → Type 0
-IsStuck es left line = IsUnended es left.words ⊎ BeginWith (IsOnLine left line) (EndsUnexpected es) left.words
+IsStuck es left line =
+    (IsUnended es left.words × IsOnLast left line) ⊎ BeginWith (IsOnLine left line) (EndsUnexpected es) left.words
 
 -- where the fault is Syntax, so it is, whatever is expected behind these
 abbrev pub GetsStuck : List Expected → ReaderValue → GrammarFault → Type 0
 GetsStuck es left fault = fault.kind ≡ Syntax → (behind : List Expected) → IsStuck (es ++ behind) left fault.line
 
--- A plant goes on from all words that are left; or they lead to the first from which none does, and this is its line.
+-- A plant goes on from all words that are left, and this is the line on which the text ends; or they lead to the first
+-- from which none does, and this is its line.
 abbrev pub MeetsMisplaced : ReaderValue → ℕ → Type 0
-MeetsMisplaced left line = GoesOn left.words ⊎ BeginWith (IsOnLine left line) IsLastMisplaced left.words
+MeetsMisplaced left line =
+    (GoesOn left.words × IsOnLast left line) ⊎ BeginWith (IsOnLine left line) IsLastMisplaced left.words

@@ -46,9 +46,9 @@ pub record HasLinesOf (all : List ℕ) (r : ReaderValue) : Type 0 where
   pub parts : all ≡ front ++ r.lines
   pub each : length r.lines ≡ length r.words
 
--- Words were read from the front, each with its line.
+-- Words were read from the front, each with its line, and the text ends on the same line.
 abbrev pub KeepsLines : ReaderValue → ReaderValue → Type 0
-KeepsLines old new = (all : List ℕ) → HasLinesOf all old → HasLinesOf all new
+KeepsLines old new = ((all : List ℕ) → HasLinesOf all old → HasLinesOf all new) × (new.last ≡ old.last)
 
 -- the words behind the next one
 abbrev pub behind : List Token → List Token

@@ -11,7 +11,7 @@ use Rattle.plant_text.specs.Words.{front_len, is_name_char, word_of}
 use Rattle.plant_text.specs.Spelling.{is_parted, IsGap, IsBody, IsBlankLine, IsBodyThen, first_line, IsEndLine, feeds, Spells, BeginsWithThen, BeginsNoBlock}
 use Rattle.plant_text.specs.Places.{stage_after, is_body, FitsPlace}
 pub use Rattle.plant_text.specs.Places.{stage_behind, is_due}
-use Rattle.plant_text.specs.Lines.{WordValue, body_line, IsUnknownWord, OpensComment, HasNoWord}
+use Rattle.plant_text.specs.Lines.{WordValue, body_line, IsUnknownWord, OpensComment, BeginsBlank, HasNoWord}
 
 -- the letters, digits and underscores that a text begins with
 abbrev pub letters : List ℕ → List ℕ
@@ -76,13 +76,14 @@ IsFirstWord text t rest = t ≢ token.Unknown → (more : List Token) → Spells
 abbrev pub FindsFirstWord : List ℕ → Option WordValue → List ℕ → Type 0
 FindsFirstWord text next rest = MatchOption next (IsGap text) (λ w. IsFirstWord text w.token rest)
 
--- what is left of a text, the number of the line on which it begins, where its first word stands, and how many bodies
--- lie before it
+-- what is left of a text, the number of the line on which it begins, where its first word stands, how many bodies lie
+-- before it, and the number of the last line
 pub record LexerValue : Type 0 where
   pub text : List ℕ
   pub line : ℕ
   pub stage : Stage
   pub bodies : ℕ
+  pub last : ℕ
 
 -- the number of the line on which the rest of a text begins
 abbrev pub line_behind : LexerValue → List ℕ → ℕ
@@ -103,15 +104,21 @@ abbrev pub MovesOn : LexerValue → WordValue → LexerValue → Type 0
 MovesOn old w new = w.token ≢ token.Unknown
     → (new.stage ≡ stage_after old.stage w.token) × (new.bodies ≤ old.bodies + length (body_line w))
 
--- If this is unknown, what stands behind the text's gap is no word, or a comment that doesn't end.
+-- If this is unknown, what stands behind the text's gap is no word, or a comment that doesn't end, for which the last line
+-- is told.
 abbrev pub FindsNoWord : LexerValue → WordValue → Type 0
 FindsNoWord old w = w.token ≡ token.Unknown → (n : ℕ) → old.line ≡ min n 18446744073709551615
-    → IsUnknownWord n old.text w.line ⊎ OpensComment old.text
+    → IsUnknownWord n old.text w.line ⊎ (OpensComment old.text × (w.line ≡ old.last))
+
+-- If this is unknown, it is on the line that is told where there is no body.
+abbrev pub IsToldThere : LexerValue → WordValue → Type 0
+IsToldThere old w = w.token ≡ token.Unknown
+    → ((BeginsBlank old.text → ⊥) × (w.line ≡ old.line)) ⊎ (BeginsBlank old.text × (w.line ≡ old.last))
 
 -- If this is unknown, no word stands in front of the text.
 abbrev pub StopsAt : LexerValue → WordValue → Type 0
 StopsAt old w = w.token ≡ token.Unknown → (n : ℕ) → old.line ≡ min n 18446744073709551615
-    → HasNoWord (is_due old.stage) old.bodies n old.text w.line
+    → HasNoWord old.last (is_due old.stage) old.bodies n old.text w.line
 
 -- VAR, VAR_INPUT or VAR_OUTPUT
 abbrev pub is_section : Token → Bool

@@ -1,7 +1,7 @@
 use Rattle.std.proofs.Common.{map, [], ◌∷◌, ap, sym, subst, ◌∙◌}
 use Rattle.std.proofs.lemmas.List.{map-append}
 use Rattle.words.specs.Lines.{without_last}
-use Rattle.plant_text.specs.Lines.{WordValue}
+use Rattle.plant_text.specs.Lines.{WordValue, last_line}
 use Rattle.plant_text.specs.Steps.Lexing.{LexerValue}
 use Rattle.plant_text.proofs.SpelledWords.{IsReadTo, read_first, read_next, read_all}
 use Rattle.plant_text.proofs.LineCounts.{counted_first, counted_next, begun_first, begun_next}
@@ -17,12 +17,13 @@ words-init c =
     let none = c.new-words.ensures.items in
     record {
       spelled = rw none (subst (λ (l : LexerValue). IsReadTo text [] l.text) (sym c.new-lexer.ensures) (read_first text));
-      counted = rw none (counted_first text c.new-lexer.result c.new-lexer.ensures);
-      every = rw none (up_to_first text c.new-lexer.result c.new-lexer.ensures);
+      counted = rw none (counted_first text _ c.new-lexer.result c.new-lexer.ensures);
+      every = rw none (up_to_first text _ c.new-lexer.result c.new-lexer.ensures);
       begun = rw none (begun_first text);
-      placed = rw none (placed_first text c.new-lexer.result c.new-lexer.ensures);
+      placed = rw none (placed_first text _ c.new-lexer.result c.new-lexer.ensures);
       open_at = rw none (open_first c.new-lexer.result);
-      stopped = rw none (stopped_first text);
+      stopped = rw none (stopped_first (last_line c.args.text.now) text);
+      ends = ap (λ (l : LexerValue). l.last) c.new-lexer.ensures;
       known = rw none known_first;
       in_places = rw none in_places_first;
     }
@@ -43,7 +44,8 @@ words-preserved c =
       begun = begun_next text c.words.words.items c.push.new.self.items word c.next.new.self c.in_ok-push.ensures.items c.words.invariant.begun counted;
       placed = placed_next c.words.words.items c.push.new.self.items word c.words.lexer c.next.new.self c.in_ok-push.ensures.items c.words.invariant.placed (rw c.in-Some.is at c.in_ok-word.ensures.moves_on);
       open_at = open_next c.words.words.items c.push.new.self.items word c.next.new.self c.in_ok-push.ensures.items known (rw c.in-Some.is at c.in_ok-word.ensures.last);
-      stopped = stopped_next text c.words.words.items c.push.new.self.items word c.words.lexer c.in_ok-push.ensures.items known c.words.invariant.counted c.words.invariant.placed (rw c.in-Some.is at c.in_ok-word.ensures.stops);
+      stopped = stopped_next (last_line c.args.text.now) text c.words.words.items c.push.new.self.items word c.words.lexer c.in_ok-push.ensures.items known c.words.invariant.counted c.words.invariant.placed c.words.invariant.ends (rw c.in-Some.is at c.in_ok-word.ensures.stops);
+      ends = c.in_ok-word.ensures.ends ∙ c.words.invariant.ends;
       known = known_next c.words.words.items c.push.new.self.items word c.in_ok-push.ensures.items known;
       in_places = in_places_next c.words.words.items c.push.new.self.items word c.words.lexer c.in_ok-push.ensures.items known c.words.invariant.placed (rw c.in-Some.is at c.in_ok-word.ensures.placed) c.words.invariant.in_places;
     }

@@ -1,5 +1,5 @@
-use Rattle.std.proofs.Common.{length, map}
-use Rattle.plant_text.specs.Lines.{WordValue, IsBegunBy, IsStoppedBy, AreWordsButLast, AreInTheirPlaces}
+use Rattle.std.proofs.Common.{◌≡◌, length, map}
+use Rattle.plant_text.specs.Lines.{WordValue, last_line, IsBegunBy, IsStoppedBy, AreWordsButLast, AreInTheirPlaces}
 use Rattle.words.specs.Lines.{without_last}
 use Rattle.plant_text.proofs.SpelledWords.{IsReadTo}
 use Rattle.plant_text.proofs.LineCounts.{IsCountedTo}
@@ -15,7 +15,8 @@ invariant-words l = record {
   begun : IsBegunBy (without_last 13 l.text) l.words.items;
   placed : IsPlacedTo l.words.items l.lexer;
   open_at : IsOpenAt l.words.items l.lexer;
-  stopped : IsStoppedBy (without_last 13 l.text) l.words.items;
+  ends : l.lexer.last ≡ last_line l.text;
+  stopped : IsStoppedBy (last_line l.text) (without_last 13 l.text) l.words.items;
   known : AreWordsButLast l.words.items;
   in_places : AreInTheirPlaces l.words.items;
 }

@@ -28,7 +28,7 @@ use Rattle.plant.proofs.BodyCounts.{begun_by_programs}
 use Rattle.plant.proofs.DrawnTrees.{drawn_tree, drawn_have_ladders, bodies_drawn}
 use Rattle.plant.proofs.WordFaults.{plant_of_word, no_body, of_name, no_name, memory_no_body, memory_no_name, body_no_name, syntax_no_memory, body_no_syntax, of_syntax, source_no_syntax}
 use Rattle.plant.proofs.KnownWords.{words_known}
-use Rattle.plant.proofs.MisplacedWords.{syntax_first}
+use Rattle.plant.proofs.MisplacedWords.{no_tree, syntax_first}
 use Rattle.plant_grammar.specs.SourceLines.{AreSourcesOn}
 use Rattle.plant.proofs.CutSources.{sources_cut}
 use Rattle.plant.proofs.RefusedKnown.{begun_by_front, begun_by_refused, own_lines}
@@ -259,13 +259,16 @@ returns-in_err-resources-clause-syntax c =
     let own = subst (HasLinesOf (map (λ (w : WordValue). w.line) us)) (sym c.new-reader.ensures) (own_lines us _) in
     let left = subst (λ (vs : List WordValue). HasLinesOf (map (λ (w : WordValue). w.line) vs) c.new-reader.result) c.words-2.ensures.value own in
     kept_fault (fault_of_word word) (λ f. f.kind ≡ Syntax → IsSyntaxIn c.args.text.now f) c.from_residual-in_err-resources.result c.from_residual-in_err-resources.ensures.1
-    (λ syntax. record {
-      no_plant = λ tree more few formed plain spelled.
-          let start : c.new-reader.result.words ≡ words_of tree ++ more = sym words ∙ c.in_ok-words.ensures.every (words_of tree ++ more) (c.words_behind_are_in_place.ensures tree more few plain) spelled in
-          absurd (c.in_err-resources.ensures.syntax (of_syntax word.kind syntax) tree more start formed);
+    (λ syntax.
+    let none = no_tree c.args.text.now (λ tree more few formed plain spelled.
+    let start : c.new-reader.result.words ≡ words_of tree ++ more = sym words ∙ c.in_ok-words.ensures.every (words_of tree ++ more) (c.words_behind_are_in_place.ensures tree more few plain) spelled in
+    absurd (c.in_err-resources.ensures.syntax (of_syntax word.kind syntax) tree more start formed)) in
+    record {
+      no_tree = none.0;
+      faultless = none.1;
       first = syntax_first c.args.text.now ws c.new-reader.result word.line words
           (bodies_drawn c.new-reader.result.words c.read_tree-tree.new.texts.items c.in_ok-types.types.items c.in_ok-types.ensures.ok (c.in_err-resources.ensures.whole (of_syntax word.kind syntax)))
-          left c.in_ok-words.ensures.spelled c.in_ok-words.ensures.begun c.in_ok-words.ensures.stops c.in_ok-words.ensures.known c.in_ok-words.ensures.placed
+          left (ap (λ (r : ReaderValue). r.last) c.new-reader.ensures ∙ c.last_line.ensures) c.in_ok-words.ensures.spelled c.in_ok-words.ensures.begun c.in_ok-words.ensures.stops c.in_ok-words.ensures.known c.in_ok-words.ensures.placed
           (c.in_err-resources.ensures.misplaced (of_syntax word.kind syntax) (subst (λ (r : ReaderValue). length r.words < 2 ^ 63) (sym c.new-reader.ensures) (subst (λ n. n < 2 ^ 63) (sym (length-map c.words-2.result.now (λ (w : WordValue). w.token))) c.words-2.ensures.few)));
     })
 
@@ -291,20 +294,23 @@ returns-in_err-end-clause-syntax c =
     let own = subst (HasLinesOf (map (λ (w : WordValue). w.line) us)) (sym c.new-reader.ensures) (own_lines us _) in
     let left = subst (λ (vs : List WordValue). HasLinesOf (map (λ (w : WordValue). w.line) vs) c.new-reader.result) c.words-2.ensures.value own in
     kept_fault (fault_of_word word) (λ f. f.kind ≡ Syntax → IsSyntaxIn c.args.text.now f) c.from_residual-in_err-end.result c.from_residual-in_err-end.ensures.1
-    (λ syntax. record {
-      no_plant = λ tree more few formed plain spelled.
-          let start : c.new-reader.result.words ≡ words_of tree ++ more = sym words ∙ c.in_ok-words.ensures.every (words_of tree ++ more) (c.words_behind_are_in_place.ensures tree more few plain) spelled in
-          let left = (c.in_ok-resources.ensures.only tree more start).0 in
-          let both : words_of found ++ more ≡ words_of tree ++ more = ap (λ (rest : List Token). words_of found ++ rest) (sym left) ∙ sym read.written ∙ start in
-          let faultless : IsTreeFaultless found = record {
-            lawful = read.lawful;
-            drawn = drawn_have_ladders texts types drawn;
-            sources = subst (λ (t : Tree). All (AreBindsFed t) (all_uses t)) same (c.in_ok-plant.ensures.sources read.name);
-          } in
-          let of_faultless : HasFaultlessWords tree = (found, append_cancel_right (words_of found) (words_of tree) more both, faultless) in
-          ((λ none. c.in_err-end.ensures.err.1 (left ∙ none)), of_faultless);
+    (λ syntax.
+    let none = no_tree c.args.text.now (λ tree more few formed plain spelled.
+    let start : c.new-reader.result.words ≡ words_of tree ++ more = sym words ∙ c.in_ok-words.ensures.every (words_of tree ++ more) (c.words_behind_are_in_place.ensures tree more few plain) spelled in
+    let left = (c.in_ok-resources.ensures.only tree more start).0 in
+    let both : words_of found ++ more ≡ words_of tree ++ more = ap (λ (rest : List Token). words_of found ++ rest) (sym left) ∙ sym read.written ∙ start in
+    let faultless : IsTreeFaultless found = record {
+      lawful = read.lawful;
+      drawn = drawn_have_ladders texts types drawn;
+      sources = subst (λ (t : Tree). All (AreBindsFed t) (all_uses t)) same (c.in_ok-plant.ensures.sources read.name);
+    } in
+    let of_faultless : HasFaultlessWords tree = (found, append_cancel_right (words_of found) (words_of tree) more both, faultless) in
+    ((λ none. c.in_err-end.ensures.err.1 (left ∙ none)), of_faultless)) in
+    record {
+      no_tree = none.0;
+      faultless = none.1;
       first = syntax_first c.args.text.now ws c.new-reader.result word.line words
           (bodies_drawn c.new-reader.result.words texts types drawn (λ ps more formed parts. c.programs_are_the_first.ensures ps found more c.read_tree-tree.new.reader.words (sym parts ∙ read.written)))
-          left c.in_ok-words.ensures.spelled c.in_ok-words.ensures.begun c.in_ok-words.ensures.stops c.in_ok-words.ensures.known c.in_ok-words.ensures.placed
+          left (ap (λ (r : ReaderValue). r.last) c.new-reader.ensures ∙ c.last_line.ensures) c.in_ok-words.ensures.spelled c.in_ok-words.ensures.begun c.in_ok-words.ensures.stops c.in_ok-words.ensures.known c.in_ok-words.ensures.placed
           (subst (λ n. MeetsMisplaced c.new-reader.result n) (sym (ap (λ (f : GrammarFault). f.line) c.in_err-end.ensures.err.0)) (c.in_ok-resources.ensures.behind c.in_err-end.ensures.err.1));
     })

@@ -63,7 +63,7 @@ returns-in_err-resources-clause-name c =
     let written = begun_words c.args.texts.now.items texts start one c.requires c.in_ok-programs.ensures.ok in
     kept_fault fault (BeginRefused (RefusesPlantWords (programs_of texts)) c.args.reader.now) c.from_residual-in_err-resources.result c.from_residual-in_err-resources.ensures.1
     (λ all h of. in_configuration fault.kind (programs_of texts) c.in_ok-_name._name c.new-tally.result start one c.keyword.new.self.words c.name.new.self.words written c.in_ok-keyword.ensures.ok c.in_ok-_name.ensures.ok c.new-tally.ensures
-    (subst (λ (ts : List TextValue). BeginWith (IsLineBefore all fault.line) (RefusesResources fault.kind c.new-tally.result.instances c.new-tally.result.binds (programs_of ts)) c.name.new.self.words) c.as_slice.ensures.value (c.in_err-resources.ensures.names all (c.in_ok-_name.ensures.left all (c.in_ok-keyword.ensures.left all (c.in_ok-programs.ensures.left all h))) of)))
+    (subst (λ (ts : List TextValue). BeginWith (IsLineBefore all fault.line) (RefusesResources fault.kind c.new-tally.result.instances c.new-tally.result.binds (programs_of ts)) c.name.new.self.words) c.as_slice.ensures.value (c.in_err-resources.ensures.names all (c.in_ok-_name.ensures.left.0 all (c.in_ok-keyword.ensures.left.0 all (c.in_ok-programs.ensures.left.0 all h))) of)))
 
 pub returns-in_err-programs-clause-refused : read_tree_goals.returns-in_err-programs-clause-refused
 returns-in_err-programs-clause-refused c =
@@ -174,13 +174,15 @@ returns-in_err-resources-clause-misplaced c =
     c.in_err-resources.ensures.stuck)) syntax))
 
 pub returns-clause-lined : read_tree_goals.returns-clause-lined
-returns-clause-lined c = λ all h. c.in_ok-resources.ensures.lined all (c.in_ok-_name.ensures.left all (c.in_ok-keyword.ensures.left all (c.in_ok-programs.ensures.left all h)))
+returns-clause-lined c = λ all h. c.in_ok-resources.ensures.lined all (c.in_ok-_name.ensures.left.0 all (c.in_ok-keyword.ensures.left.0 all (c.in_ok-programs.ensures.left.0 all h)))
 
 pub returns-clause-behind : read_tree_goals.returns-clause-behind
 returns-clause-behind c =
     let read = returns-clause-ok c in
-    misplaced_behind (tree_written read.name c.programs.new.texts.items c.in_ok-resources.resources.items) c.args.reader.now c.resources.new.self read.written
-    (λ all h. c.in_ok-resources.ensures.left all (c.in_ok-_name.ensures.left all (c.in_ok-keyword.ensures.left all (c.in_ok-programs.ensures.left all h)))) read.lawful
+    misplaced_behind (tree_written read.name c.programs.new.texts.items c.in_ok-resources.resources.items) c.args.reader.now c.resources.new.self read.written (
+      λ all h. c.in_ok-resources.ensures.left.0 all (c.in_ok-_name.ensures.left.0 all (c.in_ok-keyword.ensures.left.0 all (c.in_ok-programs.ensures.left.0 all h))),
+      c.in_ok-resources.ensures.left.1 ∙ c.in_ok-_name.ensures.left.1 ∙ c.in_ok-keyword.ensures.left.1 ∙ c.in_ok-programs.ensures.left.1,
+    ) read.lawful
 
 pub returns-in_err-programs-clause-whole : read_tree_goals.returns-in_err-programs-clause-whole
 returns-in_err-programs-clause-whole c =

@@ -1,5 +1,5 @@
-use Rattle.std.proofs.Common.{◌≡◌, ◌+◌, ◌++◌, min, true, false, List, ℕ, ap, sym, subst, rules, tests, ◌∙◌}
-use Rattle.plant_text.specs.Lines.{WordValue}
+use Rattle.std.proofs.Common.{◌≡◌, inr, ◌+◌, ◌++◌, min, true, false, List, ℕ, ap, sym, subst, rules, tests, ◌∙◌}
+use Rattle.plant_text.specs.Lines.{WordValue, BeginsBlank}
 use Rattle.plant_text.specs.Spelling.{IsBodyThen}
 use Rattle.plant_text.specs.Steps.Lexing.{LexerValue}
 use Rattle.plant_text.proofs.SpelledWords.{body_read}
@@ -86,3 +86,10 @@ returns-clause-moves_on c =
     let counted : c.args.self.now.bodies ≡ c.self.inside.bodies = cc in
     body_moves_on c.args.self.now c.advance.new.self c.new.result c.in-Some-2.body (ap (λ (w : WordValue). w.token) c.new.ensures) c.advance.ensures.stage
     (c.advance.ensures.counted ∙ c.saturating_add-self-inside.ensures ∙ ap (λ (x : ℕ). min (x + 1) 18446744073709551615) (sym counted))
+
+pub returns-in_default-2-clause-told : goal.returns-in_default-2-clause-told
+returns-in_default-2-clause-told c = λ unknown.
+    let same : c.args.self.now.text ≡ c.self.inside.rest.now = sym (ap (λ (l : LexerValue). l.text) c.self.view_is) in
+    let lasts : c.args.self.now.last ≡ c.self.inside.last = sym (ap (λ (l : LexerValue). l.last) c.self.view_is) in
+    let yes : c.is_blank_line.result ≡ true = search (rules, tests) in
+    inr (subst BeginsBlank (sym same) (c.is_blank_line.ensures.0 yes), c.stop-in_default-2.ensures.begins ∙ sym lasts)

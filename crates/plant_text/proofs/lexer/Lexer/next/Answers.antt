@@ -33,7 +33,7 @@ returns-then-not-is_body_due-clause-stops c =
 pub returns-then-begins_no_block-clause-stops : goal.returns-then-begins_no_block-clause-stops
 returns-then-begins_no_block-clause-stops c =
     let due : c.is_body_due.result ≡ true = search (rules, tests) in
-    stops_for_body c.args.self.now c.in_ok-body.field-0 (c.is_body_due.ensures.yes due) (c.is_body_due.ensures.some due) (search (rules, tests)) c.in_ok-body.ensures.none
+    stops_for_body c.args.self.now c.in_ok-body.field-0 (c.is_body_due.ensures.yes due) (c.is_body_due.ensures.some due) (search (rules, tests)) c.in_ok-body.ensures.none c.in_ok-body.ensures.told
 
 pub returns-clause-stops : goal.returns-clause-stops
 returns-clause-stops c =

@@ -1,4 +1,4 @@
-use Rattle.std.proofs.Common.{◌≡◌, take, drop, arith, rules, tests}
+use Rattle.std.proofs.Common.{◌≡◌, ◌∙◌, sym, take, drop, arith, rules, tests}
 use Rattle.plant_text.specs.Words.{front_len}
 use Rattle.plant_text.proofs.BodyLines.{empty_of_length}
 use Rattle.plant_text.proofs.ReadWords.{gap_read, nothing_left, comment_left, no_word_left, front_two, not_empty}
@@ -63,4 +63,6 @@ returns-clause-there c =
 pub returns-in-40-clause-stops : goal.returns-in-40-clause-stops
 returns-in-40-clause-stops c =
     let same : c.args.self.now.text ≡ c.self.inside.rest.now = cc in
+    let lasts : c.args.self.now.last ≡ c.self.inside.last = cc in
     open_found c.args.self.now c.self.inside.rest.now c.behind_gap-rest.result.now (drop 2 c.behind_gap-rest.result.now) _ same c.behind_gap-rest.ensures (front_two c.behind_gap-rest.result.now c.in-40.len_at_least (search (rules, tests)) (search (rules, tests)))
+    (c.stop.ensures.begins ∙ sym lasts)

@@ -37,14 +37,14 @@ returns-in_err-source-clause-names c =
     let fault = c.in_err-source.field-0.0 in
     let ds = variables c.args.program.now.program in
     kept_fault fault (BeginRefused (λ k. RefusesOneBind c.args.tally.now.binds ds c.args.before.now k) c.args.self.now) c.from_residual-in_err-source.result c.from_residual-in_err-source.ensures.1
-    (λ all h of. address_refused fault.kind c.args.tally.now.binds ds c.args.before.now c.in_ok-input.input c.in_ok-input.kind c.args.self.now.words c.bound_input.new.self.words c.punctuation.new.self.words (line_before all c.punctuation.new.self fault.line (c.in_ok-punctuation.ensures.left all (c.in_ok-input.ensures.left all h)) (c.in_err-source.ensures.line of)) c.in_ok-input.ensures.ok c.in_ok-punctuation.ensures.ok c.in_ok-input.ensures.kind c.in_ok-input.ensures.new c.in_ok-input.ensures.few
+    (λ all h of. address_refused fault.kind c.args.tally.now.binds ds c.args.before.now c.in_ok-input.input c.in_ok-input.kind c.args.self.now.words c.bound_input.new.self.words c.punctuation.new.self.words (line_before all c.punctuation.new.self fault.line (c.in_ok-punctuation.ensures.left.0 all (c.in_ok-input.ensures.left.0 all h)) (c.in_err-source.ensures.line of)) c.in_ok-input.ensures.ok c.in_ok-punctuation.ensures.ok c.in_ok-input.ensures.kind c.in_ok-input.ensures.new c.in_ok-input.ensures.few
     c.in_err-source.ensures.tells of)
 
 pub returns-clause-lined : bind_goals.returns-clause-lined
 returns-clause-lined c = (
   c.source_lines-parts.result,
   c.in_ok-push.ensures.items,
-  λ all h. source_stands all c.punctuation.new.self _ c.source.new.self.words c.source_lines-parts.result (c.in_ok-punctuation.ensures.left all (c.in_ok-input.ensures.left all h)) c.in_ok-source.ensures.ok c.source_lines-parts.ensures,
+  λ all h. source_stands all c.punctuation.new.self _ c.source.new.self.words c.source_lines-parts.result (c.in_ok-punctuation.ensures.left.0 all (c.in_ok-input.ensures.left.0 all h)) c.in_ok-source.ensures.ok c.source_lines-parts.ensures,
 )
 
 pub returns-in_err-input-clause-stuck : bind_goals.returns-in_err-input-clause-stuck

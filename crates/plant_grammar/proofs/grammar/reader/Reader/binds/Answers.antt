@@ -30,13 +30,13 @@ use Rattle.plant_grammar.proofs.grammar.reader.Reader.binds.Goals.{then-not-sees
 
 pub binds-preserved : goal.binds-preserved
 binds-preserved c = record {
-  left = λ all h. c.in_ok-bind-2.ensures.left all (c.in_ok-punctuation.ensures.left all (c.binds.invariant.left all h));
+  left = (λ all h. c.in_ok-bind-2.ensures.left.0 all (c.in_ok-punctuation.ensures.left.0 all (c.binds.invariant.left.0 all h)), c.in_ok-bind-2.ensures.left.1 ∙ c.in_ok-punctuation.ensures.left.1 ∙ c.binds.invariant.left.1);
   some = omega (arith, grown c.binds.binds.items c.push-in-binds.new.self.items c.in_ok-bind-2.field-0 c.in_ok-push-2.ensures.items);
   words = binds_more c.binds.binds.items c.push-in-binds.new.self.items c.in_ok-bind-2.field-0 c.args.self.now.words c.binds.self.words c.punctuation.new.self.words c.bind-in-binds.new.self.words
       c.binds.invariant.some c.in_ok-push-2.ensures.items c.binds.invariant.words c.in_ok-punctuation.ensures.ok c.in_ok-bind-2.ensures.ok;
   lined = λ all h. let kept = c.in_ok-bind-2.ensures.lined in
       binds_pushed all c.binds.binds.items c.push-in-binds.new.self.items c.in_ok-bind-2.field-0 c.binds.lines.items c.bind-in-binds.new.lines.items kept.0 c.binds.self.words c.punctuation.new.self.words c.bind-in-binds.new.self.words
-      c.in_ok-push-2.ensures.items kept.1 c.in_ok-punctuation.ensures.ok c.in_ok-bind-2.ensures.ok (c.binds.invariant.lined all h) (kept.2 all (c.in_ok-punctuation.ensures.left all (c.binds.invariant.left all h)));
+      c.in_ok-push-2.ensures.items kept.1 c.in_ok-punctuation.ensures.ok c.in_ok-bind-2.ensures.ok (c.binds.invariant.lined all h) (kept.2 all (c.in_ok-punctuation.ensures.left.0 all (c.binds.invariant.left.0 all h)));
   apart = apart_more (λ (b : Bind). b.input) c.binds.binds.items c.push-in-binds.new.self.items c.in_ok-bind-2.field-0 c.in_ok-push-2.ensures.items c.binds.invariant.apart
       (subst (λ bs. IsNew (λ (b : Bind). b.input) bs c.in_ok-bind-2.field-0.input) c.deref-in-binds.ensures.value c.in_ok-bind-2.ensures.new);
   kinds = all_more (IsOfInputKind (variables c.args.program.now.program)) c.binds.binds.items c.push-in-binds.new.self.items c.in_ok-bind-2.field-0 c.in_ok-push-2.ensures.items c.binds.invariant.kinds c.in_ok-bind-2.ensures.kind;
@@ -63,7 +63,7 @@ returns-in_err-bind-2-clause-names c =
       kinds = c.binds.invariant.kinds;
       few = subst (λ (t : TallyValue). t.binds ≤ 4096) c.binds.invariant.tally c.binds-bound-in-binds.ensures.few;
     })
-    (subst (λ (bs : List Bind). BeginWith (IsLineBefore all fault.line) (RefusesOneBind c.binds.tally.binds ds bs fault.kind) c.punctuation.new.self.words) c.deref-in-binds.ensures.value (c.in_err-bind-2.ensures.names all (c.in_ok-punctuation.ensures.left all (c.binds.invariant.left all h)) of)))
+    (subst (λ (bs : List Bind). BeginWith (IsLineBefore all fault.line) (RefusesOneBind c.binds.tally.binds ds bs fault.kind) c.punctuation.new.self.words) c.deref-in-binds.ensures.value (c.in_err-bind-2.ensures.names all (c.in_ok-punctuation.ensures.left.0 all (c.binds.invariant.left.0 all h)) of)))
 
 pub returns-clause-kinds : goal.returns-clause-kinds
 returns-clause-kinds c = elim c.if-not-sees_punctuation.branch [

@@ -19,7 +19,7 @@ pub returns-in_err-lists-clause-names : goal.returns-in_err-lists-clause-names
 returns-in_err-lists-clause-names c =
     let fault = c.in_err-lists.field-0.0 in
     kept_fault fault (BeginRefused (λ k. RefusesBlock k c.args.variables.now) c.args.self.now) c.from_residual-in_err-lists.result c.from_residual-in_err-lists.ensures.1
-    (λ all h of. in_block fault.kind c.in_ok-section.section c.args.variables.now c.args.self.now.words c.section.new.self.words c.in_ok-section.ensures.ok (c.in_err-lists.ensures.names all (c.in_ok-section.ensures.left all h) of))
+    (λ all h of. in_block fault.kind c.in_ok-section.section c.args.variables.now c.args.self.now.words c.section.new.self.words c.in_ok-section.ensures.ok (c.in_err-lists.ensures.names all (c.in_ok-section.ensures.left.0 all h) of))
 
 pub returns-in_err-section-clause-other : goal.returns-in_err-section-clause-other
 returns-in_err-section-clause-other c =

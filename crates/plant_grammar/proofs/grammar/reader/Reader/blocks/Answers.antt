@@ -20,7 +20,7 @@ use Rattle.plant_grammar.proofs.grammar.reader.Reader.blocks.Goals as goal
 
 pub sections-preserved : goal.sections-preserved
 sections-preserved c = record {
-  left = λ all h. c.in_ok-block.ensures.left all (c.sections.invariant.left all h);
+  left = (λ all h. c.in_ok-block.ensures.left.0 all (c.sections.invariant.left.0 all h), c.in_ok-block.ensures.left.1 ∙ c.sections.invariant.left.1);
   words = words_more block_words c.sections.blocks.items c.push.new.self.items c.in_ok-block.block c.args.self.now.words c.sections.self.words c.block.new.self.words c.in_ok-push.ensures.items c.sections.invariant.words c.in_ok-block.ensures.ok;
   bodies = c.in_ok-block.ensures.bodies ∙ c.sections.invariant.bodies;
   declared = declared_more block_variables c.sections.blocks.items c.push.new.self.items c.in_ok-block.block c.args.variables.now c.sections.variables c.block.new.variables c.in_ok-push.ensures.items c.sections.invariant.declared c.in_ok-block.ensures.declared;
@@ -31,7 +31,7 @@ pub returns-in_err-block-clause-names : goal.returns-in_err-block-clause-names
 returns-in_err-block-clause-names c =
     let fault = c.in_err-block.field-0.0 in
     kept_fault fault (BeginRefused (λ k. RefusesBlocks k c.args.variables.now) c.args.self.now) c.from_residual.result c.from_residual.ensures.1
-    (λ all h of. block_refused fault.kind c.args.variables.now c.sections.variables c.sections.blocks.items c.args.self.now.words c.sections.self.words c.sections.invariant.words c.sections.invariant.declared c.sections.invariant.lawful (c.in_err-block.ensures.names all (c.sections.invariant.left all h) of))
+    (λ all h of. block_refused fault.kind c.args.variables.now c.sections.variables c.sections.blocks.items c.args.self.now.words c.sections.self.words c.sections.invariant.words c.sections.invariant.declared c.sections.invariant.lawful (c.in_err-block.ensures.names all (c.sections.invariant.left.0 all h) of))
 
 pub returns-in_err-block-clause-other : goal.returns-in_err-block-clause-other
 returns-in_err-block-clause-other c =

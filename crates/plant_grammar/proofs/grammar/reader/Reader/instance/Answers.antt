@@ -42,7 +42,7 @@ returns-in_err-binds-clause-names c =
     (binds_of_type fault.kind c.args.tally.now.binds c.instance_start.new.tally.binds programs c.args.before.now c.in_ok-task.task _ _ c.instance_start.new.self.words c.task_of_instance.new.self.words c.type_of_instance.new.self.words
     c.in_ok-task.ensures.ok c.in_ok-task.ensures.known c.in_ok-program.ensures.ok
     (found_type c.args.types.now _ _ (λ p. p ≡ _) c.in_ok-program.ensures.found refl)
-    (ap (λ (t : TallyValue). t.binds) c.in_ok-instance.ensures.tally) (c.in_err-binds.ensures.names all (c.in_ok-program.ensures.left all (c.in_ok-task.ensures.left all (c.in_ok-instance.ensures.left all h))) of)))
+    (ap (λ (t : TallyValue). t.binds) c.in_ok-instance.ensures.tally) (c.in_err-binds.ensures.names all (c.in_ok-program.ensures.left.0 all (c.in_ok-task.ensures.left.0 all (c.in_ok-instance.ensures.left.0 all h))) of)))
 
 pub returns-in_err-instance-clause-names : instance_goals.returns-in_err-instance-clause-names
 returns-in_err-instance-clause-names c =
@@ -57,7 +57,7 @@ returns-in_err-task-clause-names c =
     let programs = programs_of c.args.types.now in
     kept_fault fault (BeginRefused (λ k. RefusesInstance k c.args.tally.now.instances c.args.tally.now.binds programs c.args.before.now) c.args.self.now) c.from_residual-in_err-task.result c.from_residual-in_err-task.ensures.1
     (λ all h of. in_instance fault.kind c.args.tally.now.instances c.args.tally.now.binds programs c.args.before.now c.in_ok-instance.instance c.args.self.now.words c.instance_start.new.self.words c.in_ok-instance.ensures.ok (c.in_ok-instance.ensures.new, c.in_ok-instance.ensures.few)
-    (task_unknown fault.kind c.args.tally.now.binds programs c.args.before.now c.instance_start.new.self.words (c.in_err-task.ensures.names all (c.in_ok-instance.ensures.left all h) of)))
+    (task_unknown fault.kind c.args.tally.now.binds programs c.args.before.now c.instance_start.new.self.words (c.in_err-task.ensures.names all (c.in_ok-instance.ensures.left.0 all h) of)))
 
 pub returns-in_err-program-clause-names : instance_goals.returns-in_err-program-clause-names
 returns-in_err-program-clause-names c =
@@ -65,7 +65,7 @@ returns-in_err-program-clause-names c =
     let programs = programs_of c.args.types.now in
     kept_fault fault (BeginRefused (λ k. RefusesInstance k c.args.tally.now.instances c.args.tally.now.binds programs c.args.before.now) c.args.self.now) c.from_residual-in_err-program.result c.from_residual-in_err-program.ensures.1
     (λ all h of. in_instance fault.kind c.args.tally.now.instances c.args.tally.now.binds programs c.args.before.now c.in_ok-instance.instance c.args.self.now.words c.instance_start.new.self.words c.in_ok-instance.ensures.ok (c.in_ok-instance.ensures.new, c.in_ok-instance.ensures.few)
-    (type_unknown fault.kind c.args.tally.now.binds programs c.args.before.now c.in_ok-task.task c.instance_start.new.self.words c.task_of_instance.new.self.words c.in_ok-task.ensures.ok c.in_ok-task.ensures.known (c.in_err-program.ensures.names all (c.in_ok-task.ensures.left all (c.in_ok-instance.ensures.left all h)) of)))
+    (type_unknown fault.kind c.args.tally.now.binds programs c.args.before.now c.in_ok-task.task c.instance_start.new.self.words c.task_of_instance.new.self.words c.in_ok-task.ensures.ok c.in_ok-task.ensures.known (c.in_err-program.ensures.names all (c.in_ok-task.ensures.left.0 all (c.in_ok-instance.ensures.left.0 all h)) of)))
 
 pub returns-in_err-program-clause-other : instance_goals.returns-in_err-program-clause-other
 returns-in_err-program-clause-other c =
@@ -95,7 +95,7 @@ returns-in_err-punctuation-clause-other c =
 pub returns-clause-lined : instance_goals.returns-clause-lined
 returns-clause-lined c = λ all h.
     subst (λ (rest : List Token). AreBindsOn all (bound_in c.in_ok-binds.binds) c.some_binds.new.lines.items (mark_word Close ∷ rest)) c.in_ok-punctuation.ensures.ok
-    (c.in_ok-binds.ensures.lined all (c.in_ok-program.ensures.left all (c.in_ok-task.ensures.left all (c.in_ok-instance.ensures.left all h))))
+    (c.in_ok-binds.ensures.lined all (c.in_ok-program.ensures.left.0 all (c.in_ok-task.ensures.left.0 all (c.in_ok-instance.ensures.left.0 all h))))
 
 pub returns-in_err-task-clause-other : instance_goals.returns-in_err-task-clause-other
 returns-in_err-task-clause-other c =

@@ -1,4 +1,4 @@
-use Rattle.std.proofs.Common.{◌≡◌, ◌≢◌, ◌++◌, List, refl, sym, subst, ◌∷◌, []}
+use Rattle.std.proofs.Common.{◌∙◌, ◌≡◌, ◌≢◌, ◌++◌, List, refl, sym, subst, ◌∷◌, []}
 use Rattle.plant_grammar.specs.Lawful.{use_of, AreItemsLawful}
 use Rattle.plant_grammar.specs.Grammar.{item_words, items_words}
 use Rattle.plant_grammar.specs.Steps.ReadParts.{types_alone, MayFollow}
@@ -23,18 +23,18 @@ use Rattle.plant_grammar.proofs.grammar.reader.Reader.items.Goals as goal
 
 pub items-preserved : goal.items-preserved
 items-preserved c = record {
-  left = λ all h. c.in_ok-item.ensures.left all (c.items.invariant.left all h);
+  left = (λ all h. c.in_ok-item.ensures.left.0 all (c.items.invariant.left.0 all h), c.in_ok-item.ensures.left.1 ∙ c.items.invariant.left.1);
   words = words_more item_words c.items.items.items c.push.new.self.items c.in_ok-item.item c.args.self.now.words c.items.self.words c.item.new.self.words c.in_ok-push.ensures.items c.items.invariant.words c.in_ok-item.ensures.ok;
   lawful = items_more (types_alone c.args.types.now) c.items.items.items c.push.new.self.items c.in_ok-item.item c.in_ok-push.ensures.items c.items.invariant.lawful
       (subst (λ xs. MayFollow (types_alone c.args.types.now) xs c.in_ok-item.item) c.deref.ensures.value c.in_ok-item.ensures.lawful);
-  lined = λ all h. each_more item_words (IsItemOn all) c.items.items.items c.push.new.self.items c.in_ok-item.item c.items.self.words c.item.new.self.words c.in_ok-push.ensures.items c.in_ok-item.ensures.ok (c.items.invariant.lined all h) (c.in_ok-item.ensures.lined all (c.items.invariant.left all h));
+  lined = λ all h. each_more item_words (IsItemOn all) c.items.items.items c.push.new.self.items c.in_ok-item.item c.items.self.words c.item.new.self.words c.in_ok-push.ensures.items c.in_ok-item.ensures.ok (c.items.invariant.lined all h) (c.in_ok-item.ensures.lined all (c.items.invariant.left.0 all h));
   tally = tally_more use_of c.items.items.items c.push.new.self.items c.in_ok-item.item c.args.tally.now c.items.tally c.item.new.tally c.in_ok-push.ensures.items c.items.invariant.tally c.in_ok-item.ensures.tally;
 }
 
 pub returns : goal.returns
 returns c = record {
   ok = items_done c.items.items.items c.args.self.now.words c.items.self.words c.keyword.new.self.words c.items.invariant.words c.in_ok-keyword.ensures.ok;
-  left = λ all h. c.in_ok-keyword.ensures.left all (c.items.invariant.left all h);
+  left = (λ all h. c.in_ok-keyword.ensures.left.0 all (c.items.invariant.left.0 all h), c.in_ok-keyword.ensures.left.1 ∙ c.items.invariant.left.1);
   lawful = c.items.invariant.lawful;
   lined = λ all h. subst (EachBefore item_words (IsItemOn all) c.items.items.items) c.in_ok-keyword.ensures.ok (c.items.invariant.lined all h);
   tally = c.items.invariant.tally;
@@ -50,7 +50,7 @@ returns-in_err-item-clause-names c =
     kept_fault fault (BeginRefused (λ k. RefusesItems k c.args.tally.now.instances c.args.tally.now.binds (programs_of c.args.types.now)) c.args.self.now) c.from_residual.result c.from_residual.ensures.1
     (λ all h of. item_refused fault.kind c.args.tally.now c.items.tally (programs_of c.args.types.now) c.items.items.items c.args.self.now.words c.items.self.words c.items.invariant.words c.items.invariant.tally
     c.items.invariant.lawful c.instances-instances.ensures.few c.binds-binds.ensures.few
-    (subst (λ (xs : List Item). BeginWith (IsLineBefore all fault.line) (RefusesItem c.items.tally (programs_of c.args.types.now) xs fault.kind) c.items.self.words) c.deref.ensures.value (c.in_err-item.ensures.names all (c.items.invariant.left all h) of)))
+    (subst (λ (xs : List Item). BeginWith (IsLineBefore all fault.line) (RefusesItem c.items.tally (programs_of c.args.types.now) xs fault.kind) c.items.self.words) c.deref.ensures.value (c.in_err-item.ensures.names all (c.items.invariant.left.0 all h) of)))
 
 pub returns-in_err-item-clause-other : goal.returns-in_err-item-clause-other
 returns-in_err-item-clause-other c =

@@ -28,7 +28,7 @@ pub returns-in_err-type_name-clause-names : list_goals.returns-in_err-type_name-
 returns-in_err-type_name-clause-names c =
     let fault = c.in_err-type_name.field-0.0 in
     kept_fault fault (BeginRefused (λ k. RefusesOneList c.args.section c.args.variables.now k) c.args.self.now) c.from_residual-in_err-type_name.result c.from_residual-in_err-type_name.ensures.1
-    (λ all h of. type_of_list fault.kind c.args.section c.args.variables.now c.in_ok-names.names.items c.args.self.now.words c.names.new.self.words c.punctuation.new.self.words (line_before all c.punctuation.new.self fault.line (c.in_ok-punctuation.ensures.left all (c.in_ok-names.ensures.left all h)) (c.in_err-type_name.ensures.line of)) c.in_ok-names.ensures.some c.in_ok-names.ensures.may c.in_ok-names.ensures.ok c.in_ok-punctuation.ensures.ok c.in_err-type_name.ensures.tells of)
+    (λ all h of. type_of_list fault.kind c.args.section c.args.variables.now c.in_ok-names.names.items c.args.self.now.words c.names.new.self.words c.punctuation.new.self.words (line_before all c.punctuation.new.self fault.line (c.in_ok-punctuation.ensures.left.0 all (c.in_ok-names.ensures.left.0 all h)) (c.in_err-type_name.ensures.line of)) c.in_ok-names.ensures.some c.in_ok-names.ensures.may c.in_ok-names.ensures.ok c.in_ok-punctuation.ensures.ok c.in_err-type_name.ensures.tells of)
 
 pub returns-in_err-names-clause-stuck : list_goals.returns-in_err-names-clause-stuck
 returns-in_err-names-clause-stuck c =

@@ -18,7 +18,7 @@ use Rattle.plant_grammar.proofs.grammar.reader.Reader.lists.Goals as goal
 
 pub lists-preserved : goal.lists-preserved
 lists-preserved c = record {
-  left = λ all h. c.in_ok-list.ensures.left all (c.lists.invariant.left all h);
+  left = (λ all h. c.in_ok-list.ensures.left.0 all (c.lists.invariant.left.0 all h), c.in_ok-list.ensures.left.1 ∙ c.lists.invariant.left.1);
   words = words_more list_words c.lists.lists.items c.push.new.self.items c.in_ok-list.list c.args.self.now.words c.lists.self.words c.list.new.self.words c.in_ok-push.ensures.items c.lists.invariant.words c.in_ok-list.ensures.ok;
   bodies = c.in_ok-list.ensures.bodies ∙ c.lists.invariant.bodies;
   declared = declared_more (list_variables c.args.section) c.lists.lists.items c.push.new.self.items c.in_ok-list.list c.args.variables.now c.lists.variables c.list.new.variables c.in_ok-push.ensures.items c.lists.invariant.declared c.in_ok-list.ensures.declared;
@@ -28,7 +28,7 @@ lists-preserved c = record {
 pub returns : goal.returns
 returns c = record {
   ok = lists_done c.lists.lists.items c.args.self.now.words c.lists.self.words c.keyword.new.self.words c.lists.invariant.words c.in_ok-keyword.ensures.ok;
-  left = λ all h. c.in_ok-keyword.ensures.left all (c.lists.invariant.left all h);
+  left = (λ all h. c.in_ok-keyword.ensures.left.0 all (c.lists.invariant.left.0 all h), c.in_ok-keyword.ensures.left.1 ∙ c.lists.invariant.left.1);
   bodies = c.in_ok-keyword.ensures.bodies ∙ c.lists.invariant.bodies;
   declared = c.lists.invariant.declared;
   lawful = c.lists.invariant.lawful;
@@ -42,7 +42,7 @@ pub returns-in_err-list-clause-names : goal.returns-in_err-list-clause-names
 returns-in_err-list-clause-names c =
     let fault = c.in_err-list.field-0.0 in
     kept_fault fault (BeginRefused (λ k. RefusesList k c.args.section c.args.variables.now) c.args.self.now) c.from_residual.result c.from_residual.ensures.1
-    (λ all h of. list_refused fault.kind c.args.section c.args.variables.now c.lists.variables c.lists.lists.items c.args.self.now.words c.lists.self.words c.lists.invariant.words c.lists.invariant.declared c.lists.invariant.lawful (c.in_err-list.ensures.names all (c.lists.invariant.left all h) of))
+    (λ all h of. list_refused fault.kind c.args.section c.args.variables.now c.lists.variables c.lists.lists.items c.args.self.now.words c.lists.self.words c.lists.invariant.words c.lists.invariant.declared c.lists.invariant.lawful (c.in_err-list.ensures.names all (c.lists.invariant.left.0 all h) of))
 
 pub returns-in_err-list-clause-other : goal.returns-in_err-list-clause-other
 returns-in_err-list-clause-other c =

@@ -34,7 +34,7 @@ names-preserved c = record {
       (one_more_declared c.args.variables.now c.names.names.items c.in_ok-variable-2.field-0 c.names.invariant.may c.in_ok-variable-2.ensures.new.0
       (subst (λ ns. IsNew (λ (m : List ℕ). m) ns c.in_ok-variable-2.field-0) c.deref-in-names.ensures.value c.in_ok-variable-2.ensures.new.1)
       (subst (λ ns. length c.args.variables.now + length ns < 1000) c.deref-in-names.ensures.value c.in_ok-variable-2.ensures.new.2));
-  left = λ all h. c.in_ok-variable-2.ensures.left all (c.in_ok-punctuation.ensures.left all (c.names.invariant.left all h));
+  left = (λ all h. c.in_ok-variable-2.ensures.left.0 all (c.in_ok-punctuation.ensures.left.0 all (c.names.invariant.left.0 all h)), c.in_ok-variable-2.ensures.left.1 ∙ c.in_ok-punctuation.ensures.left.1 ∙ c.names.invariant.left.1);
   some = omega (arith, grown c.names.names.items c.push-in-names.new.self.items c.in_ok-variable-2.field-0 c.in_ok-push-2.ensures.items);
   bodies = c.in_ok-variable-2.ensures.bodies ∙ c.in_ok-punctuation.ensures.bodies ∙ c.names.invariant.bodies;
   words = names_more c.names.names.items c.push-in-names.new.self.items c.in_ok-variable-2.field-0 c.args.self.now.words c.names.self.words c.punctuation.new.self.words c.variable-in-names.new.self.words
@@ -52,7 +52,7 @@ returns-in_err-variable-2-clause-names c =
     let fault = c.in_err-variable-2.field-0.0 in
     kept_fault fault (BeginRefused (λ k. RefusesVariable k c.args.variables.now) c.args.self.now) c.from_residual-in_err-variable-2.result c.from_residual-in_err-variable-2.ensures.1
     (λ all h of. next_variable fault.kind c.args.variables.now c.names.names.items c.args.self.now.words c.names.self.words c.punctuation.new.self.words
-    (line_before all c.punctuation.new.self fault.line (c.in_ok-punctuation.ensures.left all (c.names.invariant.left all h)) (c.in_err-variable-2.ensures.line of)) c.names.invariant.some c.names.invariant.may c.names.invariant.words c.in_ok-punctuation.ensures.ok
+    (line_before all c.punctuation.new.self fault.line (c.in_ok-punctuation.ensures.left.0 all (c.names.invariant.left.0 all h)) (c.in_err-variable-2.ensures.line of)) c.names.invariant.some c.names.invariant.may c.names.invariant.words c.in_ok-punctuation.ensures.ok
     (rw c.deref-in-names.ensures.value at c.in_err-variable-2.ensures.tells) of)
 
 pub returns-in_err-variable-clause-other : goal.returns-in_err-variable-clause-other

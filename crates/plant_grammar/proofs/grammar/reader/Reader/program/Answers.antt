@@ -27,7 +27,7 @@ returns-in_err-blocks-clause-names c =
     let fault = c.in_err-blocks.field-0.0 in
     let before = programs_of c.args.before.now in
     kept_fault fault (BeginRefused (λ k. RefusesProgram k before) c.args.self.now) c.from_residual-in_err-blocks.result c.from_residual-in_err-blocks.ensures.1
-    (λ all h of. in_program fault.kind before c.in_ok-name.name c.new-variables.result c.args.self.now.words c.program_start.new.self.words c.in_ok-name.ensures.ok c.new-variables.ensures (c.in_ok-name.ensures.new, omega (arith, c.in_ok-name.ensures.few, length-map c.args.before.now (λ (t : TextValue). t.program))) (c.in_err-blocks.ensures.names all (c.in_ok-name.ensures.left all h) of))
+    (λ all h of. in_program fault.kind before c.in_ok-name.name c.new-variables.result c.args.self.now.words c.program_start.new.self.words c.in_ok-name.ensures.ok c.new-variables.ensures (c.in_ok-name.ensures.new, omega (arith, c.in_ok-name.ensures.few, length-map c.args.before.now (λ (t : TextValue). t.program))) (c.in_err-blocks.ensures.names all (c.in_ok-name.ensures.left.0 all h) of))
 
 pub returns-in_err-blocks-clause-other : goal.returns-in_err-blocks-clause-other
 returns-in_err-blocks-clause-other c =

@@ -21,7 +21,7 @@ returns-clause-names c =
     let words = c.keyword.new.self.words in
     let repeats = RepeatsName (λ (x : Program). x.name) before words in
     both_told c.new_type.result _ _ _
-    (λ fault tells line all h of. program_named fault.kind before c.args.self.now.words words (line_before all c.keyword.new.self fault.line (c.in_ok-keyword.ensures.left all h) (line of)) c.in_ok-keyword.ensures.ok
+    (λ fault tells line all h of. program_named fault.kind before c.args.self.now.words words (line_before all c.keyword.new.self fault.line (c.in_ok-keyword.ensures.left.0 all h) (line of)) c.in_ok-keyword.ensures.ok
     (tells_with fault.kind repeats (IsNameNext words × (64 ≤ length c.args.before.now)) repeats (IsNameNext words × (64 ≤ length before)) (λ twice. twice) (λ twice. twice)
     (λ full. (full.0, omega (arith, full.1, length-map c.args.before.now (λ (t : TextValue). t.program)))) tells) of)
     c.new_type.ensures.tells c.new_type.ensures.line

@@ -35,7 +35,7 @@ programs-preserved c =
     let longer : after ≡ before ++ program ∷ [] = map-grown (λ (t : TextValue). t.program) c.programs.texts.items c.push.new.self.items c.in_ok-text.text c.in_ok-push.ensures.items in
     let few : length c.programs.texts.items < 64 = subst (λ ts. length ts < 64) c.as_slice.ensures.value c.in_ok-text.ensures.few in
     record {
-      left = λ all h. c.in_ok-text.ensures.left all (c.programs.invariant.left all h);
+      left = (λ all h. c.in_ok-text.ensures.left.0 all (c.programs.invariant.left.0 all h), c.in_ok-text.ensures.left.1 ∙ c.programs.invariant.left.1);
       words = words_more program_words before after program (flat_map program_words (programs_of c.args.texts.now.items) ++ c.args.self.now.words) c.programs.self.words c.program.new.self.words longer c.programs.invariant.words c.in_ok-text.ensures.ok;
       lines = c.programs.invariant.lines ∙ ap (λ (x : List ℕ). lines_of c.programs.texts.items ++ x) c.in_ok-text.ensures.bodies ∙ sym (append_assoc (lines_of c.programs.texts.items) (c.in_ok-text.text.first_line ∷ []) c.program.new.self.bodies)
           ∙ ap (λ (x : List ℕ). x ++ c.program.new.self.bodies) (sym (map-grown (λ (t : TextValue). t.first_line) c.programs.texts.items c.push.new.self.items c.in_ok-text.text c.in_ok-push.ensures.items));
@@ -68,7 +68,7 @@ returns-in_err-text-clause-names c =
     let fault = c.in_err-text.field-0.0 in
     kept_fault fault (BeginRefusedBehind (RefusesFurtherProgram (programs_of c.programs.texts.items)) c.args.self.now (all_words c.args.texts.now.items c.args.self.now.words)) c.from_residual.result c.from_residual.ensures.1
     (λ all h of. program_refused fault.kind (programs_of c.programs.texts.items) (flat_map program_words (programs_of c.args.texts.now.items) ++ c.args.self.now.words) c.programs.self.words c.programs.invariant.words
-    (subst (λ (ts : List TextValue). BeginWith (IsLineBefore all fault.line) (RefusesProgram fault.kind (programs_of ts)) c.programs.self.words) c.as_slice.ensures.value (c.in_err-text.ensures.names all (c.programs.invariant.left all h) of)))
+    (subst (λ (ts : List TextValue). BeginWith (IsLineBefore all fault.line) (RefusesProgram fault.kind (programs_of ts)) c.programs.self.words) c.as_slice.ensures.value (c.in_err-text.ensures.names all (c.programs.invariant.left.0 all h) of)))
 
 pub returns-in_err-push-clause-names : goal.returns-in_err-push-clause-names
 returns-in_err-push-clause-names c = memory_result (RefusesFurtherProgram (programs_of c.push.new.self.items)) c.args.self.now (all_words c.args.texts.now.items c.args.self.now.words) c.from_residual-in_err-push.result c.from_residual-in_err-push.ensures.1

@@ -25,7 +25,7 @@ returns-in_err-name-clause-names c =
     let fault = c.in_err-name.field-0.0 in
     let tally = c.args.tally.now in
     kept_fault fault (BeginRefused (λ k. RefusesResource k tally.instances tally.binds (programs_of c.args.types.now) c.args.before.now) c.args.self.now) c.from_residual-in_err-name.result c.from_residual-in_err-name.ensures.1
-    (λ all h of. resource_named fault.kind tally.instances tally.binds (programs_of c.args.types.now) c.args.before.now c.args.self.now.words c.keyword.new.self.words (line_before all c.keyword.new.self fault.line (c.in_ok-keyword.ensures.left all h) (c.in_err-name.ensures.line of)) c.in_ok-keyword.ensures.ok c.in_err-name.ensures.tells of)
+    (λ all h of. resource_named fault.kind tally.instances tally.binds (programs_of c.args.types.now) c.args.before.now c.args.self.now.words c.keyword.new.self.words (line_before all c.keyword.new.self fault.line (c.in_ok-keyword.ensures.left.0 all h) (c.in_err-name.ensures.line of)) c.in_ok-keyword.ensures.ok c.in_err-name.ensures.tells of)
 
 pub returns-in_err-items-clause-names : goal.returns-in_err-items-clause-names
 returns-in_err-items-clause-names c =
@@ -34,7 +34,7 @@ returns-in_err-items-clause-names c =
     kept_fault fault (BeginRefused (λ k. RefusesResource k tally.instances tally.binds (programs_of c.args.types.now) c.args.before.now) c.args.self.now) c.from_residual-in_err-items.result c.from_residual-in_err-items.ensures.1
     (λ all h of. in_resource fault.kind tally.instances tally.binds (programs_of c.args.types.now) c.args.before.now c.in_ok-name.name c.in_ok-node.node
     c.args.self.now.words c.keyword.new.self.words c.resource_name.new.self.words c.keyword-2.new.self.words c.name-2.new.self.words
-    c.in_ok-keyword.ensures.ok c.in_ok-name.ensures.ok c.in_ok-keyword-2.ensures.ok c.in_ok-node.ensures.ok (c.in_ok-name.ensures.new, c.in_ok-name.ensures.few) (c.in_err-items.ensures.names all (c.in_ok-node.ensures.left all (c.in_ok-keyword-2.ensures.left all (c.in_ok-name.ensures.left all (c.in_ok-keyword.ensures.left all h)))) of))
+    c.in_ok-keyword.ensures.ok c.in_ok-name.ensures.ok c.in_ok-keyword-2.ensures.ok c.in_ok-node.ensures.ok (c.in_ok-name.ensures.new, c.in_ok-name.ensures.few) (c.in_err-items.ensures.names all (c.in_ok-node.ensures.left.0 all (c.in_ok-keyword-2.ensures.left.0 all (c.in_ok-name.ensures.left.0 all (c.in_ok-keyword.ensures.left.0 all h)))) of))
 
 pub returns-in_err-items-clause-other : goal.returns-in_err-items-clause-other
 returns-in_err-items-clause-other c =
@@ -47,7 +47,7 @@ returns-in_err-items-clause-other c =
 
 pub returns-clause-lined : goal.returns-clause-lined
 returns-clause-lined c = λ all h.
-    c.in_ok-items.ensures.lined all (c.in_ok-node.ensures.left all (c.in_ok-keyword-2.ensures.left all (c.in_ok-name.ensures.left all (c.in_ok-keyword.ensures.left all h))))
+    c.in_ok-items.ensures.lined all (c.in_ok-node.ensures.left.0 all (c.in_ok-keyword-2.ensures.left.0 all (c.in_ok-name.ensures.left.0 all (c.in_ok-keyword.ensures.left.0 all h))))
 
 pub returns-in_err-keyword-clause-stuck : goal.returns-in_err-keyword-clause-stuck
 returns-in_err-keyword-clause-stuck c =

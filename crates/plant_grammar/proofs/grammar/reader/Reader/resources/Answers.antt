@@ -1,4 +1,4 @@
-use Rattle.std.proofs.Common.{rules, ◌≡◌, ◌≢◌, ◌<◌, ◌++◌, length, refl, sym, subst, List, ◌∷◌, [], arith}
+use Rattle.std.proofs.Common.{◌∙◌, rules, ◌≡◌, ◌≢◌, ◌<◌, ◌++◌, length, refl, sym, subst, List, ◌∷◌, [], arith}
 use Rattle.plant_grammar.specs.declared.grammar.tree.Resource.{Resource}
 use Rattle.plant_grammar.specs.Lawful.{uses_of, AreResourcesLawful}
 use Rattle.plant_grammar.specs.Grammar.{resource_words, resources_words}
@@ -25,11 +25,11 @@ use Rattle.plant_grammar.proofs.grammar.reader.Reader.resources.Goals.{then-is_e
 
 pub resources-preserved : goal.resources-preserved
 resources-preserved c = record {
-  left = λ all h. c.in_ok-resource.ensures.left all (c.resources.invariant.left all h);
+  left = (λ all h. c.in_ok-resource.ensures.left.0 all (c.resources.invariant.left.0 all h), c.in_ok-resource.ensures.left.1 ∙ c.resources.invariant.left.1);
   words = words_more resource_words c.resources.resources.items c.push.new.self.items c.in_ok-resource.resource c.args.self.now.words c.resources.self.words c.resource.new.self.words c.in_ok-push.ensures.items c.resources.invariant.words c.in_ok-resource.ensures.ok;
   lawful = resources_more (types_alone c.args.types.now) c.resources.resources.items c.push.new.self.items c.in_ok-resource.resource c.in_ok-push.ensures.items c.resources.invariant.lawful
       (subst (λ rs. IsNew (λ (r : Resource). r.name) rs c.in_ok-resource.resource.name) c.deref.ensures.value c.in_ok-resource.ensures.new) (subst (λ rs. length rs < 16) c.deref.ensures.value c.in_ok-resource.ensures.few) c.in_ok-resource.ensures.lawful;
-  lined = λ all h. each_more resource_words (IsResourceOn all) c.resources.resources.items c.push.new.self.items c.in_ok-resource.resource c.resources.self.words c.resource.new.self.words c.in_ok-push.ensures.items c.in_ok-resource.ensures.ok (c.resources.invariant.lined all h) (c.in_ok-resource.ensures.lined all (c.resources.invariant.left all h));
+  lined = λ all h. each_more resource_words (IsResourceOn all) c.resources.resources.items c.push.new.self.items c.in_ok-resource.resource c.resources.self.words c.resource.new.self.words c.in_ok-push.ensures.items c.in_ok-resource.ensures.ok (c.resources.invariant.lined all h) (c.in_ok-resource.ensures.lined all (c.resources.invariant.left.0 all h));
   tally = tally_more uses_of c.resources.resources.items c.push.new.self.items c.in_ok-resource.resource c.args.tally.now c.resources.tally c.resource.new.tally c.in_ok-push.ensures.items c.resources.invariant.tally c.in_ok-resource.ensures.tally;
 }
 
@@ -45,7 +45,7 @@ returns-in_err-resource-clause-names c =
     kept_fault fault (BeginRefused (λ k. RefusesResources k c.args.tally.now.instances c.args.tally.now.binds (programs_of c.args.types.now)) c.args.self.now) c.from_residual.result c.from_residual.ensures.1
     (λ all h of. resource_refused fault.kind c.args.tally.now c.resources.tally (programs_of c.args.types.now) c.resources.resources.items c.args.self.now.words c.resources.self.words c.resources.invariant.words c.resources.invariant.tally
     c.resources.invariant.lawful c.instances-instances.ensures.few c.binds-binds.ensures.few
-    (subst (λ (rs : List Resource). BeginWith (IsLineBefore all fault.line) (RefusesResource fault.kind c.resources.tally.instances c.resources.tally.binds (programs_of c.args.types.now) rs) c.resources.self.words) c.deref.ensures.value (c.in_err-resource.ensures.names all (c.resources.invariant.left all h) of)))
+    (subst (λ (rs : List Resource). BeginWith (IsLineBefore all fault.line) (RefusesResource fault.kind c.resources.tally.instances c.resources.tally.binds (programs_of c.args.types.now) rs) c.resources.self.words) c.deref.ensures.value (c.in_err-resource.ensures.names all (c.resources.invariant.left.0 all h) of)))
 
 pub returns-in_err-resource-clause-other : goal.returns-in_err-resource-clause-other
 returns-in_err-resource-clause-other c =

@@ -23,7 +23,7 @@ returns-in_err-binds-clause-names c =
     let fault = c.in_err-binds.field-0.0 in
     let ds = variables c.args.program.now.program in
     kept_fault fault (BeginRefused (λ k. IsAfter (mark_word Open) (RefusesBind k c.args.tally.now.binds ds)) c.args.self.now) c.from_residual-in_err-binds.result c.from_residual-in_err-binds.ensures.1
-    (λ all h of. in_binds fault.kind c.args.tally.now.binds ds c.args.self.now.words c.punctuation.new.self.words c.in_ok-punctuation.ensures.ok (c.in_err-binds.ensures.names all (c.in_ok-punctuation.ensures.left all h) of))
+    (λ all h of. in_binds fault.kind c.args.tally.now.binds ds c.args.self.now.words c.punctuation.new.self.words c.in_ok-punctuation.ensures.ok (c.in_err-binds.ensures.names all (c.in_ok-punctuation.ensures.left.0 all h) of))
 
 pub returns-in_err-binds-clause-other : goal.returns-in_err-binds-clause-other
 returns-in_err-binds-clause-other c =

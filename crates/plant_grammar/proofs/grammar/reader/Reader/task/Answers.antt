@@ -17,7 +17,7 @@ pub returns-in_err-name-clause-names : task_goals.returns-in_err-name-clause-nam
 returns-in_err-name-clause-names c =
     let fault = c.in_err-name.field-0.0 in
     kept_fault fault (BeginRefused (λ k. RefusesTask k c.args.before.now) c.args.self.now) c.from_residual-in_err-name.result c.from_residual-in_err-name.ensures.1
-    (λ all h of. task_refused fault.kind c.args.before.now c.args.self.now.words c.keyword.new.self.words (line_before all c.keyword.new.self fault.line (c.in_ok-keyword.ensures.left all h) (c.in_err-name.ensures.line of)) c.in_ok-keyword.ensures.ok c.in_err-name.ensures.tells of)
+    (λ all h of. task_refused fault.kind c.args.before.now c.args.self.now.words c.keyword.new.self.words (line_before all c.keyword.new.self fault.line (c.in_ok-keyword.ensures.left.0 all h) (c.in_err-name.ensures.line of)) c.in_ok-keyword.ensures.ok c.in_err-name.ensures.tells of)
 
 pub returns-in_err-keyword-clause-stuck : task_goals.returns-in_err-keyword-clause-stuck
 returns-in_err-keyword-clause-stuck c =

@@ -22,7 +22,7 @@ returns-clause-names c =
     let now = c.keyword.new.self in
     both_told c.known_task.result _ _ _
     (λ fault tells line all h of. begin_after (key_word With) (IsUnknown fault.kind (λ (t : TaskLine). t.name) tasks) a.self.now.words now.words c.in_ok-keyword.ensures.ok
-    (unknown_next fault.kind now.words (line_before all now fault.line (c.in_ok-keyword.ensures.left all h) (line of)) (λ (t : TaskLine). t.name) tasks tells of))
+    (unknown_next fault.kind now.words (line_before all now fault.line (c.in_ok-keyword.ensures.left.0 all h) (line of)) (λ (t : TaskLine). t.name) tasks tells of))
     c.known_task.ensures.tells c.known_task.ensures.line
 
 pub returns-in_err-keyword-clause-stuck : goal.returns-in_err-keyword-clause-stuck

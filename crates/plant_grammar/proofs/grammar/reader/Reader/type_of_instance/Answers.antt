@@ -22,7 +22,7 @@ returns-clause-names c = λ all h of.
     let now = c.punctuation.new.self in
     let line : fault.line ≡ c.line-line.result = ap (λ (f : GrammarFault). f.line) c.at.ensures in
     begin_after (mark_word Colon) (IsUnknown fault.kind (λ (p : Program). p.name) programs) c.args.self.now.words now.words c.in_ok-punctuation.ensures.ok
-    (unknown_here fault.kind (ap (λ (f : GrammarFault). f.kind) c.at.ensures) now.words (line_before all now fault.line (c.in_ok-punctuation.ensures.left all h) (line ∙ c.line-line.ensures)) (λ (p : Program). p.name) programs
+    (unknown_here fault.kind (ap (λ (f : GrammarFault). f.kind) c.at.ensures) now.words (line_before all now fault.line (c.in_ok-punctuation.ensures.left.0 all h) (line ∙ c.line-line.ensures)) (λ (p : Program). p.name) programs
     (c.in_ok-name.name, c.name.new.self.words, c.in_ok-name.ensures.ok, missed_type c.args.types.now c.in_ok-name.name (sym c.in-None.ensures)))
 
 pub returns-in_err-punctuation-clause-stuck : type_of_instance_goals.returns-in_err-punctuation-clause-stuck
