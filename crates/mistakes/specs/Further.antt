@@ -14,9 +14,9 @@ pub record IsEmptiedFrom (text rest : List ℕ) : Type 0 where
   pub is : rest ≡ without_rows first count column (rows_of text)
 
 -- what is left of a text whose rows are emptied, as often as need be
-pub data IsLeftOf (text : List ℕ) (rest : List ℕ) : Type 0 where
-  whole : rest ≡ text → IsLeftOf text rest
-  less : (more : List ℕ) → IsLeftOf text more → IsEmptiedFrom more rest → IsLeftOf text rest
+pub data IsLeftOf (text : List ℕ) : List ℕ → Type 0 where
+  whole : IsLeftOf text text
+  less : (more rest : List ℕ) → IsLeftOf text more → IsEmptiedFrom more rest → IsLeftOf text rest
 
 -- `eval` or `check` refuses a text for this fault
 abbrev pub Refuses : List ℕ → TextFault → Type 0

@@ -142,13 +142,24 @@ fn told_of(alloc: Global, text: &str, fault: TextFault) -> Result<Option<String>
     }
 }
 
+/// Whether a text begins as a plant does.
+fn begins_as_plant(text: &str) -> bool {
+    let words = text.trim_start().as_bytes();
+    let word = words.split(|sign| !sign.is_ascii_alphabetic()).next().unwrap_or(words);
+    word.eq_ignore_ascii_case(b"PROGRAM") || word.eq_ignore_ascii_case(b"CONFIGURATION")
+}
+
 /// What else helps to mend a text that a command refused, behind what [`guidance::help_with`] tells: of a box whose first
 /// word is no block type, of a word that is written wrong, of the row that breaks a box, of a type's pins, of the column of
 /// a plant's word and what could stand there, of a comment that is none; then up to nine more faults, each with its place
-/// and kind. It is empty where there is nothing to tell.
+/// and kind. It is empty where there is nothing to tell, and where
+/// a plant is read as a drawing.
 pub fn more_with(alloc: Global, text: &str, fault: TextFault) -> Result<String, AllocError> {
     let plain = without_comments(alloc, text)?;
     let mut more = String::new(alloc);
+    if !matches!(fault, TextFault::Plant(_)) && begins_as_plant(plain.as_str()) {
+        return Ok(more);
+    }
     if let Some(told) = told_of(alloc, plain.as_str(), fault)? {
         more.push_str(told.as_str())?;
     }
