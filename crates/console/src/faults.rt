@@ -9,6 +9,7 @@ use crate::shown::Shown;
 use crate::status::{DIFFERS, FAILED, TEXT_REFUSED, WORD_REFUSED};
 use evaluation::InputFault;
 use guidance::{help_with, help_with_a_schedule, help_with_a_word};
+use mistakes::more_with;
 use std::alloc::AllocError;
 use std::fmt::Display;
 use std::io;
@@ -35,6 +36,7 @@ fn print_text_fault<R: Eprint + AllocGlobal>(
     eprintln!(rt; "{refusal}")?;
     print_remark(rt, file, text, fault);
     print_help(rt, help_with(rt.alloc(), text, fault));
+    print_help(rt, more_with(rt.alloc(), text, fault));
     Ok(TEXT_REFUSED)
 }
 

@@ -216,7 +216,7 @@ const AUDITS: [Remark; 8] = [
     },
     Remark {
         kind: "TooHigh",
-        sentence: "This START or RESTART is above the incarnation before by more than 1,000,000.",
+        sentence: "This START or RESTART is above the incarnation before by more than 1,000,000. It was changed, or a file of the folder of state was.",
     },
     Remark {
         kind: "Kept",
@@ -232,7 +232,7 @@ const AUDITS: [Remark; 8] = [
     },
     Remark {
         kind: "Waits",
-        sentence: "The journal of the resource that is named can't be shown so far itself; look at its own UNSHOWN line. Where all wait, two nodes of one resource ran at once.",
+        sentence: "The journal of the resource that is named can't be shown so far itself; look at its own UNSHOWN line. Where several wait for one another, a line was cut from the middle of a journal, or two nodes of one resource ran at once.",
     },
     Remark {
         kind: "Missing",
