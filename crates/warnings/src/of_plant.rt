@@ -8,7 +8,7 @@ use crate::of_text::networks_of;
 use crate::unbound::{UnboundInput, unbound_inputs};
 use crate::warning::Warning;
 use plant_grammar::{GrammarFaultKind, ProgramText, Reader, Resource, read_tree};
-use plant_text::read_words;
+use plant_text::{last_line, read_words};
 use std::alloc::{AllocError, Global};
 
 /// The greatest line on which a drawing may begin.
@@ -72,7 +72,7 @@ pub fn warnings_of_a_plant(alloc: Global, text: &str) -> Result<Option<PlantWarn
     ensures { IfOk result (λ told. MatchOption told (IsNoPlant text.now) (AreWarningsOfPlant text.now)) }
 {
     let words = read_words(alloc, text)?;
-    let mut reader = Reader::new(words.words(), words.last());
+    let mut reader = Reader::new(words.words(), last_line(text));
     let mut texts = Vec::new(alloc);
     match read_tree(alloc, &mut reader, &mut texts) {
         Ok(resources) => tree_warnings(alloc, texts, &resources),
