@@ -1,5 +1,5 @@
 -- A drawing whose networks have a fault.
-use Rattle.std.proofs.Common.{◌≡◌, ◌≢◌}
+use Rattle.std.proofs.Common.{◌≢◌}
 use Rattle.drawings.specs.Picture.{Picture}
 use Rattle.drawings.specs.declared.place.Place.{Place}
 use Rattle.network.specs.Networks.{HasFaultlessNetworks, IsFirstGraphFault, IsFirstGraphFaultAt}

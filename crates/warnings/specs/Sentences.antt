@@ -1,5 +1,6 @@
 -- What is told of each kind of warning.
-use Rattle.std.specs.Prelude.{ℕ, List, codes}
+use Rattle.std.specs.Prelude.{ℕ, ◌++◌, List, codes}
+use Rattle.warnings.specs.Unbound.{InputNames}
 use Rattle.warnings.specs.declared.warning.WarningKind.{WarningKind}
 use Rattle.warnings.specs.declared.warning.WarningKind.TheVariants as warning
 
@@ -11,3 +12,9 @@ sentence_of warning.MistypedContact =
     codes "Nothing stores into this variable, and another name is nearly the same. Where that one is meant, write it alike; a variable of its own has a name that differs by more than a letter."
 sentence_of warning.NeverRead =
     codes "Nothing reads this variable, and it is no output. Read it, declare it as VAR_OUTPUT, or leave it out."
+
+-- the same of an input that isn't bound
+abbrev pub unbound_sentence : InputNames → List ℕ
+unbound_sentence names =
+    names.resource ++ codes "." ++ names.instance ++ codes " doesn't bind its input " ++ names.input
+    ++ codes ", which so keeps its first value, FALSE or 0. Bind it, or take it out of VAR_INPUT."

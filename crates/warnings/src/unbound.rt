@@ -22,6 +22,27 @@ pub struct UnboundInput {
     pub input: Text,
 }
 
+impl UnboundInput {
+    ghost use Rattle.std.specs.Prelude.{string_bytes};
+    ghost use Rattle.warnings.specs.Sentences.{unbound_sentence};
+    ghost use Rattle.warnings.specs.Unbound.{names_in};
+
+    /// What is most likely not meant, and what to write instead.
+    pub fn sentence(&self, alloc: Global) -> Result<String, AllocError>
+        ensures { IfOk result (λ told. string_bytes told ≡ unbound_sentence (names_in self.now)) }
+    {
+        let mut told = String::from_str(alloc, self.resource.as_str())?;
+        told.push_str(".")?;
+        told.push_str(self.instance.as_str())?;
+        told.push_str(" doesn't bind its input ")?;
+        told.push_str(self.input.as_str())?;
+        told.push_str(
+            ", which so keeps its first value, FALSE or 0. Bind it, or take it out of VAR_INPUT.",
+        )?;
+        Ok(told)
+    }
+}
+
 fn is_input(declared: Declared) -> bool
     ensures { result ≡ is_input declared }
 {

@@ -1,4 +1,4 @@
-use Rattle.std.proofs.Common.{rules, ◌∙◌, ◌≡◌, true, false, sym, ap}
+use Rattle.std.proofs.Common.{rules, ◌∙◌, ◌≡◌, true, sym, ap}
 use Rattle.warnings.specs.Found.{small, is_undotted}
 use Rattle.warnings.proofs.SameNames.{mistyped_is}
 use Rattle.warnings.proofs.mistyped.is_mistyped.Goals as goal

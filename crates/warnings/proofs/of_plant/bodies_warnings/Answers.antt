@@ -1,4 +1,4 @@
-use Rattle.std.proofs.Common.{◌≡◌, List, [], ◌∷◌, ◌++◌, ap, ◌∙◌, sym}
+use Rattle.std.proofs.Common.{List, [], ◌∷◌, ◌++◌, ap, ◌∙◌, sym}
 use Rattle.plant_grammar.specs.Grammar.{TextValue}
 use Rattle.warnings.proofs.WarnedBodies.{passed_more, warned_more}
 use Rattle.warnings.proofs.of_plant.bodies_warnings.Goals as goal

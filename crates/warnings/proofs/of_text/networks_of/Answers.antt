@@ -1,4 +1,4 @@
-use Rattle.std.proofs.Common.{◌≡◌, inr, subst}
+use Rattle.std.proofs.Common.{inr, subst}
 use Rattle.drawings.specs.Picture.{Picture}
 use Rattle.network.specs.Networks.{IsFirstGraphFault}
 use Rattle.warnings.specs.OfText.{drawn_in}

@@ -1,4 +1,4 @@
-use Rattle.std.proofs.Common.{◌≡◌, ℕ, ◌+◌, ◌-◌, ◌<◌, suc, List, [], ◌∷◌, Bor, map, drop, drop-cons, get_or, length, ap, ◌∙◌, sym, subst, arith}
+use Rattle.std.proofs.Common.{◌≡◌, ℕ, ◌-◌, ◌<◌, suc, List, ◌∷◌, Bor, map, drop, drop-cons, get_or, length, ap, ◌∙◌, sym, subst, arith}
 use Rattle.std.specs.Prelude.{reverse}
 use Rattle.network.specs.declared.element.Element.{Element}
 use Rattle.warnings.specs.Found.{doubles}

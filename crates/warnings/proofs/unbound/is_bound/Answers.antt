@@ -1,4 +1,4 @@
-use Rattle.std.proofs.Common.{◌≡◌, List, Option, Some, false, ap, ◌∙◌, sym, subst}
+use Rattle.std.proofs.Common.{false, ap, ◌∙◌, sym}
 use Rattle.std.specs.Option.{option_map_or}
 use Rattle.warnings.specs.Unbound.{is_among_binds}
 use Rattle.warnings.proofs.unbound.is_bound.Goals as goal
