@@ -1,3 +1,4 @@
 pub mod Matching
 pub mod TracedRuns
 pub mod Ended
+pub mod WarnedEnds

@@ -1,7 +1,7 @@
 //! Warnings: what is lawful, and most likely not meant.
 
 ghost use Rattle.std.specs.Prelude.{◌≡◌, IfOk, MatchOption};
-ghost use Rattle.console.specs.Warned.{AreDrawingWarnings, ArePlantWarnings, IsNoDrawing, IsNoPlantEither, EndsWarned, IsDrawingQuiet, IsPlantQuiet, IsQuiet, is_plant_quiet, strict_status};
+ghost use Rattle.console.specs.Warned.{AreDrawingWarnings, ArePlantWarnings, IsNoDrawing, IsNoPlantEither, EndsWarned, IsDrawingQuiet, IsPlantQuiet, IsQuiet, IsStatusBehind, is_plant_quiet, strict_status};
 ghost use Rattle.console.specs.CommandLine.{strictness_of};
 
 use crate::command_fault::CommandFault;
@@ -30,7 +30,8 @@ fn print_warning<R: Eprint + AllocGlobal>(
         rt.eprint(shown.as_str())?;
     }
     let sentence = warning.kind.sentence();
-    eprintln!(rt; "{sentence}")
+    eprintln!(rt; "{sentence}")?;
+    Ok(())
 }
 
 fn print_warnings<R: Eprint + AllocGlobal>(
@@ -148,11 +149,15 @@ fn status_behind<R: Eprint>(
     told: Result<bool, AllocError>,
     strictness: Strictness,
     status: u8,
-) -> io::Result<u8> {
-    match (told, strictness) {
-        (Err(_), _) => print_failure(rt, CommandFault::Memory),
-        (Ok(quiet), Strictness::Strict) => Ok(strict_status(quiet, status)),
-        (Ok(_), Strictness::Told | Strictness::Silent) => Ok(status),
+) -> io::Result<u8>
+    ensures { IfOk result (IsStatusBehind told strictness status) }
+{
+    let Ok(quiet) = told else {
+        return print_failure(rt, CommandFault::Memory);
+    };
+    match strictness {
+        Strictness::Strict => Ok(strict_status(quiet, status)),
+        Strictness::Told | Strictness::Silent => Ok(status),
     }
 }
 
@@ -166,11 +171,28 @@ pub fn warn_of_a_drawing<R: Eprint + AllocGlobal>(
 ) -> io::Result<u8>
     ensures { IfOk result (EndsWarned (IsDrawingQuiet text.now) strictness status) }
 {
-    if strictness == Strictness::Silent {
-        return Ok(status);
+    match strictness {
+        Strictness::Silent => Ok(status),
+        Strictness::Told | Strictness::Strict => {
+            let told = tell_drawing(rt, file, text)?;
+            status_behind(rt, told, strictness, status)
+        }
     }
-    let told = tell_drawing(rt, file, text)?;
-    status_behind(rt, told, strictness, status)
+}
+
+/// Tells the warnings of the text of a request; whether there are none. An error is want of memory.
+fn tell_request<R: Eprint + AllocGlobal>(
+    rt: &R,
+    request: &TextRequest<'_>,
+    text: &str,
+) -> io::Result<Result<bool, AllocError>>
+    ensures { IfOk result (λ told. IfOk told (IsQuiet request.now text.now)) }
+{
+    match request {
+        TextRequest::Eval { .. } => tell_drawing(rt, request.file(), text),
+        TextRequest::Check { .. } => tell_plant(rt, request.file(), text),
+        TextRequest::Plan { .. } => Ok(Ok(true)),
+    }
 }
 
 /// Tells the warnings of the text of a request behind all else that is told; the status, which was this one before them.
@@ -183,13 +205,11 @@ pub fn warn<R: Eprint + AllocGlobal>(
     ensures { IfOk result (EndsWarned (IsQuiet request.now text.now) (strictness_of request.now) status) }
 {
     let strictness = request.strictness();
-    if strictness == Strictness::Silent {
-        return Ok(status);
+    match strictness {
+        Strictness::Silent => Ok(status),
+        Strictness::Told | Strictness::Strict => {
+            let told = tell_request(rt, request, text)?;
+            status_behind(rt, told, strictness, status)
+        }
     }
-    let told = match request {
-        TextRequest::Eval { .. } => tell_drawing(rt, request.file(), text)?,
-        TextRequest::Check { .. } => tell_plant(rt, request.file(), text)?,
-        TextRequest::Plan { .. } => Ok(true),
-    };
-    status_behind(rt, told, strictness, status)
 }
