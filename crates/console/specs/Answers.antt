@@ -19,7 +19,7 @@ use Rattle.text_commands.specs.declared.traced.Traced.{Traced}
 use Rattle.text_commands.specs.CheckText.{WritesCheck, ExplainsCheck}
 use Rattle.text_commands.specs.PlanText.{WritesPlan, ExplainsPlan}
 
--- there is color always, or where standard output is a terminal, or never
+-- there is color always, or where standard output is a terminal (and NO_COLOR is unset or empty), or never
 abbrev pub is_colored : Color → Bool → Bool
 is_colored Always terminal = true
 is_colored Auto terminal = terminal

@@ -3,6 +3,8 @@ pub mod Answers
 pub mod FieldWords
 pub mod NodeWords
 pub mod Statuses
+pub mod Refusals
+pub mod Remarks
 pub mod Giving
 pub mod Verifying
 pub mod TracedRun

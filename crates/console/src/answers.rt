@@ -4,8 +4,9 @@ ghost use Rattle.console.specs.Endings.{EndsAfter, EndsText, status_of_differenc
 
 use crate::answered::Answered;
 use crate::command_fault::CommandFault;
-use crate::faults::{print_difference, print_failure, print_fault};
+use crate::faults::{print_difference, print_failure, print_fault_of_text, print_unwritten};
 use crate::files::file_text;
+use crate::piped::Piped;
 use crate::request::{Color, TextRequest, TraceFiles, View};
 use crate::shown::Shown;
 use crate::status::{DONE, WORD_REFUSED};
@@ -113,11 +114,13 @@ fn tell_difference<R: Eprint>(rt: &R, file: &str, difference: Option<Difference>
     }
 }
 
-/// Tells how a command of one text ended; the status, and the texts for the files of a trace.
+/// Tells how a command of one text ended; the status, and the texts for the files of a trace. `is_closed` is whether the
+/// output's reader has ended.
 fn tell_text<R: Eprint + AllocGlobal>(
     rt: &R,
     request: &TextRequest<'_>,
     text: &str,
+    is_closed: bool,
     obeyed: Result<Traced, TextCommandFault>,
 ) -> io::Result<Answered>
     ensures { IfOk result (EndsAfter obeyed) }
@@ -128,7 +131,8 @@ fn tell_text<R: Eprint + AllocGlobal>(
             Ok(Answered { status, texts })
         }
         Err(fault) => {
-            let status = print_fault(rt, request.file(), text, request.words(), fault.into())?;
+            let (file, words) = (request.file(), request.words());
+            let status = print_fault_of_text(rt, file, text, words, is_closed, fault)?;
             Ok(Answered::with(status))
         }
     }
@@ -148,18 +152,18 @@ pub fn answer_text<R: Files + Clock + Print + Eprint + AllocGlobal>(
         Ok(text) => text,
         Err(status) => return Ok(Answered::with(status)),
     };
-    let mut writer = ToldLines::new(io::writer(rt), OnTerminal::new(rt, told));
+    let mut writer = Piped::new(ToldLines::new(io::writer(rt), OnTerminal::new(rt, told)));
     let obeyed = obey(rt.alloc(), terminal, request, text.as_str(), &mut writer);
-    writer.end();
-    tell_text(rt, request, text.as_str(), obeyed)
+    writer.to.end();
+    tell_text(rt, request, text.as_str(), writer.is_closed, obeyed)
 }
 
 /// Writes a text; the status.
 fn answer_with<R: Print + Eprint>(rt: &R, text: &str) -> io::Result<u8> {
-    let mut writer = io::writer(rt);
+    let mut writer = Piped::new(io::writer(rt));
     match write_text(&mut writer, text) {
         Ok(()) => Ok(0),
-        Err(_) => print_failure(rt, CommandFault::Write),
+        Err(_) => print_unwritten(rt, writer.is_closed),
     }
 }
 

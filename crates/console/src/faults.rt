@@ -1,7 +1,10 @@
 ghost use Rattle.std.specs.Prelude.{◌≡◌, IfOk};
+ghost use Rattle.console.specs.Giving.{command_fault};
 ghost use Rattle.console.specs.Statuses.{status_of_fault, status_of_inputs, status_of_lines, status_of_schedule};
 
 use crate::command_fault::CommandFault;
+use crate::refusals::{DifferenceLine, NoEvent, Refusal};
+use crate::remarks::{print_mark_of, print_remark};
 use crate::shown::Shown;
 use crate::status::{DIFFERS, FAILED, TEXT_REFUSED, WORD_REFUSED};
 use evaluation::InputFault;
@@ -9,7 +12,7 @@ use guidance::{help_with, help_with_a_schedule, help_with_a_word};
 use std::alloc::AllocError;
 use std::fmt::Display;
 use std::io;
-use text_commands::{Difference, TextFault, WordFaultKind};
+use text_commands::{Difference, TextCommandFault, TextFault, WordFaultKind};
 use world::{LiveFault, SimFault};
 
 /// Tells what helps to mend a text. The fault was told before: what can't be told here is left out.
@@ -28,11 +31,9 @@ fn print_text_fault<R: Eprint + AllocGlobal>(
 ) -> io::Result<u8>
     ensures { IfOk result (λ status. status ≡ 1) }
 {
-    let file = Shown(file);
-    match fault {
-        TextFault::TooLong => eprintln!(rt; "{fault}")?,
-        _ => eprintln!(rt; "{file}:{fault}")?,
-    }
+    let refusal = Refusal { file, fault };
+    eprintln!(rt; "{refusal}")?;
+    print_remark(rt, file, text, fault);
     print_help(rt, help_with(rt.alloc(), text, fault));
     Ok(TEXT_REFUSED)
 }
@@ -65,6 +66,16 @@ pub fn print_failure<R: Eprint>(rt: &R, fault: CommandFault) -> io::Result<u8>
     Ok(FAILED)
 }
 
+/// Tells that the output can't be written, unless its reader has ended, who wants no more; the status.
+pub(crate) fn print_unwritten<R: Eprint>(rt: &R, is_closed: bool) -> io::Result<u8>
+    ensures { IfOk result (λ status. status ≡ 3) }
+{
+    if is_closed {
+        return Ok(FAILED);
+    }
+    print_failure(rt, CommandFault::Write)
+}
+
 /// Tells a fault of a command; the text is that of the file. The status.
 pub fn print_fault<R: Eprint + AllocGlobal>(
     rt: &R,
@@ -87,6 +98,23 @@ pub fn print_fault<R: Eprint + AllocGlobal>(
     }
 }
 
+/// Tells a fault of a command of one text; the status. `is_closed` is whether the output's reader has ended.
+pub(crate) fn print_fault_of_text<R: Eprint + AllocGlobal>(
+    rt: &R,
+    file: &str,
+    text: &str,
+    words: &[&str],
+    is_closed: bool,
+    fault: TextCommandFault,
+) -> io::Result<u8>
+    ensures { IfOk result (λ status. status ≡ status_of_fault (command_fault fault)) }
+{
+    match fault {
+        TextCommandFault::Write => print_unwritten(rt, is_closed),
+        _ => print_fault(rt, file, text, words, fault.into()),
+    }
+}
+
 /// Tells what isn't as the words of a drawing expect; the status.
 pub(crate) fn print_difference<R: Eprint>(
     rt: &R,
@@ -95,8 +123,8 @@ pub(crate) fn print_difference<R: Eprint>(
 ) -> io::Result<u8>
     ensures { IfOk result (λ status. status ≡ 4) }
 {
-    let file = Shown(file);
-    eprintln!(rt; "{file}: {difference}")?;
+    let line = DifferenceLine { file, difference };
+    eprintln!(rt; "{line}")?;
     Ok(DIFFERS)
 }
 
@@ -117,23 +145,25 @@ pub(crate) fn print_input_fault<R: Eprint>(rt: &R, fault: InputFault) -> io::Res
     }
 }
 
-/// Tells why a schedule isn't done to its end; the status.
+/// Tells why a schedule isn't done to its end; the status. `is_closed` is whether the output's reader has ended.
 pub(crate) fn print_sim_fault<R: Eprint + AllocGlobal>(
     rt: &R,
     file: &str,
     schedule: &str,
+    is_closed: bool,
     fault: SimFault,
 ) -> io::Result<u8>
     ensures { IfOk result (λ status. status ≡ status_of_schedule fault) }
 {
     match fault {
         SimFault::Syntax { line } => {
-            let file = Shown(file);
-            eprintln!(rt; "{file}:{fault}")?;
+            let refusal = NoEvent { file, line };
+            eprintln!(rt; "{refusal}")?;
+            print_mark_of(rt, file, schedule);
             print_help(rt, help_with_a_schedule(rt.alloc(), schedule, line));
             Ok(TEXT_REFUSED)
         }
-        SimFault::Write => print_failure(rt, CommandFault::Write),
+        SimFault::Write => print_unwritten(rt, is_closed),
         SimFault::Memory => print_failure(rt, CommandFault::Memory),
     }
 }
@@ -149,8 +179,9 @@ pub(crate) fn print_live_fault<R: Eprint + AllocGlobal>(
     ensures { IfOk result (λ status. status ≡ status_of_lines fault) }
 {
     match fault {
-        LiveFault::Syntax { .. } | LiveFault::TooLong { .. } => {
-            eprintln!(rt; "{file}:{fault}")?;
+        LiveFault::Syntax { line: number } | LiveFault::TooLong { line: number } => {
+            let refusal = NoEvent { file, line: number };
+            eprintln!(rt; "{refusal}")?;
             let text = str::from_utf8(line).unwrap_or("");
             print_help(rt, help_with_a_schedule(rt.alloc(), text, 1));
             Ok(TEXT_REFUSED)

@@ -18,7 +18,7 @@ uses is a variable; it is written in either case.
 After each scan one line of all variables is written, in the order in which they appear in the drawing. With
 --show the drawing follows each of these lines as it stands in the file, with = for a - that has power in this
 scan, and # for a + or | of an upright that has it; --color always writes these in bold green, and auto does
-where standard output is a terminal. With --chart one line is written for each variable instead, after the
+on a terminal where NO_COLOR isn't set. With --chart one line is written for each variable instead, after the
 last scan: a BOOL is # where it is on and _ where it is off, a sign for each scan; a number or time is written
 after the first scan, and behind a blank after each one that changed it.
 
@@ -27,7 +27,8 @@ The first difference is told on standard error.
 
 With --vcd FILE all variables are written as a value change dump (IEEE 1364) after the last scan, for programs that show
 waves; with --svg FILE as a timing diagram, which a browser shows. The first scan is at 0 ms, each further one --dt MS later,
-or 1 ms where that is 0. A file is written whole, in the place of one of its name; both options may be given.
+or 1 ms where that is 0. A file is written whole, in the place of one of its name, but of none that is read; both options may
+be given.
 
 Example, for the drawing examples/start_stop.ladder:
 
@@ -218,8 +219,8 @@ ends the node after MS ms.
 
 With --state DIR the resource counts its incarnations in DIR/NAME.inc, one more at each start and RESTART, and its task K
 keeps what stands in VAR RETAIN in DIR/NAME.K.ret; without it the incarnation is 1: for one life alone. With --journal FILE
-each line is noted at the end of FILE, and on the disk, before it is done; plc audit reads these files. A second node doesn't
-use the same DIR or FILE meanwhile.
+each line is noted at the end of FILE, which is new or a journal, and on the disk, before it is done; plc audit reads these
+files. A second node doesn't use the same DIR or FILE meanwhile.
 
 Example:
 

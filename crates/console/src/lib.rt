@@ -14,7 +14,10 @@ mod given;
 mod help;
 mod node_prepared;
 mod page_answer;
+mod piped;
 mod prepared;
+mod refusals;
+mod remarks;
 mod request;
 mod schedules;
 mod shell_word;
@@ -39,5 +42,6 @@ pub use request::{
     TraceFiles, VerifyRequest, View,
 };
 pub use schedules::{answer_schedule, obey_lines, obey_schedule};
-pub use status::FAILED;
+pub use shown::Shown;
+pub use status::{FAILED, WORD_REFUSED};
 pub use verify_answer::{answer_verify, obey_verify};

@@ -16,7 +16,7 @@ pub enum View {
 #[derive(Clone, Copy, Debug, PartialEq, Eq)]
 pub enum Color {
     Always,
-    /// Where standard output is a terminal.
+    /// Where standard output is a terminal, and NO_COLOR is unset or empty.
     Auto,
     Never,
 }

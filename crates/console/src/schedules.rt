@@ -10,6 +10,7 @@ use crate::answers::wanted_for;
 use crate::command_fault::CommandFault;
 use crate::faults::{print_failure, print_live_fault, print_sim_fault};
 use crate::files::{STANDARD_INPUT, file_plant, file_text};
+use crate::piped::Piped;
 use crate::request::SimRequest;
 use crate::status::DONE;
 use plant::Plant;
@@ -55,11 +56,13 @@ pub fn obey_schedule<W: Write>(
     Ok(texts)
 }
 
-/// Tells how a schedule ended; the status, and the texts for the files of its trace.
+/// Tells how a schedule ended; the status, and the texts for the files of its trace. `is_closed` is whether the output's
+/// reader has ended.
 fn tell_schedule<R: Eprint + AllocGlobal>(
     rt: &R,
     request: &SimRequest<'_>,
     schedule: &str,
+    is_closed: bool,
     obeyed: Result<TraceTexts, SimFault>,
 ) -> io::Result<Answered>
     ensures { IfOk result (EndsAfterSchedule obeyed) }
@@ -70,7 +73,7 @@ fn tell_schedule<R: Eprint + AllocGlobal>(
             texts,
         }),
         Err(fault) => {
-            let status = print_sim_fault(rt, request.schedule, schedule, fault)?;
+            let status = print_sim_fault(rt, request.schedule, schedule, is_closed, fault)?;
             Ok(Answered::with(status))
         }
     }
@@ -86,10 +89,10 @@ fn write_schedule<R: Clock + Print + Eprint + AllocGlobal>(
 ) -> io::Result<Answered>
     ensures { IfOk result (IsScheduleDone plant.value request.now) }
 {
-    let mut writer = ToldLines::new(io::writer(rt), OnTerminal::new(rt, told));
+    let mut writer = Piped::new(ToldLines::new(io::writer(rt), OnTerminal::new(rt, told)));
     let obeyed = obey_schedule(rt.alloc(), request, plant, schedule, &mut writer);
-    writer.end();
-    tell_schedule(rt, request, schedule, obeyed)
+    writer.to.end();
+    tell_schedule(rt, request, schedule, writer.is_closed, obeyed)
 }
 
 /// Writes what each event of a schedule does to the plant, as the words ask for it, before it reads the next line;

@@ -2,7 +2,7 @@
 pub(crate) const TEXT_REFUSED: u8 = 1;
 
 /// The status after a word is refused.
-pub(crate) const WORD_REFUSED: u8 = 2;
+pub const WORD_REFUSED: u8 = 2;
 
 /// The status after a file can't be read, the output can't be written, the threads can't be run or something went wrong
 /// in them, or memory is refused.

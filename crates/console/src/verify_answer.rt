@@ -7,8 +7,9 @@ ghost use Rattle.console.specs.Verifying.{are_of_plant, are_plain, asked_questio
 ghost use Rattle.console.specs.Endings.{EndsVerify, IsDrawingVerified, IsPlantVerified, status_of_verdicts, status_of_plant_verdicts};
 
 use crate::command_fault::CommandFault;
-use crate::faults::{print_failure, print_fault, print_fault_of_word};
+use crate::faults::{print_failure, print_fault_of_text, print_fault_of_word};
 use crate::files::file_text;
+use crate::piped::Piped;
 use crate::request::VerifyRequest;
 use crate::shell_word::shell_word;
 use crate::status::{CLAIM_FAILS, DONE, UNDECIDED, WORD_REFUSED};
@@ -116,18 +117,19 @@ fn status_of(summary: Summary) -> u8
     }
 }
 
-/// Tells why there is no answer; the status.
+/// Tells why there is no answer; the status. `is_closed` is whether the output's reader has ended.
 fn print_verify_fault<R: Eprint + AllocGlobal>(
     rt: &R,
     request: &VerifyRequest<'_>,
     text: &str,
+    is_closed: bool,
     fault: VerifyFault,
 ) -> io::Result<u8>
     ensures { IfOk result (λ status. status ≡ status_of_question fault) }
 {
     match fault {
         VerifyFault::Command(fault) => {
-            print_fault(rt, request.file, text, &request.words, fault.into())
+            print_fault_of_text(rt, request.file, text, &request.words, is_closed, fault)
         }
         VerifyFault::Claim(fault) => {
             let is_unknown = fault.kind == ClaimFaultKind::NoVariable;
@@ -152,13 +154,14 @@ fn tell_verdicts<R: Eprint + AllocGlobal>(
     rt: &R,
     request: &VerifyRequest<'_>,
     text: &str,
+    is_closed: bool,
     answered: Result<Summary, VerifyFault>,
 ) -> io::Result<u8>
     ensures { IfOk result (λ status. status ≡ status_of_verdicts answered) }
 {
     match answered {
         Ok(summary) => Ok(status_of(summary)),
-        Err(fault) => print_verify_fault(rt, request, text, fault),
+        Err(fault) => print_verify_fault(rt, request, text, is_closed, fault),
     }
 }
 
@@ -185,18 +188,19 @@ pub fn obey_verify_plant<W: Write, P: Progress>(
     verify_plant_text(alloc, text, &question, writer, progress)
 }
 
-/// Tells why there is no answer about a plant; the status.
+/// Tells why there is no answer about a plant; the status. `is_closed` is whether the output's reader has ended.
 fn print_verify_plant_fault<R: Eprint + AllocGlobal>(
     rt: &R,
     request: &VerifyRequest<'_>,
     text: &str,
+    is_closed: bool,
     fault: VerifyPlantFault,
 ) -> io::Result<u8>
     ensures { IfOk result (λ status. status ≡ status_of_plant_question fault) }
 {
     match fault {
         VerifyPlantFault::Command(fault) => {
-            print_fault(rt, request.file, text, &request.words, fault.into())
+            print_fault_of_text(rt, request.file, text, &request.words, is_closed, fault)
         }
         VerifyPlantFault::Claim(fault) => {
             print_fault_of_word(rt, text, &request.claims, fault.number, false, fault)
@@ -215,13 +219,14 @@ fn tell_plant_verdicts<R: Eprint + AllocGlobal>(
     rt: &R,
     request: &VerifyRequest<'_>,
     text: &str,
+    is_closed: bool,
     answered: Result<Summary, VerifyPlantFault>,
 ) -> io::Result<u8>
     ensures { IfOk result (λ status. status ≡ status_of_plant_verdicts answered) }
 {
     match answered {
         Ok(summary) => Ok(status_of(summary)),
-        Err(fault) => print_verify_plant_fault(rt, request, text, fault),
+        Err(fault) => print_verify_plant_fault(rt, request, text, is_closed, fault),
     }
 }
 
@@ -237,7 +242,7 @@ fn answer_drawing<R: Clock + Print + Eprint + AllocGlobal>(
     let Ok(file) = shell_word(rt.alloc(), request.file) else {
         return print_failure(rt, CommandFault::Memory);
     };
-    let mut writer = io::writer(rt);
+    let mut writer = Piped::new(io::writer(rt));
     let mut progress = OnTerminal::new(rt, told);
     let answered = obey_verify(
         rt.alloc(),
@@ -248,7 +253,7 @@ fn answer_drawing<R: Clock + Print + Eprint + AllocGlobal>(
         &mut progress,
     );
     progress.end();
-    tell_verdicts(rt, request, text, answered)
+    tell_verdicts(rt, request, text, writer.is_closed, answered)
 }
 
 /// Writes what is true of the claims about the plant in the text; the status.
@@ -260,11 +265,11 @@ fn answer_plant<R: Clock + Print + Eprint + AllocGlobal>(
 ) -> io::Result<u8>
     ensures { IfOk result (IsPlantVerified request.now text.now) }
 {
-    let mut writer = io::writer(rt);
+    let mut writer = Piped::new(io::writer(rt));
     let mut progress = OnTerminal::new(rt, told);
     let answered = obey_verify_plant(rt.alloc(), request, text, &mut writer, &mut progress);
     progress.end();
-    tell_plant_verdicts(rt, request, text, answered)
+    tell_plant_verdicts(rt, request, text, writer.is_closed, answered)
 }
 
 /// Reads a drawing or a plant, and writes what is true of the claims about it; the status. `told` is whether the search tells

@@ -1,5 +1,5 @@
 -- The files of a trace that are due, and how the program ends.
-use Rattle.std.specs.Prelude.{◌≡◌, ◌⊎◌, ℕ, ◌++◌, List, [], ◌∷◌, Bool, true, Option, Some, None, string_bytes}
+use Rattle.std.specs.Prelude.{◌≡◌, ◌⊎◌, ℕ, ◌++◌, List, [], ◌∷◌, Bool, true, Option, Some, None, map, string_bytes}
 use Rattle.std.specs.Option.{option_map}
 use Rattle.std.specs.Borrow.{Bor}
 use Rattle.clap.specs.Words.{Text, subcommand_of}
@@ -15,6 +15,9 @@ use Rattle.console.specs.declared.request.TraceFiles.{TraceFiles}
 use Rattle.console.specs.CommandLine.{AsksFor, OnlyMemoryRefuses, files_in, plc_app}
 use Rattle.console.specs.Endings.{EndsSim, EndsText, EndsVerify, status_of_words}
 use Rattle.console.specs.PageAnswer.{EndsPage}
+use Rattle.plc_main.specs.declared.clashes.FileUse.{FileUse}
+use Rattle.plc_main.specs.Clashes.{first_clash}
+use Rattle.plc_main.specs.UsedFiles.{files_of, named}
 
 -- a file's path, and the text for it
 abbrev pub FileText : Type 0
@@ -54,11 +57,33 @@ EndsRequest terminal (Explain kind) old new status = new ≡ old
 EndsRequest terminal (Page file) old new status = EndsPage status × (new ≡ old)
 EndsRequest terminal (Audit request) old new status = new ≡ old
 
+-- Two of its files are one, and that is written: it is refused, and nothing is done. What the system tells of files no contract
+-- can say, so these are some.
+pub record IsClashing (request : Request) (old new : Option (List FileText)) (status : ℕ) : Type 0 where
+  pub files : List FileUse
+  pub are : map named files ≡ files_of request
+  pub clash : FileUse × FileUse
+  pub found : first_clash files ≡ Some clash
+  pub status_is : status ≡ 2
+  pub none : new ≡ old
+
+-- its files are apart, and so it ended
+pub record IsApart (terminal : Bool) (request : Request) (old new : Option (List FileText)) (status : ℕ) : Type 0 where
+  pub files : List FileUse
+  pub are : map named files ≡ files_of request
+  pub apart : first_clash files ≡ None
+  pub ended : EndsRequest terminal request old new status
+
+-- how the program ends for a request, by whether its files are apart
+abbrev pub EndsApart : Bool → Request → Option (List FileText) → Option (List FileText) → ℕ → Type 0
+EndsApart terminal request old new status =
+    IsClashing request old new status ⊎ IsApart terminal request old new status
+
 -- the words ask for this
 pub record IsRequested (terminal : Bool) (words : List Text) (old new : Option (List FileText)) (status : ℕ) : Type 0 where
   pub request : Request
   pub asked : AsksFor (subcommand_of plc_app words) request
-  pub ended : EndsRequest terminal request old new status
+  pub ended : EndsApart terminal request old new status
 
 -- the words ask for nothing, or memory was refused; 3 is also where that can't be told
 pub record IsRefused (words : List Text) (old new : Option (List FileText)) (status : ℕ) : Type 0 where

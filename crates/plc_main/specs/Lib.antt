@@ -1,4 +1,7 @@
 pub mod RunText
 pub mod AuditCommand
 pub mod NodeCommand
+pub mod Clashes
+pub mod UsedFiles
 pub mod Files
+pub mod JournalHead

@@ -2,11 +2,14 @@
 #![tactic(auto)]
 
 mod audit_command;
+mod clashes;
+mod journal_head;
 mod node_command;
 mod run_command;
 mod running_alone;
 mod told_run;
 mod trace_files;
+mod used_files;
 
 ghost use Rattle.std.specs.Prelude.{◌≡◌, ◌&&◌, All, length, map, not, string_bytes, vec_len, IfOk, IfErr};
 ghost use Rattle.evaluation.specs.InputTexts.{IsRead};
@@ -15,16 +18,17 @@ ghost use Rattle.text_commands.specs.Rows.{texts};
 ghost use Rattle.console.specs.FieldWords.{one_text_of};
 ghost use Rattle.plc_main.specs.AuditCommand.{AreNamed};
 ghost use Rattle.plc_main.specs.RunText.{WritesAskedRun, ExplainsRun};
-ghost use Rattle.plc_main.specs.Files.{EndsRequest, EndsWords};
+ghost use Rattle.plc_main.specs.Files.{EndsApart, EndsRequest, EndsWords};
 ghost use Rattle.console.specs.declared.request.Request.TheVariants as asked;
 
 use audit::JournalFile;
 use audit_command::audit_text;
+use clashes::{FileUse, first_clash};
 use console::{
-    Answered, AuditRequest, CommandFault, FAILED, Pace, Prepared, Request, RunRequest, SimRequest,
-    TextRequest, answer_kind, answer_kinds, answer_page, answer_schedule, answer_text,
-    answer_verify, file_bytes, file_plant, given_words, prepare, print_failure, print_fault,
-    print_given_fault, print_usage, read_words, wanted_for,
+    Answered, AuditRequest, CommandFault, FAILED, Pace, Prepared, Request, RunRequest, Shown,
+    SimRequest, TextRequest, WORD_REFUSED, answer_kind, answer_kinds, answer_page, answer_schedule,
+    answer_text, answer_verify, file_bytes, file_plant, given_words, prepare, print_failure,
+    print_fault, print_given_fault, print_usage, read_words, wanted_for,
 };
 use keepers::{
     BadLine, FileKeeper, FolderLock, Keeper, KeeperFault, LockFault, MemoryKeeper, SystemFolder,
@@ -37,16 +41,18 @@ use plant::{Plant, TaskRef};
 use run_command::{Ran, run_text};
 use running_alone::Inputs;
 use std::alloc::{AllocError, Global};
+use std::env::VarError;
 use std::io::{IsTerminal, Write};
 use std::process::ExitCode;
 use std::rt::{Clock, Env, Files};
 use std::sync::{Arc, Mutex, Wait};
 use std::thread::Threads;
-use std::{io, thread};
+use std::{env, fs, io, thread};
 use text_commands::plan_of;
 use text_lines::{OnTerminal, resource_name};
 use told_run::{ToldGate, UntoldWriter};
 use trace_files::{SystemFiles, TextFiles, write_files};
+use used_files::files_of;
 
 /// How often a command looks, at most, whether it may go: with `--paced` or `--clock`.
 const TURNS: u64 = 10_000_000;
@@ -268,6 +274,18 @@ fn print_resource_faults<R: Eprint + AllocGlobal>(
     print_task_faults(rt, plant, resource, path.as_str(), keeper)
 }
 
+/// Tells where there is no folder of this name; whether that is so.
+fn print_no_folder<R: Eprint>(rt: &R, host: &HostRuntime, folder: &str) -> io::Result<bool> {
+    let is_there = match fs::metadata(host, folder) {
+        Ok(found) => found.is_dir(),
+        Err(_) => false,
+    };
+    if !is_there {
+        eprintln!(rt; "plc: {folder}: there is no folder of this name")?;
+    }
+    Ok(!is_there)
+}
+
 /// Tells of which resources an incarnation couldn't be raised, or retained variables couldn't be told.
 fn print_keeper_faults<R: Eprint + AllocGlobal>(
     rt: &R,
@@ -275,6 +293,9 @@ fn print_keeper_faults<R: Eprint + AllocGlobal>(
     plant: &Plant,
     folder: &str,
 ) -> io::Result<()> {
+    if print_no_folder(rt, host, folder)? {
+        return Ok(());
+    }
     let keepers = keepers_in(rt.alloc(), host, plant, folder)?;
     for (resource, keeper) in keepers.iter().enumerate() {
         print_resource_faults(rt, plant, resource, folder, keeper)?;
@@ -386,14 +407,26 @@ fn answer_audit<R: Files + Print + Eprint + AllocGlobal>(
     }
 }
 
-/// Which of the standard streams are terminals.
+/// Which of the standard streams are terminals, and whether standard output may have colors unless the words say it.
 #[derive(Clone, Copy)]
 struct Terminals {
     output: bool,
     errors: bool,
+    colors: bool,
 }
 
 impl Terminals {
+    /// `uncolored` is whether no colors are wanted.
+    fn of(output: bool, errors: bool, uncolored: bool) -> Terminals
+        ensures { result ≡ record { output = output; errors = errors; colors = output && not uncolored } }
+    {
+        Terminals {
+            output,
+            errors,
+            colors: output && !uncolored,
+        }
+    }
+
     /// Whether it is told on standard error how far the lines on standard output are.
     fn tells_lines(self) -> bool
         ensures { result ≡ (self.errors && not self.output) }
@@ -410,9 +443,9 @@ fn obey_text<R: Files + Clock + Print + Eprint + AllocGlobal, F: TextFiles>(
     to: &mut F,
 ) -> io::Result<u8>
     ensures { IfOk result
-        (EndsRequest terminals.output (asked.Text request.now) (F.came to.old) (F.came to.new)) }
+        (EndsRequest terminals.colors (asked.Text request.now) (F.came to.old) (F.came to.new)) }
 {
-    let answered = answer_text(rt, terminals.output, terminals.tells_lines(), request)?;
+    let answered = answer_text(rt, terminals.colors, terminals.tells_lines(), request)?;
     write_files(to, request.files(), answered)
 }
 
@@ -424,7 +457,7 @@ fn obey_sim<R: Files + Clock + Input + Print + Eprint + AllocGlobal, F: TextFile
     to: &mut F,
 ) -> io::Result<u8>
     ensures { IfOk result
-        (EndsRequest terminals.output (asked.Sim request.now) (F.came to.old) (F.came to.new)) }
+        (EndsRequest terminals.colors (asked.Sim request.now) (F.came to.old) (F.came to.new)) }
 {
     let answered = answer_schedule(rt, terminals.tells_lines(), request)?;
     write_files(to, request.files, answered)
@@ -442,7 +475,7 @@ fn obey_threads<
     to: &mut F,
 ) -> io::Result<u8>
     ensures { IfOk result
-        (EndsRequest terminals.output (asked.Run request.now) (F.came to.old) (F.came to.new)) }
+        (EndsRequest terminals.colors (asked.Run request.now) (F.came to.old) (F.came to.new)) }
 {
     let answered = answer_run(rt, host, terminals.errors, request)?;
     write_files(to, request.files, answered)
@@ -462,7 +495,7 @@ fn obey_request<
     readers: S,
 ) -> io::Result<u8>
     requires { (inputs : _) → (ends : _) → S.pre readers inputs ends }
-    ensures { IfOk result (EndsRequest terminals.output request.now (F.came to.old) (F.came to.new)) }
+    ensures { IfOk result (EndsRequest terminals.colors request.now (F.came to.old) (F.came to.new)) }
 {
     match request {
         Request::Text(request) => obey_text(rt, terminals, request, to),
@@ -475,6 +508,43 @@ fn obey_request<
         Request::Explain(Some(kind)) => answer_kind(rt, kind),
         Request::Explain(None) => answer_kinds(rt),
     }
+}
+
+/// Tells that a file that is written is read, or is another one that is written; the status.
+fn print_clash<R: Eprint>(rt: &R, first: &FileUse<'_>, second: &FileUse<'_>) -> io::Result<u8>
+    ensures { IfOk result (λ status. status ≡ 2) }
+{
+    let (path, option) = (Shown(second.path), second.option.unwrap_or(""));
+    match first.option {
+        None => eprintln!(rt; "plc: {path}: this file is read: give another name to {option}")?,
+        Some(other) => eprintln!(rt;
+            "plc: {path}: this file is written for {other}: give another name to {option}"
+        )?,
+    }
+    Ok(WORD_REFUSED)
+}
+
+/// Obeys a request, unless a file that it writes is another one of its files; the status.
+fn obey_apart<
+    R: Files + Clock + Input + Print + Eprint + AllocGlobal + Threads + Wait + Sync,
+    F: TextFiles,
+    S: FnOnce(Inputs, ReaderEnds) -> bool,
+>(
+    rt: &R,
+    host: &HostRuntime,
+    terminals: Terminals,
+    request: &Request<'_>,
+    to: &mut F,
+    readers: S,
+) -> io::Result<u8>
+    requires { (inputs : _) → (ends : _) → S.pre readers inputs ends }
+    ensures { IfOk result (EndsApart terminals.colors request.now (F.came to.old) (F.came to.new)) }
+{
+    let files = files_of(rt, rt.alloc(), request)?;
+    if let Some((first, second)) = first_clash(&files) {
+        return print_clash(rt, &first, &second);
+    }
+    obey_request(rt, host, terminals, request, to, readers)
 }
 
 /// Reads the words of the command line, and obeys them; the status.
@@ -491,11 +561,20 @@ fn answer_words<
     readers: S,
 ) -> io::Result<u8>
     requires { (inputs : _) → (ends : _) → S.pre readers inputs ends }
-    ensures { IfOk result (EndsWords terminals.output (map (λ word. string_bytes word) words.now) (F.came to.old) (F.came to.new)) }
+    ensures { IfOk result (EndsWords terminals.colors (map (λ word. string_bytes word) words.now) (F.came to.old) (F.came to.new)) }
 {
     match read_words(rt.alloc(), words) {
-        Ok(request) => obey_request(rt, host, terminals, &request, to, readers),
+        Ok(request) => obey_apart(rt, host, terminals, &request, to, readers),
         Err(error) => print_usage(rt, &error),
+    }
+}
+
+/// Whether a variable of the environment is there, and not empty.
+fn is_set<R: Env + AllocGlobal>(rt: &R, name: &str) -> bool {
+    match env::var(rt, name) {
+        Ok(value) => !value.is_empty(),
+        Err(VarError::NotPresent) => false,
+        Err(_) => true,
     }
 }
 
@@ -510,10 +589,11 @@ fn answer<
         Ok(given) => given,
         Err(error) => return print_given_fault(rt, &error),
     };
-    let terminals = Terminals {
-        output: host.stdout().is_terminal(),
-        errors: host.stderr().is_terminal(),
-    };
+    let terminals = Terminals::of(
+        host.stdout().is_terminal(),
+        host.stderr().is_terminal(),
+        is_set(rt, "NO_COLOR"),
+    );
     answer_words(
         rt,
         host,

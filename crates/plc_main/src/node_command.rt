@@ -8,22 +8,25 @@ ghost use Rattle.live_node.specs.Stops.{StopsNode};
 ghost use Rattle.console.specs.NodeWords.{NamesResource};
 ghost use Rattle.plc_main.specs.NodeCommand.{RunsNode, StopsRunning};
 
+use crate::journal_head::begins_as_journal;
 use crate::running_alone::{Inputs, is_alone, run_alone};
-use crate::{keeper_in, print_lock_fault, print_resource_faults};
+use crate::{keeper_in, print_lock_fault, print_no_folder, print_resource_faults};
 use console::{FAILED, NodeRequest, PreparedNode, prepare_node};
 use keepers::{Keeper, MemoryKeeper, ResourceLock};
 use live_node::{FileNotes, JournalFault, LiveStop, NoNotes, Node, NodeStop, Notes, live};
 use node_loop::{LoopStop, NoClock, ReaderEnds};
 use std::alloc::{AllocError, Global};
-use std::io;
 use std::io::{BufReader, Read, Write};
 use std::rt::{Clock, Files};
 use std::sync::{Arc, Wait};
+use std::{fs, io};
 use text_lines::resource_name;
 
 /// Why a node isn't run to the end of its lines.
 #[derive(Clone, Copy, Debug, PartialEq, Eq)]
 pub enum NodeFault {
+    /// What is to be its journal is another text.
+    NoJournal,
     /// Its journal isn't opened.
     Journal(JournalFault),
     /// It ended before.
@@ -157,6 +160,27 @@ fn run_with<
     }
 }
 
+/// How many bytes of a file are read at most to see that it is a journal.
+const MOST_OF_HEAD: u64 = 100;
+
+/// The first bytes of a file; none of what is no file.
+fn head_of(host: &HostRuntime, path: &str) -> io::Result<Vec<u8>> {
+    let mut head = Vec::new(host.alloc());
+    if fs::metadata(host, path)?.is_file() {
+        let file = fs::open(host, path)?;
+        file.take(MOST_OF_HEAD).read_to_end(&mut head)?;
+    }
+    Ok(head)
+}
+
+/// Whether a file is seen to be another text than a journal.
+fn is_another_text(host: &HostRuntime, path: &str) -> bool {
+    match head_of(host, path) {
+        Ok(head) => !begins_as_journal(&head),
+        Err(_) => false,
+    }
+}
+
 /// Runs a node that notes to the journal that was asked for, if one was.
 fn run_noting<
     R: Clock + Input + Print + AllocGlobal + Wait,
@@ -176,6 +200,9 @@ fn run_noting<
     let Some(journal) = request.journal else {
         return run_with(rt, request, prepared, keeper, NoNotes, readers);
     };
+    if is_another_text(host, journal) {
+        return Err(NodeFault::NoJournal);
+    }
     match FileNotes::open(host, journal) {
         Ok(notes) => run_with(rt, request, prepared, keeper, notes, readers),
         Err(fault) => Err(NodeFault::Journal(fault)),
@@ -192,6 +219,10 @@ fn tell_node<R: Eprint>(
         Ok(()) => return Ok(0),
         Err(NodeFault::Stop(stop)) => eprintln!(rt; "plc: {stop}")?,
         Err(NodeFault::Unread) => eprintln!(rt; "plc: there is no thread for an input")?,
+        Err(NodeFault::NoJournal) => {
+            let journal = request.journal.unwrap_or("");
+            eprintln!(rt; "plc: {journal}: this is no journal")?;
+        }
         Err(NodeFault::Journal(fault)) => {
             let journal = request.journal.unwrap_or("");
             eprintln!(rt; "plc: {journal}: {fault}")?;
@@ -226,8 +257,10 @@ fn run_kept<
     let ran = run_noting(rt, host, request, prepared, keeper, readers);
     let status = tell_node(rt, request, ran)?;
     if let Err(NodeFault::Stop(LoopStop::Live(LiveStop::Node(NodeStop::Keeper(_))))) = ran {
-        let keeper = keeper_in(rt.alloc(), host, &plant, resource, folder)?;
-        print_resource_faults(rt, &plant, resource, folder, &keeper)?;
+        if !print_no_folder(rt, host, folder)? {
+            let keeper = keeper_in(rt.alloc(), host, &plant, resource, folder)?;
+            print_resource_faults(rt, &plant, resource, folder, &keeper)?;
+        }
     }
     Ok(status)
 }

@@ -35,7 +35,7 @@ fn keep_text<F: Folder>(
 }
 
 /// The folder of a path, and the name of the file there.
-fn folder_and_name(path: &str) -> (&str, &str) {
+pub fn folder_and_name(path: &str) -> (&str, &str) {
     match path.rsplit_once('/') {
         Some(("", name)) => ("/", name),
         Some(parts) => parts,

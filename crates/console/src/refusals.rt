@@ -1,0 +1,200 @@
+//! The first line of what is told of a text that is refused, and of a difference.
+
+ghost use Rattle.std.specs.Prelude.{◌≡◌, Some};
+ghost use Rattle.std.specs.Fmt.{DisplaysOnOk};
+ghost use Rattle.console.specs.Refusals.{at_line, at_place, bit_text, difference_line, difference_text, kind_of_body, kind_of_drawing, kind_of_names, kind_of_networks, kind_of_plant, no_event, refusal_of};
+
+use crate::shown::Shown;
+use ladder_text::DrawFaultKind;
+use name_faults::BindKind;
+use network::GraphFaultKind;
+use plant::{BodyFault, PlantFault, PlantFaultKind};
+use std::fmt;
+use std::fmt::{Display, Formatter};
+use text_commands::{Difference, TextFault};
+
+/// The name of the kind of a drawing's fault.
+fn kind_of_drawing(kind: DrawFaultKind) -> &'static str
+    ensures { result.now ≡ kind_of_drawing kind }
+{
+    match kind {
+        DrawFaultKind::NotAscii => "NotAscii",
+        DrawFaultKind::TooLarge => "TooLarge",
+        DrawFaultKind::NoLeftRail => "NoLeftRail",
+        DrawFaultKind::BadBox => "BadBox",
+        DrawFaultKind::BadMark => "BadMark",
+        DrawFaultKind::Crossing => "Crossing",
+        DrawFaultKind::NoSource => "NoSource",
+        DrawFaultKind::NameMissing => "NameMissing",
+        DrawFaultKind::StrayName => "StrayName",
+        DrawFaultKind::Memory => "Memory",
+    }
+}
+
+/// The name of the kind of a fault of networks.
+fn kind_of_networks(kind: GraphFaultKind) -> &'static str
+    ensures { result.now ≡ kind_of_networks kind }
+{
+    match kind {
+        GraphFaultKind::Unattached => "Unattached",
+        GraphFaultKind::TooTall => "TooTall",
+        GraphFaultKind::InstanceTwice => "InstanceTwice",
+        GraphFaultKind::Memory => "Memory",
+    }
+}
+
+/// The name of the kind of a fault of names.
+fn kind_of_names(kind: BindKind) -> &'static str
+    ensures { result.now ≡ kind_of_names kind }
+{
+    match kind {
+        BindKind::UnknownName => "UnknownName",
+        BindKind::WrongKind => "WrongKind",
+        BindKind::WritesInput => "WritesInput",
+        BindKind::UnknownPin => "UnknownPin",
+        BindKind::PinMissing => "PinMissing",
+        BindKind::LiteralOutOfRange => "LiteralOutOfRange",
+        BindKind::Memory => "Memory",
+    }
+}
+
+/// The name of the kind of a plant's fault.
+fn kind_of_plant(kind: PlantFaultKind) -> &'static str
+    ensures { result.now ≡ kind_of_plant kind }
+{
+    match kind {
+        PlantFaultKind::Syntax => "Syntax",
+        PlantFaultKind::Drawing => "Drawing",
+        PlantFaultKind::Graph => "Graph",
+        PlantFaultKind::Bind => "Bind",
+        PlantFaultKind::NameTwice => "NameTwice",
+        PlantFaultKind::UnknownName => "UnknownName",
+        PlantFaultKind::WrongKind => "WrongKind",
+        PlantFaultKind::InputBoundTwice => "InputBoundTwice",
+        PlantFaultKind::TooMany => "TooMany",
+        PlantFaultKind::Memory => "Memory",
+    }
+}
+
+/// The name of the kind of what a program's body has wrong.
+fn kind_of_body(fault: BodyFault) -> &'static str
+    ensures { result.now ≡ kind_of_body fault }
+{
+    match fault {
+        BodyFault::Drawing(kind) => kind_of_drawing(kind),
+        BodyFault::Graph(kind) => kind_of_networks(kind),
+        BodyFault::Bind(kind) => kind_of_names(kind),
+    }
+}
+
+/// Writes what is wrong at a place of a file.
+fn write_at_place<W: fmt::Write>(
+    f: &mut Formatter<W>,
+    file: &str,
+    line: u64,
+    column: usize,
+    kind: &str,
+) -> fmt::Result
+    ensures { DisplaysOnOk W.write_str_gives f.old result (Some (at_place file.now line column kind.now)) f.new }
+{
+    let file = Shown(file);
+    write!(f, "{file}:{line}:{column}: {kind}")
+}
+
+/// Writes what is wrong on a line of a file, and what its body has wrong, where that is told.
+fn write_at_line<W: fmt::Write>(f: &mut Formatter<W>, file: &str, fault: PlantFault) -> fmt::Result
+    ensures { DisplaysOnOk W.write_str_gives f.old result (Some (at_line file.now fault.line fault.kind fault.inner)) f.new }
+{
+    let (file, line, kind) = (Shown(file), fault.line, kind_of_plant(fault.kind));
+    match fault.inner {
+        None => write!(f, "{file}:{line}: {kind}"),
+        Some(inner) => {
+            let inner = kind_of_body(inner);
+            write!(f, "{file}:{line}: {kind} {inner}")
+        }
+    }
+}
+
+/// The first line of what is told of a text that is refused: where in the file, and the kind of what is wrong there.
+#[derive(Clone, Copy)]
+pub(crate) struct Refusal<'a> {
+    pub file: &'a str,
+    pub fault: TextFault,
+}
+
+impl Display for Refusal<'_> {
+    ghost output = { λ r. Some (refusal_of r.file.now r.fault) };
+
+    fn fmt<W: fmt::Write>(&self, f: &mut Formatter<W>) -> fmt::Result {
+        match self.fault {
+            TextFault::Draw(fault) => {
+                let kind = kind_of_drawing(fault.kind);
+                write_at_place(f, self.file, fault.line, fault.column, kind)
+            }
+            TextFault::Graph(fault) => {
+                let kind = kind_of_networks(fault.kind);
+                write_at_place(f, self.file, fault.line, fault.column, kind)
+            }
+            TextFault::Bind(fault) => {
+                let kind = kind_of_names(fault.kind);
+                write_at_place(f, self.file, fault.line, fault.column, kind)
+            }
+            TextFault::Plant(fault) => write_at_line(f, self.file, fault),
+            TextFault::TooLong => f.write_str("plan: TooLong"),
+        }
+    }
+}
+
+/// The first line of what is told of a schedule of which a line is no event.
+#[derive(Clone, Copy)]
+pub(crate) struct NoEvent<'a> {
+    pub file: &'a str,
+    pub line: u64,
+}
+
+impl Display for NoEvent<'_> {
+    ghost output = { λ r. Some (no_event r.file.now r.line) };
+
+    fn fmt<W: fmt::Write>(&self, f: &mut Formatter<W>) -> fmt::Result {
+        let (file, line) = (Shown(self.file), self.line);
+        write!(f, "{file}:{line}: Syntax")
+    }
+}
+
+/// A BOOL as a digit.
+fn bit_text(value: bool) -> &'static str
+    ensures { result.now ≡ bit_text value }
+{
+    if value { "1" } else { "0" }
+}
+
+/// Writes that a variable isn't what the words expect.
+fn write_difference<W: fmt::Write>(
+    f: &mut Formatter<W>,
+    file: &str,
+    name: &str,
+    scan: usize,
+    value: bool,
+) -> fmt::Result
+    ensures { DisplaysOnOk W.write_str_gives f.old result (Some (difference_text file.now name.now scan value)) f.new }
+{
+    let (file, is, other) = (Shown(file), bit_text(value), bit_text(!value));
+    write!(f, "{file}: {name} is {is} after ")?;
+    write!(f, "scan {scan}, expected {other}")
+}
+
+/// The line on a variable that isn't what the words expect.
+#[derive(Clone, Copy)]
+pub(crate) struct DifferenceLine<'a> {
+    pub file: &'a str,
+    pub difference: &'a Difference,
+}
+
+impl Display for DifferenceLine<'_> {
+    ghost output = { λ d. Some (difference_line d.file.now d.difference.now) };
+
+    fn fmt<W: fmt::Write>(&self, f: &mut Formatter<W>) -> fmt::Result {
+        let Difference { name, scan, value } = self.difference;
+        write_difference(f, self.file, name.as_str(), *scan, *value)
+    }
+}

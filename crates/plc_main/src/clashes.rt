@@ -1,0 +1,79 @@
+//! Which files of a command are one.
+
+ghost use Rattle.std.specs.Prelude.{◌≡◌};
+ghost use Rattle.std.specs.List.{find};
+ghost use Rattle.plc_main.specs.Clashes.{are_one, clash, first_clash, is_same};
+
+/// What the system knows a file by: the device and the number of what stands at a path; where nothing does, those of its
+/// folder, and its name there.
+#[derive(Clone, Copy)]
+pub struct Identity<'a> {
+    pub device: u64,
+    pub number: u64,
+    /// Empty, where the file is there.
+    pub name: &'a str,
+}
+
+impl Identity<'_> {
+    fn is_same(&self, other: &Identity<'_>) -> bool
+        ensures { result ≡ is_same self.now other.now }
+    {
+        self.device == other.device && self.number == other.number && self.name == other.name
+    }
+}
+
+/// A file that a command reads, or writes for an option.
+#[derive(Clone, Copy)]
+pub struct FileUse<'a> {
+    pub path: &'a str,
+    /// The option for which it is written. None: it is read.
+    pub option: Option<&'static str>,
+    /// None: the system doesn't know it.
+    pub identity: Option<Identity<'a>>,
+}
+
+/// Whether two paths are known to be of one file.
+fn are_one(first: &FileUse<'_>, second: &FileUse<'_>) -> bool
+    ensures { result ≡ are_one first.now second.now }
+{
+    match (&first.identity, &second.identity) {
+        (Some(first), Some(second)) => first.is_same(second),
+        _ => false,
+    }
+}
+
+/// Whether two files are one, and it is written.
+fn clash(first: &FileUse<'_>, second: &FileUse<'_>) -> bool
+    ensures { result ≡ clash first.now second.now }
+{
+    are_one(first, second) && (first.option.is_some() || second.option.is_some())
+}
+
+/// The first of the other files with which one clashes.
+fn clashing<'a>(file: &FileUse<'a>, others: &[FileUse<'a>]) -> Option<FileUse<'a>>
+    ensures { result ≡ find (clash file.now) others.now }
+{
+    match others {
+        [] => None,
+        [other, others @ ..] => {
+            if clash(file, other) {
+                Some(*other)
+            } else {
+                clashing(file, others)
+            }
+        }
+    }
+}
+
+/// The first file that clashes with a later one, and that one.
+pub fn first_clash<'a>(files: &[FileUse<'a>]) -> Option<(FileUse<'a>, FileUse<'a>)>
+    ensures { result ≡ first_clash files.now }
+{
+    match files {
+        [] => None,
+        [file, others @ ..] => match clashing(file, others) {
+            Some(other) => Some((*file, other)),
+            None => first_clash(others),
+        },
+    }
+}
