@@ -1,0 +1,4 @@
+pub mod SameNames
+pub mod LaterCoils
+pub mod WarningOrder
+pub mod FaultyNetworks

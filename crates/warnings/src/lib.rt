@@ -1,0 +1,17 @@
+//! What stands in a drawing or plant that is lawful, and most likely not meant.
+#![tactic(auto)]
+
+mod elements;
+mod mistyped;
+mod names;
+mod near;
+mod never_read;
+mod of_drawing;
+mod of_text;
+mod overwritten;
+mod small_names;
+mod warning;
+
+pub use of_drawing::{warnings_of_a_drawing, warnings_of_a_program};
+pub use of_text::warnings_of_a_text;
+pub use warning::{Warning, WarningKind};

@@ -1,0 +1,97 @@
+//! Contacts with a name that is most likely mistyped.
+
+ghost use Rattle.std.specs.Prelude.{◌≡◌, ◌++◌, ◌&&◌, not, OnOk, IfOk, ℕ, List, map, string_bytes};
+ghost use Rattle.std.specs.BTreeSet.{contains_text};
+ghost use Rattle.std.specs.List.{list_any};
+ghost use Rattle.warnings.specs.Near.{is_near};
+ghost use Rattle.warnings.specs.Found.{is_undotted, is_mistyped, mistyped_at, mistyped};
+ghost use Rattle.warnings.specs.Steps.{AreSmall};
+
+use crate::names::{names_of, stored_of};
+use crate::near::is_near;
+use crate::small_names::{small, small_names};
+use crate::warning::{Warning, WarningKind};
+use drawings::{Contact, Place};
+use network::Element;
+use std::alloc::{AllocError, Global};
+use std::collections::BTreeSet;
+
+fn is_undotted(name: &[u8]) -> bool
+    ensures { result ≡ is_undotted name.now }
+{
+    !name.contains(&b'.')
+}
+
+/// Whether a name in small letters is nearly one of a set.
+fn is_near_any(name: &[u8], names: &BTreeSet<String>) -> bool
+    ensures { result ≡ list_any (λ other. is_near name.now (string_bytes other)) names.now.keys }
+{
+    names
+        .iter()
+        .any(|other| is_near(name, other.as_str().as_bytes()))
+}
+
+/// Whether a name in small letters is none of those that something stores into, and nearly one of all.
+fn is_strange(name: &str, stored: &BTreeSet<String>, names: &BTreeSet<String>) -> bool
+    ensures { result ≡ (not (contains_text stored.now name.now) && list_any (λ other. is_near name.now (string_bytes other)) names.now.keys) }
+{
+    !stored.contains(name) && is_near_any(name.as_bytes(), names)
+}
+
+/// Whether a contact's name is most likely mistyped, by the names that something stores into and by all names.
+fn is_mistyped(
+    alloc: Global,
+    contact: &Contact,
+    stored: &BTreeSet<String>,
+    names: &BTreeSet<String>,
+) -> Result<bool, AllocError>
+    ensures { (xs ys : List (List ℕ)) → AreSmall xs stored.now → AreSmall ys names.now → IfOk result (λ r. r ≡ is_mistyped contact.now.name xs ys) }
+{
+    if !is_undotted(contact.name.as_bytes()) {
+        return Ok(false);
+    }
+    let name = small(alloc, contact.name.as_str())?;
+    let strange = is_strange(name.as_str(), stored, names);
+    Ok(strange)
+}
+
+/// Warns of an element that is a contact with a name most likely mistyped.
+fn push_mistyped(
+    warnings: &mut Vec<Warning>,
+    first_line: u64,
+    element: &Element,
+    stored: &BTreeSet<String>,
+    names: &BTreeSet<String>,
+) -> Result<(), AllocError>
+    ensures { (xs ys : List (List ℕ)) → AreSmall xs stored.now → AreSmall ys names.now → OnOk result (warnings.new.items ≡ warnings.old.items ++ mistyped_at first_line xs ys element.now) }
+{
+    let alloc = *warnings.allocator();
+    let Element::Contact(contact) = element else {
+        return Ok(());
+    };
+    if is_mistyped(alloc, contact, stored, names)? {
+        let place = Place {
+            row: contact.row,
+            column: contact.column,
+        };
+        warnings.push(Warning::at(WarningKind::MistypedContact, first_line, place))?;
+    }
+    Ok(())
+}
+
+/// The contacts with a name that is most likely mistyped.
+pub fn mistyped(
+    alloc: Global,
+    first_line: u64,
+    elements: &[&Element],
+) -> Result<Vec<Warning>, AllocError>
+    ensures { IfOk result (λ found. found.items ≡ mistyped first_line (map (λ e. e.now) elements.now)) }
+{
+    let stored = small_names(alloc, &stored_of(alloc, elements)?)?;
+    let names = small_names(alloc, &names_of(alloc, elements)?)?;
+    let mut found = Vec::new(alloc);
+    for element in elements {
+        push_mistyped(&mut found, first_line, element, &stored, &names)?;
+    }
+    Ok(found)
+}

@@ -1,0 +1,76 @@
+//! The warnings of a drawing.
+
+ghost use Rattle.std.specs.Prelude.{◌≡◌, IfOk, OnOk, map};
+ghost use Rattle.std.specs.List.Sorted.{IsPermutation, IsSortedBy};
+ghost use Rattle.warnings.specs.NeverRead.{found_in_a_program, AreProgramWarnings};
+ghost use Rattle.warnings.specs.Found.{found, is_told_before, AreWarnings};
+
+use crate::elements::elements_of;
+use crate::mistyped::mistyped;
+use crate::never_read::never_read;
+use crate::overwritten::doubles;
+use crate::warning::Warning;
+use declared_names::Declarations;
+use network::{Element, Graph};
+use std::alloc::{AllocError, Global};
+
+/// Puts warnings in order by line and then column.
+fn sort_warnings(warnings: &mut Vec<Warning>) -> Result<(), AllocError>
+    ensures permutation { IsPermutation warnings.old.items warnings.new.items }
+    ensures sorted { OnOk result (IsSortedBy is_told_before warnings.new.items) }
+{
+    warnings.sort_by_key(|warning: &Warning| (warning.line, warning.column))?;
+    Ok(())
+}
+
+/// All that is warned of in the drawing of a program, kind after kind.
+fn found_in_a_program(
+    alloc: Global,
+    first_line: u64,
+    declarations: &Declarations,
+    elements: &[&Element],
+) -> Result<Vec<Warning>, AllocError>
+    ensures { IfOk result (λ found. found.items ≡ found_in_a_program first_line declarations.now (map (λ e. e.now) elements.now)) }
+{
+    let mut warnings = doubles(alloc, first_line, elements)?;
+    let mut more = never_read(alloc, first_line, declarations, elements)?;
+    warnings.append(&mut more)?;
+    Ok(warnings)
+}
+
+/// All that is warned of, kind after kind.
+fn found(alloc: Global, first_line: u64, elements: &[&Element]) -> Result<Vec<Warning>, AllocError>
+    ensures { IfOk result (λ found_here. found_here.items ≡ found first_line (map (λ e. e.now) elements.now)) }
+{
+    let mut warnings = doubles(alloc, first_line, elements)?;
+    let mut more = mistyped(alloc, first_line, elements)?;
+    warnings.append(&mut more)?;
+    Ok(warnings)
+}
+
+/// What is warned of in a drawing, by line and then column: each coil that a later one overwrites in the same scan, and
+/// each contact with a name that is most likely mistyped.
+pub fn warnings_of_a_drawing(alloc: Global, graph: &Graph) -> Result<Vec<Warning>, AllocError>
+    ensures { IfOk result (λ warnings. AreWarnings graph.now warnings.items) }
+{
+    let elements = elements_of(alloc, graph)?;
+    let mut warnings = found(alloc, graph.first_line(), &elements)?;
+    sort_warnings(&mut warnings)?;
+    Ok(warnings)
+}
+
+/// What is warned of in the drawing of a program with these declarations, by line and then column: each coil that a later
+/// one overwrites in the same evaluation, and each place where a variable is stored into that nothing reads and that is
+/// neither an input nor an output.
+pub fn warnings_of_a_program(
+    alloc: Global,
+    graph: &Graph,
+    declarations: &Declarations,
+) -> Result<Vec<Warning>, AllocError>
+    ensures { IfOk result (λ warnings. AreProgramWarnings graph.now declarations.now warnings.items) }
+{
+    let elements = elements_of(alloc, graph)?;
+    let mut warnings = found_in_a_program(alloc, graph.first_line(), declarations, &elements)?;
+    sort_warnings(&mut warnings)?;
+    Ok(warnings)
+}
