@@ -1,8 +1,17 @@
--- Where a loop stands with its node.
-use Rattle.std.specs.Prelude.{ℕ, Bool, List, Option}
+-- A run of a loop with its node: what is written at the start, and then turns, one after the other.
+use Rattle.std.specs.Prelude.{◌≡◌, ◌⊎◌, ℕ, Bool, true, List, Option}
+use Rattle.std.specs.Io.KnownBytes.{Appends}
+use Rattle.text_lines.specs.Sending.{SendsPart}
+use Rattle.live_node.specs.NodeAnswers.{Raising}
+use Rattle.live_node.specs.declared.live_stop.LiveStop.TheVariants.{Write}
 use Rattle.field_node.specs.declared.field_node.FieldNode.{FieldNode}
+use Rattle.field_node.specs.FieldNodes.{IsSameSetting}
+use Rattle.node_loop.specs.declared.ending.Ending.{Ending}
+use Rattle.node_loop.specs.declared.loop_stop.LoopStop.{LoopStop}
+use Rattle.node_loop.specs.declared.loop_stop.LoopStop.TheVariants.{Live}
 use Rattle.node_loop.specs.Given.{Turn}
-use Rattle.node_loop.specs.Turns.{Setting, Condition, Standing}
+use Rattle.node_loop.specs.Turns.{Setting, Condition, Standing, HaveTurned, IsOver, moment_of}
+use Rattle.node_loop.specs.Stops.{StopsBehind}
 
 -- what stays of a node
 abbrev pub setting_of : {K N : Type 0} → FieldNode K N → Setting
@@ -16,3 +25,40 @@ condition_of node noted = record { node = node.node.state; field = node.field; c
 abbrev pub stands : {K N : Type 0} → FieldNode K N → Bool → Option (List Turn) → Option (List ℕ) → Option (List ℕ) → Standing
 stands node going given noted written =
     record { condition = condition_of node noted; going = going; given = given; written = written }
+
+-- A loop ran to its end: what is written at the start was written whole; behind it turns were made, one after the other; and
+-- then the loop was at its end. Nothing else was given, noted or written.
+pub record RunsLoop {K N : Type 0} (raising : Raising) (ending : Ending) (begun : List ℕ) (old new : FieldNode K N)
+    (given_old given_new : Option (List Turn)) (noted_old noted_new from to : Option (List ℕ)) : Type 0 where
+  pub same : IsSameSetting old new
+  pub behind_begun : Option (List ℕ)
+  pub begins : Appends from behind_begun begun
+  pub turns : List Turn
+  pub going : Bool
+  pub given : Option (List Turn)
+  pub turned : HaveTurned raising (setting_of old) ending (stands old true given_old noted_old behind_begun) turns
+      (stands new going given noted_new to)
+  pub over : IsOver (moment_of ending.until) going given given_new
+
+-- nothing was given or noted, and no more than a beginning of what is written at the start was written
+pub record StopsAtStart (begun : List ℕ) (given_old given_new : Option (List Turn)) (noted_old noted_new from to : Option (List ℕ))
+    (stop : LoopStop) : Type 0 where
+  pub cause : stop ≡ Live Write
+  pub ungiven : given_new ≡ given_old
+  pub unnoted : noted_new ≡ noted_old
+  pub sent : SendsPart begun from to
+
+-- what is written at the start was written whole; behind it turns were made, one after the other; and at the next one the loop
+-- stopped
+pub record StopsGoing {K N : Type 0} (raising : Raising) (ending : Ending) (begun : List ℕ) (old : FieldNode K N)
+    (given_old given_new : Option (List Turn)) (noted_old noted_new from to : Option (List ℕ)) (stop : LoopStop) : Type 0 where
+  pub behind_begun : Option (List ℕ)
+  pub begins : Appends from behind_begun begun
+  pub stops : StopsBehind raising (setting_of old) ending (stands old true given_old noted_old behind_begun) given_new noted_new to stop
+
+-- Why a loop stops, and what was given, noted and written before.
+abbrev pub StopsLoop : {K N : Type 0} → Raising → Ending → List ℕ → FieldNode K N → Option (List Turn) → Option (List Turn)
+    → Option (List ℕ) → Option (List ℕ) → Option (List ℕ) → Option (List ℕ) → LoopStop → Type 0
+StopsLoop raising ending begun old given_old given_new noted_old noted_new from to stop =
+    StopsAtStart begun given_old given_new noted_old noted_new from to stop
+    ⊎ StopsGoing raising ending begun old given_old given_new noted_old noted_new from to stop
