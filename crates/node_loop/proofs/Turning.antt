@@ -31,7 +31,7 @@ turned_behind raising set ending first mid last before (turn ∷ turns) h (s, k,
 pub same_node : {K N : Type 0} (node : FieldNode K N) → IsSameSetting node node
 same_node node = record { plant_is = refl; resource_is = refl; has_field_is = refl }
 
-same_both : {K N : Type 0} (a b c : FieldNode K N) → IsSameSetting a b → IsSameSetting b c → IsSameSetting a c
+pub same_both : {K N : Type 0} (a b c : FieldNode K N) → IsSameSetting a b → IsSameSetting b c → IsSameSetting a c
 same_both a b c p q = record { plant_is = q.plant_is ∙ p.plant_is; resource_is = q.resource_is ∙ p.resource_is; has_field_is = q.has_field_is ∙ p.has_field_is }
 
 same_setting : {K N : Type 0} (a b : FieldNode K N) → IsSameSetting a b → setting_of b ≡ setting_of a
@@ -145,25 +145,25 @@ turned_both raising ending a b c false g1 g2 g3 g4 n1 n2 n3 w1 w2 w3 is p q =
 
 -- it ran to its end
 pub runs_ended : {K N : Type 0} (raising : Raising) (ending : Ending) (begun : List ℕ) (a b : FieldNode K N) (g1 g2 : Option (List Turn)) (n1 n2 from mid to : Option (List ℕ))
-    → Appends from mid begun → Ends raising ending a b g1 g2 n1 n2 mid to → RunsLoop raising ending begun a b g1 g2 n1 n2 from to
+    → Appends from mid begun → Ends raising ending a b g1 g2 n1 n2 mid to → RunsLoop raising (setting_of a) ending begun (condition_of a n1) (condition_of b n2) g1 g2 from to
 runs_ended raising ending begun a b g1 g2 n1 n2 from mid to begins e = record {
-  same = e.follows.same;
   behind_begun = mid;
   begins = begins;
   turns = e.follows.turns;
-  going = e.going;
-  given = e.given;
+  last = stands b e.going e.given n2 to;
   turned = e.follows.turned;
   over = e.over;
+  new_is = refl;
+  to_is = refl;
 }
 
 -- it stopped behind what is written at the start
 pub stops_going : {K N : Type 0} (raising : Raising) (ending : Ending) (begun : List ℕ) (a : FieldNode K N) (g1 g2 : Option (List Turn)) (n1 n2 from mid to : Option (List ℕ)) (stop : LoopStop)
-    → Appends from mid begun → Stops raising ending a g1 g2 n1 n2 mid to stop → StopsLoop raising ending begun a g1 g2 n1 n2 from to stop
+    → Appends from mid begun → Stops raising ending a g1 g2 n1 n2 mid to stop → StopsLoop raising (setting_of a) ending begun (condition_of a n1) g1 g2 n2 from to stop
 stops_going raising ending begun a g1 g2 n1 n2 from mid to stop begins stops = inr (record { behind_begun = mid; begins = begins; stops = stops })
 
 -- what is written at the start isn't written
 pub stops_at_start : {K N : Type 0} (raising : Raising) (ending : Ending) (begun : List ℕ) (a : FieldNode K N) (given : Option (List Turn)) (noted from to : Option (List ℕ)) (stop : LoopStop)
-    → IsUnwritten begun from to stop → StopsLoop raising ending begun a given given noted noted from to stop
+    → IsUnwritten begun from to stop → StopsLoop raising (setting_of a) ending begun (condition_of a noted) given given noted from to stop
 stops_at_start raising ending begun a given noted from to stop unwritten =
     inl (record { cause = unwritten.0; ungiven = refl; unnoted = refl; sent = unwritten.1 })

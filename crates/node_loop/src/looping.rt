@@ -4,9 +4,10 @@ ghost use Rattle.std.specs.Prelude.{◌≡◌, ◌+◌, ◌<◌, ◌≤◌, not,
 ghost use Rattle.std.specs.Io.KnownBytes.{Appends};
 ghost use Rattle.live_node.specs.Keeping.{KeepsAllButOne, KeepsCore};
 ghost use Rattle.live_node.specs.NodeAnswers.{a_keeper_gives};
+ghost use Rattle.field_node.specs.FieldNodes.{IsSameSetting};
 ghost use Rattle.node_loop.specs.Given.{Reads, Takes};
 ghost use Rattle.node_loop.specs.Turns.{is_going};
-ghost use Rattle.node_loop.specs.Loops.{RunsLoop, StopsLoop};
+ghost use Rattle.node_loop.specs.Loops.{condition_of, setting_of, RunsLoop, StopsLoop};
 ghost use Rattle.node_loop.specs.Steps.Following.{goes_on, is_over, Follows, HasTurned, IsUnwritten, MadeOf, NotMadeOf, Stops};
 
 use crate::ending::Ending;
@@ -311,12 +312,13 @@ pub fn run_loop<K: Keeper, N: Notes, S: TurnSource, W: Write>(
 ) -> Result<(), LoopStop>
     requires fresh { node.old.node.state.lines ≡ 0 }
     requires kept { K.last node.old.node.keeper ≡ node.old.node.state.core.incarnation }
-    ensures ok { OnOk result (RunsLoop (a_keeper_gives K.last K.raise_gives) ending begun.now node.old node.new
-        (S.given source.old) (S.given source.new) (N.noted node.old.node.notes) (N.noted node.new.node.notes)
-        (W.contents out.old) (W.contents out.new)) }
-    ensures stopped { IfErr result (StopsLoop (a_keeper_gives K.last K.raise_gives) ending begun.now node.old
-        (S.given source.old) (S.given source.new) (N.noted node.old.node.notes) (N.noted node.new.node.notes)
-        (W.contents out.old) (W.contents out.new)) }
+    ensures ok { OnOk result (RunsLoop (a_keeper_gives K.last K.raise_gives) (setting_of node.old) ending begun.now
+        (condition_of node.old (N.noted node.old.node.notes)) (condition_of node.new (N.noted node.new.node.notes))
+        (S.given source.old) (S.given source.new) (W.contents out.old) (W.contents out.new)) }
+    ensures setting { OnOk result (IsSameSetting node.old node.new) }
+    ensures stopped { IfErr result (StopsLoop (a_keeper_gives K.last K.raise_gives) (setting_of node.old) ending begun.now
+        (condition_of node.old (N.noted node.old.node.notes)) (S.given source.old) (S.given source.new)
+        (N.noted node.new.node.notes) (W.contents out.old) (W.contents out.new)) }
     ensures kept { OnOk result (K.last node.new.node.keeper ≡ node.new.node.state.core.incarnation) }
     ensures keeps { OnOk result (KeepsCore (K.kept_gives node.old.node.keeper) node.old.node.state.core → KeepsCore (K.kept_gives node.new.node.keeper) node.new.node.state.core) }
     ensures rest { OnErr result (KeepsCore (K.kept_gives node.old.node.keeper) node.old.node.state.core → KeepsAllButOne (K.kept_gives node.new.node.keeper) node.new.node.state.core) }
