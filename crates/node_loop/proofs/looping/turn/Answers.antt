@@ -2,6 +2,8 @@ use Rattle.std.proofs.Common.{◌≡◌, true, false, sym, ◌∙◌, ap, subst}
 use Rattle.std.specs.Prelude.{not}
 use Rattle.lists.proofs.Results.{kept_fault}
 use Rattle.live_node.specs.NodeAnswers.{a_keeper_gives}
+use Rattle.live_node.specs.Keeping.{KeepsAllButOne, KeepsCore}
+use Rattle.text_lines.proofs.Sending.{on_err}
 use Rattle.node_loop.specs.Steps.Following.{Follows, HasTurned, Stops, is_over}
 use Rattle.node_loop.proofs.Turning.{turned_both, stops_behind}
 use Rattle.node_loop.proofs.looping.turn.Goals as goal
@@ -58,3 +60,12 @@ returns-in_err-took-clause-stopped g c =
     let looked = subst (λ over. HasTurned raising c.args.ending old mid given now noted_old noted_mid from written (not over)) (sym c.is_over.ensures ∙ c.if-is_over.false) c.in_ok-looked.ensures.looked in
     kept_fault stop (λ s. Stops raising c.args.ending old given left noted_old noted_new from to s) c.from_residual-in_err-took.result c.from_residual-in_err-took.ensures.1
     (stops_behind raising c.args.ending old mid given now left noted_old noted_mid noted_new from written to stop looked c.in_err-took.ensures.stopped)
+
+pub returns-clause-keeps : goal.returns-clause-keeps
+returns-clause-keeps g c = λ keeps. c.in_ok-took.ensures.keeps (c.in_ok-looked.ensures.keeps keeps)
+
+pub returns-in_err-took-clause-rest : goal.returns-in_err-took-clause-rest
+returns-in_err-took-clause-rest g c =
+    let old = KeepsCore (g.K.Keeper.kept_gives c.args.node.now.node.keeper) c.args.node.now.node.state.core in
+    let new = KeepsAllButOne (g.K.Keeper.kept_gives c.take_both.new.node.node.keeper) c.take_both.new.node.node.state.core in
+    on_err {P = old → new} _ (λ keeps. c.in_err-took.ensures.rest (c.in_ok-looked.ensures.keeps keeps))
