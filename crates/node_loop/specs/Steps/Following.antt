@@ -2,8 +2,6 @@
 use Rattle.std.specs.Prelude.{◌≡◌, ℕ, Bool, true, false, List, Option}
 use Rattle.text_lines.specs.Sending.{SendsPart}
 use Rattle.live_node.specs.NodeAnswers.{Raising}
-use Rattle.live_node.specs.declared.node_stop.NodeStop.{NodeStop}
-use Rattle.live_node.specs.declared.live_stop.LiveStop.{LiveStop}
 use Rattle.live_node.specs.declared.live_stop.LiveStop.TheVariants.{Node, Read, Write, Memory}
 use Rattle.text_lines.specs.declared.read_fault.ReadFault.TheVariants as reading
 use Rattle.cycle.specs.declared.origin.Origin.TheVariants.{Neighbours}

@@ -1,12 +1,12 @@
 -- What is written at the start, and then turns, one after the other.
-use Rattle.std.proofs.Common.{◌≡◌, true, false, refl, sym, subst, arith}
+use Rattle.std.proofs.Common.{true, refl, subst, arith}
 use Rattle.lists.proofs.Results.{kept_fault}
 use Rattle.live_node.specs.NodeAnswers.{a_keeper_gives}
 use Rattle.live_node.specs.Keeping.{KeepsAllButOne, KeepsCore}
 use Rattle.text_lines.proofs.Sending.{on_err}
 use Rattle.node_loop.specs.declared.loop_stop.LoopStop.TheVariants.{Clock}
 use Rattle.node_loop.specs.Loops.{setting_of, condition_of, StopsLoop}
-use Rattle.node_loop.specs.Steps.Following.{HasTurned, IsUnwritten}
+use Rattle.node_loop.specs.Steps.Following.{HasTurned}
 use Rattle.node_loop.proofs.Turning.{ends_behind, follows_both, follows_none, runs_ended, same_both, stops_at_start, stops_behind, stops_clock, stops_going}
 use Rattle.node_loop.proofs.looping.run_loop.Goals as goal
 

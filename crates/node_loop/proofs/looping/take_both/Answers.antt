@@ -1,4 +1,4 @@
-use Rattle.std.proofs.Common.{◌≡◌, true, sym, ◌∙◌, subst}
+use Rattle.std.proofs.Common.{sym, ◌∙◌, subst}
 use Rattle.lists.proofs.Results.{kept_fault}
 use Rattle.live_node.specs.NodeAnswers.{a_keeper_gives}
 use Rattle.live_node.specs.Keeping.{KeepsAllButOne, KeepsCore}

@@ -1,10 +1,10 @@
-use Rattle.std.proofs.Common.{◌≡◌, true, false, sym, ◌∙◌, ap, subst}
+use Rattle.std.proofs.Common.{sym, ◌∙◌, subst}
 use Rattle.std.specs.Prelude.{not}
 use Rattle.lists.proofs.Results.{kept_fault}
 use Rattle.live_node.specs.NodeAnswers.{a_keeper_gives}
 use Rattle.live_node.specs.Keeping.{KeepsAllButOne, KeepsCore}
 use Rattle.text_lines.proofs.Sending.{on_err}
-use Rattle.node_loop.specs.Steps.Following.{Follows, HasTurned, Stops, is_over}
+use Rattle.node_loop.specs.Steps.Following.{Follows, HasTurned, Stops}
 use Rattle.node_loop.proofs.Turning.{turned_both, stops_behind}
 use Rattle.node_loop.proofs.looping.turn.Goals as goal
 
