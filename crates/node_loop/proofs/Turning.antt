@@ -1,5 +1,5 @@
 -- Turns, one after the other.
-use Rattle.std.proofs.Common.{◌≡◌, ℕ, ◌++◌, ◌≤◌, Bool, true, false, List, [], ◌∷◌, Option, refl, sym, ◌∙◌, subst, append-nil}
+use Rattle.std.proofs.Common.{◌≡◌, ℕ, ◌++◌, ◌≤◌, Bool, true, false, List, [], ◌∷◌, Option, inl, inr, refl, sym, ◌∙◌, subst, append-nil}
 use Rattle.std.specs.Io.KnownBytes.{Appends}
 use Rattle.text_lines.specs.Sending.{SendsPart}
 use Rattle.text_lines.proofs.Sending.{begins}
@@ -13,8 +13,8 @@ use Rattle.node_loop.specs.declared.loop_stop.LoopStop.TheVariants.{Live, Clock}
 use Rattle.node_loop.specs.Given.{Turn, Reads, with_turn}
 use Rattle.node_loop.specs.Turns.{Setting, Standing, IsBefore, HaveTurned, is_going, moment_of}
 use Rattle.node_loop.specs.Stops.{StopsBehind}
-use Rattle.node_loop.specs.Loops.{setting_of, condition_of, stands}
-use Rattle.node_loop.specs.Steps.Following.{Follows, Ends, MadeOf, NotMadeOf, Stops, IsUnwritten}
+use Rattle.node_loop.specs.Loops.{setting_of, condition_of, stands, RunsLoop, StopsLoop}
+use Rattle.node_loop.specs.Steps.Following.{Follows, Ends, HasTurned, MadeOf, NotMadeOf, Stops, IsUnwritten}
 
 -- what was written whole was begun
 pub all_sent : (text : List ℕ) (old new : Option (List ℕ)) → Appends old new text → SendsPart text old new
@@ -31,7 +31,7 @@ turned_behind raising set ending first mid last before (turn ∷ turns) h (s, k,
 pub same_node : {K N : Type 0} (node : FieldNode K N) → IsSameSetting node node
 same_node node = record { plant_is = refl; resource_is = refl; has_field_is = refl }
 
-same_both : {K N : Type 0} (a b c : FieldNode K N) → IsSameSetting a b → IsSameSetting b c → IsSameSetting a c
+pub same_both : {K N : Type 0} (a b c : FieldNode K N) → IsSameSetting a b → IsSameSetting b c → IsSameSetting a c
 same_both a b c p q = record { plant_is = q.plant_is ∙ p.plant_is; resource_is = q.resource_is ∙ p.resource_is; has_field_is = q.has_field_is ∙ p.has_field_is }
 
 same_setting : {K N : Type 0} (a b : FieldNode K N) → IsSameSetting a b → setting_of b ≡ setting_of a
@@ -133,3 +133,37 @@ stops_behind raising ending a b g1 g2 g3 n1 n2 n3 w1 w2 w3 stop p q =
       was_going = r.was_going;
       stops = r.stops;
     }
+
+-- turns behind turns, and then nothing is given
+pub turned_both : {K N : Type 0} (raising : Raising) (ending : Ending) (a b c : FieldNode K N) (going : Bool) (g1 g2 g3 g4 : Option (List Turn)) (n1 n2 n3 w1 w2 w3 : Option (List ℕ))
+    → g4 ≡ g3 → Follows raising ending a b true g1 g2 n1 n2 w1 w2 → Follows raising ending b c going g2 g3 n2 n3 w2 w3 → HasTurned raising ending a c g1 g4 n1 n3 w1 w3 going
+turned_both raising ending a b c true g1 g2 g3 g4 n1 n2 n3 w1 w2 w3 is p q =
+    follows_given raising ending a c true g1 g3 g4 n1 n3 w1 w3 is (follows_both raising ending a b c true g1 g2 g3 n1 n2 n3 w1 w2 w3 p q)
+turned_both raising ending a b c false g1 g2 g3 g4 n1 n2 n3 w1 w2 w3 is p q =
+    ends_closed raising ending a c g1 g4 n1 n3 w1 w3
+    (follows_given raising ending a c false g1 g3 g4 n1 n3 w1 w3 is (follows_both raising ending a b c false g1 g2 g3 n1 n2 n3 w1 w2 w3 p q))
+
+-- it ran to its end
+pub runs_ended : {K N : Type 0} (raising : Raising) (ending : Ending) (begun : List ℕ) (a b : FieldNode K N) (g1 g2 : Option (List Turn)) (n1 n2 from mid to : Option (List ℕ))
+    → Appends from mid begun → Ends raising ending a b g1 g2 n1 n2 mid to → RunsLoop raising (setting_of a) ending begun (condition_of a n1) (condition_of b n2) g1 g2 from to
+runs_ended raising ending begun a b g1 g2 n1 n2 from mid to begins e = record {
+  behind_begun = mid;
+  begins = begins;
+  turns = e.follows.turns;
+  last = stands b e.going e.given n2 to;
+  turned = e.follows.turned;
+  over = e.over;
+  new_is = refl;
+  to_is = refl;
+}
+
+-- it stopped behind what is written at the start
+pub stops_going : {K N : Type 0} (raising : Raising) (ending : Ending) (begun : List ℕ) (a : FieldNode K N) (g1 g2 : Option (List Turn)) (n1 n2 from mid to : Option (List ℕ)) (stop : LoopStop)
+    → Appends from mid begun → Stops raising ending a g1 g2 n1 n2 mid to stop → StopsLoop raising (setting_of a) ending begun (condition_of a n1) g1 g2 n2 from to stop
+stops_going raising ending begun a g1 g2 n1 n2 from mid to stop begins stops = inr (record { behind_begun = mid; begins = begins; stops = stops })
+
+-- what is written at the start isn't written
+pub stops_at_start : {K N : Type 0} (raising : Raising) (ending : Ending) (begun : List ℕ) (a : FieldNode K N) (given : Option (List Turn)) (noted from to : Option (List ℕ)) (stop : LoopStop)
+    → IsUnwritten begun from to stop → StopsLoop raising (setting_of a) ending begun (condition_of a noted) given given noted from to stop
+stops_at_start raising ending begun a given noted from to stop unwritten =
+    inl (record { cause = unwritten.0; ungiven = refl; unnoted = refl; sent = unwritten.1 })

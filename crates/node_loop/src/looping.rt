@@ -1,12 +1,14 @@
 //! The loop.
 
-ghost use Rattle.std.specs.Prelude.{◌≡◌, ◌+◌, ◌<◌, ◌≤◌, IfOk, IfErr, OnOk, OnErr, string_bytes};
+ghost use Rattle.std.specs.Prelude.{◌≡◌, ◌+◌, ◌<◌, ◌≤◌, not, IfOk, IfErr, OnOk, OnErr, string_bytes};
 ghost use Rattle.std.specs.Io.KnownBytes.{Appends};
 ghost use Rattle.live_node.specs.Keeping.{KeepsAllButOne, KeepsCore};
 ghost use Rattle.live_node.specs.NodeAnswers.{a_keeper_gives};
+ghost use Rattle.field_node.specs.FieldNodes.{IsSameSetting};
 ghost use Rattle.node_loop.specs.Given.{Reads, Takes};
 ghost use Rattle.node_loop.specs.Turns.{is_going};
-ghost use Rattle.node_loop.specs.Steps.Following.{goes_on, Follows, HasLooked, IsUnwritten, MadeOf, NotMadeOf, Stops};
+ghost use Rattle.node_loop.specs.Loops.{condition_of, setting_of, RunsLoop, StopsLoop};
+ghost use Rattle.node_loop.specs.Steps.Following.{goes_on, is_over, Follows, HasTurned, IsUnwritten, MadeOf, NotMadeOf, Stops};
 
 use crate::ending::Ending;
 use crate::loop_stop::LoopStop;
@@ -24,7 +26,7 @@ use text_lines::write_text;
 const TURNS: u64 = 4_611_686_018_427_387_904;
 
 /// What was looked for by the clock.
-#[derive(Clone, Copy, Debug, PartialEq, Eq)]
+#[derive(Clone, Copy, Debug)]
 enum Looked {
     /// The loop is over.
     Over,
@@ -34,8 +36,20 @@ enum Looked {
     Evaluated,
 }
 
+impl Looked {
+    /// Whether the loop is over.
+    fn is_over(self) -> bool
+        ensures { result ≡ is_over self }
+    {
+        match self {
+            Looked::Over => true,
+            Looked::Idle | Looked::Evaluated => false,
+        }
+    }
+}
+
 /// What was taken of the inputs.
-#[derive(Clone, Copy, Debug, PartialEq, Eq)]
+#[derive(Clone, Copy, Debug)]
 enum Took {
     /// Nothing waited.
     Nothing,
@@ -46,8 +60,20 @@ enum Took {
 }
 
 impl Took {
+    /// Whether the loop goes on.
+    fn goes_on(self) -> bool
+        ensures { result ≡ goes_on self }
+    {
+        match self {
+            Took::Nothing | Took::Something => true,
+            Took::Last => false,
+        }
+    }
+
     /// What was taken of two inputs.
-    fn and(self, other: Took) -> Took {
+    fn and(self, other: Took) -> Took
+        ensures { goes_on result ≡ goes_on other }
+    {
         match (self, other) {
             (_, Took::Last) => Took::Last,
             (Took::Nothing, Took::Nothing) => Took::Nothing,
@@ -99,9 +125,9 @@ fn look<K: Keeper, N: Notes, S: TurnSource, W: Write>(
 ) -> Result<Looked, LoopStop>
     requires few { node.old.node.state.lines < 18446744073709551615 }
     requires kept { K.last node.old.node.keeper ≡ node.old.node.state.core.incarnation }
-    ensures looked { IfOk result (HasLooked (a_keeper_gives K.last K.raise_gives) ending node.old node.new
+    ensures looked { IfOk result (λ looked. HasTurned (a_keeper_gives K.last K.raise_gives) ending node.old node.new
         (S.given source.old) (S.given source.new) (N.noted node.old.node.notes) (N.noted node.new.node.notes)
-        (W.contents out.old) (W.contents out.new)) }
+        (W.contents out.old) (W.contents out.new) (not (is_over looked))) }
     ensures stopped { IfErr result (Stops (a_keeper_gives K.last K.raise_gives) ending node.old
         (S.given source.old) (S.given source.new) (N.noted node.old.node.notes) (N.noted node.new.node.notes)
         (W.contents out.old) (W.contents out.new)) }
@@ -201,15 +227,42 @@ fn take_both<K: Keeper, N: Notes, S: TurnSource, W: Write>(
 ) -> Result<Took, LoopStop>
     requires few { node.old.node.state.lines < 18446744073709551614 }
     requires kept { K.last node.old.node.keeper ≡ node.old.node.state.core.incarnation }
+    ensures taken { IfOk result (λ took. Follows (a_keeper_gives K.last K.raise_gives) ending node.old node.new (goes_on took)
+        (S.given source.old) (S.given source.new) (N.noted node.old.node.notes) (N.noted node.new.node.notes)
+        (W.contents out.old) (W.contents out.new)) }
+    ensures stopped { IfErr result (Stops (a_keeper_gives K.last K.raise_gives) ending node.old
+        (S.given source.old) (S.given source.new) (N.noted node.old.node.notes) (N.noted node.new.node.notes)
+        (W.contents out.old) (W.contents out.new)) }
     ensures kept { OnOk result (K.last node.new.node.keeper ≡ node.new.node.state.core.incarnation) }
+    ensures keeps { OnOk result (KeepsCore (K.kept_gives node.old.node.keeper) node.old.node.state.core → KeepsCore (K.kept_gives node.new.node.keeper) node.new.node.state.core) }
+    ensures rest { OnErr result (KeepsCore (K.kept_gives node.old.node.keeper) node.old.node.state.core → KeepsAllButOne (K.kept_gives node.new.node.keeper) node.new.node.state.core) }
     ensures few { OnOk result (node.new.node.state.lines ≤ node.old.node.state.lines + 2) }
 {
     let first = take_one(node, ending, Origin::Neighbours, answer, source, out)?;
-    if first == Took::Last {
+    if !first.goes_on() {
         return Ok(Took::Last);
     }
     let second = take_one(node, ending, Origin::Field, answer, source, out)?;
     Ok(first.and(second))
+}
+
+/// Whether nothing was made or taken.
+fn is_idle(looked: Looked, took: Took) -> bool {
+    matches!((looked, took), (Looked::Idle, Took::Nothing))
+}
+
+/// Waits until something comes, is due or ends the loop, where this is wanted.
+fn wait_where<K: Keeper, N: Notes, S: TurnSource>(
+    is_wanted: bool,
+    node: &FieldNode<K, N>,
+    ending: Ending,
+    source: &mut S,
+)
+    ensures { S.given source.new ≡ S.given source.old }
+{
+    if is_wanted {
+        source.wait(node.next_due().min(ending.moment()));
+    }
 }
 
 /// A turn: it looks at the clock, makes an evaluation that is due, and answers a line of each input that has one; else it
@@ -223,18 +276,24 @@ fn turn<K: Keeper, N: Notes, S: TurnSource, W: Write>(
 ) -> Result<bool, LoopStop>
     requires few { node.old.node.state.lines < 18446744073709551613 }
     requires kept { K.last node.old.node.keeper ≡ node.old.node.state.core.incarnation }
+    ensures turned { IfOk result (HasTurned (a_keeper_gives K.last K.raise_gives) ending node.old node.new
+        (S.given source.old) (S.given source.new) (N.noted node.old.node.notes) (N.noted node.new.node.notes)
+        (W.contents out.old) (W.contents out.new)) }
+    ensures stopped { IfErr result (Stops (a_keeper_gives K.last K.raise_gives) ending node.old
+        (S.given source.old) (S.given source.new) (N.noted node.old.node.notes) (N.noted node.new.node.notes)
+        (W.contents out.old) (W.contents out.new)) }
     ensures kept { OnOk result (K.last node.new.node.keeper ≡ node.new.node.state.core.incarnation) }
+    ensures keeps { OnOk result (KeepsCore (K.kept_gives node.old.node.keeper) node.old.node.state.core → KeepsCore (K.kept_gives node.new.node.keeper) node.new.node.state.core) }
+    ensures rest { OnErr result (KeepsCore (K.kept_gives node.old.node.keeper) node.old.node.state.core → KeepsAllButOne (K.kept_gives node.new.node.keeper) node.new.node.state.core) }
     ensures few { OnOk result (node.new.node.state.lines ≤ node.old.node.state.lines + 3) }
 {
     let looked = look(node, ending, answer, source, out)?;
-    if looked == Looked::Over {
+    if looked.is_over() {
         return Ok(false);
     }
     let took = take_both(node, ending, answer, source, out)?;
-    if looked == Looked::Idle && took == Took::Nothing {
-        source.wait(node.next_due().min(ending.moment()));
-    }
-    Ok(took != Took::Last)
+    wait_where(is_idle(looked, took), node, ending, source);
+    Ok(took.goes_on())
 }
 
 /// Writes what a node that begun writes at its start, and then makes turns, to the end: at each it makes the evaluation that
@@ -253,7 +312,16 @@ pub fn run_loop<K: Keeper, N: Notes, S: TurnSource, W: Write>(
 ) -> Result<(), LoopStop>
     requires fresh { node.old.node.state.lines ≡ 0 }
     requires kept { K.last node.old.node.keeper ≡ node.old.node.state.core.incarnation }
+    ensures ok { OnOk result (RunsLoop (a_keeper_gives K.last K.raise_gives) (setting_of node.old) ending begun.now
+        (condition_of node.old (N.noted node.old.node.notes)) (condition_of node.new (N.noted node.new.node.notes))
+        (S.given source.old) (S.given source.new) (W.contents out.old) (W.contents out.new)) }
+    ensures setting { OnOk result (IsSameSetting node.old node.new) }
+    ensures stopped { IfErr result (StopsLoop (a_keeper_gives K.last K.raise_gives) (setting_of node.old) ending begun.now
+        (condition_of node.old (N.noted node.old.node.notes)) (S.given source.old) (S.given source.new)
+        (N.noted node.new.node.notes) (W.contents out.old) (W.contents out.new)) }
     ensures kept { OnOk result (K.last node.new.node.keeper ≡ node.new.node.state.core.incarnation) }
+    ensures keeps { OnOk result (KeepsCore (K.kept_gives node.old.node.keeper) node.old.node.state.core → KeepsCore (K.kept_gives node.new.node.keeper) node.new.node.state.core) }
+    ensures rest { OnErr result (KeepsCore (K.kept_gives node.old.node.keeper) node.old.node.state.core → KeepsAllButOne (K.kept_gives node.new.node.keeper) node.new.node.state.core) }
 {
     let mut answer = String::new(alloc);
     hand_on(begun, out)?;

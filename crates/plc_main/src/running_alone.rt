@@ -5,23 +5,13 @@ ghost use Rattle.std.specs.Prelude.{◌<◌, length};
 use crate::node_command::NodeFault;
 use console::{NodeRequest, PreparedNode};
 use cycle::Origin;
-use field_node::FieldNode;
 use keepers::Keeper;
-use live_node::{Node, Notes};
-use node_loop::{Ending, LiveSource, LoopStop, ReaderEnds, TurnSource, connect, run_loop};
+use live_node::Notes;
+use node_loop::{Alone, Ending, LiveSource, LoopStop, ReaderEnds, connect, run_turns};
 use std::alloc::Global;
 use std::io;
-use std::io::Write;
 use std::rt::Clock;
-use std::sync::{Arc, Wait};
-
-/// How a node runs: whether it has a field, whether it makes its evaluations by itself, and when it ends.
-#[derive(Clone, Copy, Debug)]
-pub struct Alone {
-    pub has_field: bool,
-    pub cycles: bool,
-    pub ending: Ending,
-}
+use std::sync::Wait;
 
 /// Which inputs are read: standard input, as one of them, and the file of the field.
 #[derive(Drop)]
@@ -66,37 +56,6 @@ fn alone_of(request: &NodeRequest<'_>, standard: Origin) -> Alone {
     }
 }
 
-/// Begins a node, and has it make its turns, to the end; it answers with the node as it is then.
-fn run_turns<K: Keeper, N: Notes, S: TurnSource, W: Write>(
-    alloc: Global,
-    prepared: PreparedNode,
-    alone: Alone,
-    keeper: K,
-    notes: N,
-    source: &mut S,
-    writer: &mut W,
-) -> Result<FieldNode<K, N>, LoopStop>
-    requires { prepared.resource < length prepared.plant.value.resources }
-{
-    let PreparedNode { plant, resource } = prepared;
-    let shared = Arc::try_clone(&plant)?;
-    let mut begun = String::new(alloc);
-    let node = match Node::begin(alloc, shared, resource, keeper, notes, &mut begun) {
-        Ok(node) => node,
-        Err((_notes, stop)) => return Err(LoopStop::from(stop)),
-    };
-    let mut node = FieldNode::of(alloc, plant, resource, alone.has_field, alone.cycles, node)?;
-    run_loop(
-        alloc,
-        &mut node,
-        begun.as_str(),
-        alone.ending,
-        source,
-        writer,
-    )?;
-    Ok(node)
-}
-
 /// Runs a node beside the readers of its inputs, on the clock and standard output. `readers` starts these; whether all are
 /// started.
 pub fn run_alone<
@@ -124,9 +83,11 @@ pub fn run_alone<
     }
     let mut source = LiveSource::new(rt, ends)?;
     let mut writer = io::writer(rt);
+    let PreparedNode { plant, resource } = prepared;
     run_turns(
         alloc,
-        prepared,
+        plant,
+        resource,
         alone,
         keeper,
         notes,

@@ -2,8 +2,6 @@
 use Rattle.std.specs.Prelude.{◌≡◌, ℕ, Bool, true, false, List, Option}
 use Rattle.text_lines.specs.Sending.{SendsPart}
 use Rattle.live_node.specs.NodeAnswers.{Raising}
-use Rattle.live_node.specs.declared.node_stop.NodeStop.{NodeStop}
-use Rattle.live_node.specs.declared.live_stop.LiveStop.{LiveStop}
 use Rattle.live_node.specs.declared.live_stop.LiveStop.TheVariants.{Node, Read, Write, Memory}
 use Rattle.text_lines.specs.declared.read_fault.ReadFault.TheVariants as reading
 use Rattle.cycle.specs.declared.origin.Origin.TheVariants.{Neighbours}
@@ -22,14 +20,14 @@ use Rattle.node_loop.specs.Turns.{Makes, HaveTurned, IsOver, moment_of}
 use Rattle.node_loop.specs.Stops.{StopsBehind, Undoes}
 use Rattle.node_loop.specs.Loops.{setting_of, condition_of, stands}
 
--- turns were made from an going loop on
+-- turns were made from a loop on that was going
 pub record Follows {K N : Type 0} (raising : Raising) (ending : Ending) (old new : FieldNode K N) (going : Bool)
     (given_old given_new : Option (List Turn)) (noted_old noted_new from to : Option (List ℕ)) : Type 0 where
   pub same : IsSameSetting old new
   pub turns : List Turn
   pub turned : HaveTurned raising (setting_of old) ending (stands old true given_old noted_old from) turns (stands new going given_new noted_new to)
 
--- turns were made from an going loop on, to its end
+-- turns were made from a loop on that was going, to its end
 pub record Ends {K N : Type 0} (raising : Raising) (ending : Ending) (old new : FieldNode K N)
     (given_old given_new : Option (List Turn)) (noted_old noted_new from to : Option (List ℕ)) : Type 0 where
   pub going : Bool
@@ -37,15 +35,19 @@ pub record Ends {K N : Type 0} (raising : Raising) (ending : Ending) (old new : 
   pub follows : Follows raising ending old new going given_old given noted_old noted_new from to
   pub over : IsOver (moment_of ending.until) going given given_new
 
--- what was looked for by the clock: an evaluation, or none; or the loop is over
-abbrev pub HasLooked : {K N : Type 0} → Raising → Ending → FieldNode K N → FieldNode K N → Option (List Turn) → Option (List Turn)
-    → Option (List ℕ) → Option (List ℕ) → Option (List ℕ) → Option (List ℕ) → Looked → Type 0
-HasLooked raising ending old new given_old given_new noted_old noted_new from to Over =
+-- turns were made from a loop on that was going: it is going then; or it came to its end
+abbrev pub HasTurned : {K N : Type 0} → Raising → Ending → FieldNode K N → FieldNode K N → Option (List Turn) → Option (List Turn)
+    → Option (List ℕ) → Option (List ℕ) → Option (List ℕ) → Option (List ℕ) → Bool → Type 0
+HasTurned raising ending old new given_old given_new noted_old noted_new from to true =
+    Follows raising ending old new true given_old given_new noted_old noted_new from to
+HasTurned raising ending old new given_old given_new noted_old noted_new from to false =
     Ends raising ending old new given_old given_new noted_old noted_new from to
-HasLooked raising ending old new given_old given_new noted_old noted_new from to Idle =
-    Follows raising ending old new true given_old given_new noted_old noted_new from to
-HasLooked raising ending old new given_old given_new noted_old noted_new from to Evaluated =
-    Follows raising ending old new true given_old given_new noted_old noted_new from to
+
+-- the clock read the moment at which a loop ends
+abbrev pub is_over : Looked → Bool
+is_over Over = true
+is_over Idle = false
+is_over Evaluated = false
 
 -- a loop that took this is going
 abbrev pub goes_on : Took → Bool
@@ -70,7 +72,7 @@ NotMadeOf raising s turn noted_old noted_new (Live Memory) =
     (turn ≡ Takes Neighbours (Unread reading.Memory)) × (noted_new ≡ noted_old)
 NotMadeOf raising s turn noted_old noted_new Clock = ⊥
 
--- turns were made from an going loop on, and it stopped
+-- turns were made from a loop on that was going, and it stopped
 abbrev pub Stops : {K N : Type 0} → Raising → Ending → FieldNode K N → Option (List Turn) → Option (List Turn) → Option (List ℕ)
     → Option (List ℕ) → Option (List ℕ) → Option (List ℕ) → LoopStop → Type 0
 Stops raising ending old given_old given_new noted_old noted_new from to stop =

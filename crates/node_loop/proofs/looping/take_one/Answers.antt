@@ -1,9 +1,9 @@
-use Rattle.std.proofs.Common.{◌≡◌, subst}
+use Rattle.std.proofs.Common.{subst}
 use Rattle.std.specs.Prelude.{string_bytes}
 use Rattle.std.specs.Io.KnownBytes.{Appends}
 use Rattle.lists.proofs.Results.{kept_fault}
 use Rattle.live_node.specs.NodeAnswers.{a_keeper_gives}
-use Rattle.node_loop.specs.Given.{Takes, with_turn}
+use Rattle.node_loop.specs.Given.{Takes}
 use Rattle.node_loop.specs.Steps.Following.{goes_on, IsUnwritten, Stops}
 use Rattle.node_loop.proofs.Turning.{follows_one, stops_unmade, stops_unwritten}
 use Rattle.node_loop.proofs.looping.take_one.Goals as goal
