@@ -182,6 +182,26 @@ fn is_doubtful(alloc: Global, text: &str, fault: TextFault) -> Result<bool, Allo
     }
 }
 
+/// Notes a fault of what is left of a text, unless it is one only because rungs are emptied.
+fn note_fault(
+    alloc: Global,
+    whole: &str,
+    rest: &str,
+    fault: TextFault,
+    faults: &mut Vec<TextFault>,
+) -> Result<(), AllocError>
+    requires left { IsLeftOf whole.now rest.now }
+    requires refused { Refuses rest.now fault }
+    ensures every { OnOk result (All (IsFurtherIn whole.now) faults.old.items → All (IsFurtherIn whole.now) faults.new.items) }
+    ensures few { OnOk result (length faults.new.items ≤ length faults.old.items + 1) }
+{
+    if is_doubtful(alloc, whole, fault)? {
+        return Ok(());
+    }
+    faults.push(fault)?;
+    Ok(())
+}
+
 /// Notes the first fault of what is left of a text; what is then left of it. `None`: no further fault is sought.
 fn add_fault(
     alloc: Global,
@@ -201,9 +221,7 @@ fn add_fault(
     if !stands(alloc, rest, fault)? {
         return Ok(None);
     }
-    if !is_doubtful(alloc, whole, fault)? {
-        faults.push(fault)?;
-    }
+    note_fault(alloc, whole, rest, fault, faults)?;
     rest_of(alloc, rest, fault)
 }
 

@@ -12,4 +12,5 @@ mod plant_place;
 mod rows;
 mod rung;
 mod wrong_form;
+
 pub use more::more_with;

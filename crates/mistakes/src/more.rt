@@ -145,7 +145,10 @@ fn told_of(alloc: Global, text: &str, fault: TextFault) -> Result<Option<String>
 /// Whether a text begins as a plant does.
 fn begins_as_plant(text: &str) -> bool {
     let words = text.trim_start().as_bytes();
-    let word = words.split(|sign| !sign.is_ascii_alphabetic()).next().unwrap_or(words);
+    let word = words
+        .split(|sign| !sign.is_ascii_alphabetic())
+        .next()
+        .unwrap_or(words);
     word.eq_ignore_ascii_case(b"PROGRAM") || word.eq_ignore_ascii_case(b"CONFIGURATION")
 }
 
