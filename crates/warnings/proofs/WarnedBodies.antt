@@ -4,13 +4,10 @@ use Rattle.std.proofs.lemmas.List.{append-nil}
 use Rattle.plant_grammar.specs.Grammar.{TextValue}
 use Rattle.warnings.specs.declared.warning.Warning.{Warning}
 use Rattle.std.specs.Prelude.{ℕ, Option, Some, None, MatchOption}
-use Rattle.words.specs.Lines.{without_last}
-use Rattle.plant_text.specs.declared.token.Token.{Token}
-use Rattle.plant_text.specs.Lines.{WordValue, IsSpelledBy}
-use Rattle.plant_grammar.specs.Steps.Reading.{IsTreeOf}
+use Rattle.plant_text.specs.Lines.{WordValue}
 use Rattle.plant_grammar.specs.declared.grammar.tree.Resource.{Resource}
 use Rattle.warnings.specs.declared.of_plant.PlantWarnings.{PlantWarnings}
-use Rattle.warnings.specs.OfPlant.{IsBodyWarned, AreBodiesWarned, AreWarningsOfTree, AreWarningsOfPlant, HasNoDrawingIn, IsNoPlant, tokens_of}
+use Rattle.warnings.specs.OfPlant.{IsBodyWarned, AreBodiesWarned, AreWarningsOfTree, AreWarningsOfPlant, AreWordsOf, BeginWithPlant, HasNoDrawingIn, IsNoPlant}
 
 pub passed_more : (all before left now : List TextValue) (t : TextValue) → left ≡ t ∷ now → before ++ left ≡ all → (before ++ t ∷ []) ++ now ≡ all
 passed_more all before left now t front parts = append_assoc before (t ∷ []) now ∙ ap (λ ts. before ++ ts) (sym front) ∙ parts
@@ -27,21 +24,20 @@ warned_more (s ∷ texts) t warnings more are is = (
 )
 
 -- what is told of a text's programs and resources is told of the text
-pub plant_told : (text : List ℕ) (words : List WordValue) (texts : List TextValue) (resources : List Resource) (rest : List Token)
-    → IsSpelledBy (without_last 13 text) words → IsTreeOf (tokens_of words) texts resources rest
+pub plant_told : (text : List ℕ) (words : List WordValue) (texts : List TextValue) (resources : List Resource)
+    → AreWordsOf text words → BeginWithPlant words texts resources
     → (told : Option PlantWarnings) → MatchOption told (HasNoDrawingIn texts) (AreWarningsOfTree texts resources)
     → MatchOption told (IsNoPlant text) (AreWarningsOfPlant text)
-plant_told text words texts resources rest spelled tree None faulty = record {
+plant_told text words texts resources written begun None faulty = record {
   words = words;
-  spelled = spelled;
-  refused = inr (record { texts = texts; resources = resources; rest = rest; tree = tree; faulty = faulty });
+  written = written;
+  refused = inr (record { texts = texts; resources = resources; begun = begun; faulty = faulty });
 }
-plant_told text words texts resources rest spelled tree (Some told) warned = record {
+plant_told text words texts resources written begun (Some told) warned = record {
   words = words;
   texts = texts;
   resources = resources;
-  rest = rest;
-  spelled = spelled;
-  tree = tree;
+  written = written;
+  begun = begun;
   warned = warned;
 }

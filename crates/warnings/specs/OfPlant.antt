@@ -2,11 +2,10 @@
 use Rattle.std.specs.Prelude.{◌≡◌, ◌⊎◌, ◌++◌, ℕ, List, [], ◌∷◌, map, max, min}
 use Rattle.words.specs.Lines.{without_last}
 use Rattle.plant_text.specs.declared.token.Token.{Token}
-use Rattle.plant_text.specs.Lines.{WordValue, IsSpelledBy}
+use Rattle.plant_text.specs.Lines.{WordValue, IsSpelledBy, IsBegunBy, body_lines}
 use Rattle.network.specs.GraphValue.{GraphValue}
 use Rattle.plant_grammar.specs.Grammar.{TextValue, Tree, words_of}
 use Rattle.plant_grammar.specs.Lawful.{variables, IsTreeLawful}
-use Rattle.plant_grammar.specs.Steps.Reading.{IsTreeOf}
 use Rattle.plant_grammar.specs.declared.grammar.tree.Resource.{Resource}
 use Rattle.warnings.specs.declared.of_plant.PlantWarnings.{PlantWarnings}
 use Rattle.warnings.specs.declared.warning.Warning.{Warning}
@@ -51,14 +50,33 @@ pub record AreWarningsOfTree (texts : List TextValue) (resources : List Resource
 abbrev pub tokens_of : List WordValue → List Token
 tokens_of words = map (λ (w : WordValue). w.token) words
 
+-- a plant of these programs and resources, whose configuration has this name
+abbrev pub tree_of : List ℕ → List TextValue → List Resource → Tree
+tree_of name texts resources =
+    record { programs = map (λ (t : TextValue). t.program) texts; name = name; resources = resources }
+
+-- Words, each on its line, begin with those of a lawful plant of these programs and resources; the lines of its bodies are
+-- those of the programs.
+pub record BeginWithPlant (words : List WordValue) (texts : List TextValue) (resources : List Resource) : Type 0 where
+  pub name : List ℕ
+  pub rest : List Token
+  pub more : List ℕ
+  pub written : tokens_of words ≡ words_of (tree_of name texts resources) ++ rest
+  pub lawful : IsTreeLawful (tree_of name texts resources)
+  pub lines : body_lines words ≡ map (λ (t : TextValue). t.first_line) texts ++ more
+
+-- These are the words of a text, each on its line, but for a carriage return at its end: all, or those before what is no word.
+pub record AreWordsOf (text : List ℕ) (words : List WordValue) : Type 0 where
+  pub spelled : IsSpelledBy (without_last 13 text) words
+  pub begun : IsBegunBy (without_last 13 text) words
+
 -- A text begins with the words of a plant's programs and resources, and these are their warnings.
 pub record AreWarningsOfPlant (text : List ℕ) (told : PlantWarnings) : Type 0 where
   pub words : List WordValue
   pub texts : List TextValue
   pub resources : List Resource
-  pub rest : List Token
-  pub spelled : IsSpelledBy (without_last 13 text) words
-  pub tree : IsTreeOf (tokens_of words) texts resources rest
+  pub written : AreWordsOf text words
+  pub begun : BeginWithPlant words texts resources
   pub warned : AreWarningsOfTree texts resources told
 
 -- no lawful plant begins these words
@@ -66,15 +84,14 @@ abbrev pub BeginNoPlant : List Token → Type 0
 BeginNoPlant words = (tree : Tree) (rest : List Token) → words ≡ words_of tree ++ rest → IsTreeLawful tree → ⊥
 
 -- these words begin with a plant's, of which a program has no drawing
-pub record HasFaultyBody (words : List Token) : Type 0 where
+pub record HasFaultyBody (words : List WordValue) : Type 0 where
   pub texts : List TextValue
   pub resources : List Resource
-  pub rest : List Token
-  pub tree : IsTreeOf words texts resources rest
+  pub begun : BeginWithPlant words texts resources
   pub faulty : HasNoDrawingIn texts
 
 -- a text doesn't begin with the words of a plant, or one of its programs has no drawing
 pub record IsNoPlant (text : List ℕ) : Type 0 where
   pub words : List WordValue
-  pub spelled : IsSpelledBy (without_last 13 text) words
-  pub refused : BeginNoPlant (tokens_of words) ⊎ HasFaultyBody (tokens_of words)
+  pub written : AreWordsOf text words
+  pub refused : BeginNoPlant (tokens_of words) ⊎ HasFaultyBody words
