@@ -62,6 +62,18 @@ fn print_unbound<R: Eprint + AllocGlobal>(
     Ok(())
 }
 
+fn print_unbound_inputs<R: Eprint + AllocGlobal>(
+    rt: &R,
+    file: &str,
+    text: &str,
+    inputs: &[UnboundInput],
+) -> io::Result<()> {
+    for input in inputs {
+        print_unbound(rt, file, text, input)?;
+    }
+    Ok(())
+}
+
 /// The warnings of a drawing's text, if need be with its comments emptied. `None`: it is refused.
 fn drawing_warnings(alloc: Global, text: &str) -> Result<Option<Vec<Warning>>, AllocError>
     ensures { IfOk result (λ told. MatchOption told (IsNoDrawing text.now) (λ warnings. AreDrawingWarnings text.now warnings.items)) }
@@ -120,9 +132,7 @@ fn tell_plant<R: Eprint + AllocGlobal>(
     match plant_warnings(rt.alloc(), text) {
         Ok(Some(warnings)) => {
             print_warnings(rt, file, text, &warnings.bodies)?;
-            for unbound in &warnings.unbound {
-                print_unbound(rt, file, text, unbound)?;
-            }
+            print_unbound_inputs(rt, file, text, &warnings.unbound)?;
             Ok(Ok(is_plant_quiet(&warnings)))
         }
         Ok(None) => Ok(Ok(true)),
