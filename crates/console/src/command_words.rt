@@ -7,8 +7,8 @@ ghost use Rattle.console.specs.CommandLine.{plc_app, IsNumber, GivesNumber, Give
 
 use crate::commands::commands;
 use crate::request::{
-    AuditRequest, Color, NodeRequest, Pace, Request, RunRequest, SimRequest, Strictness, TextRequest,
-    TraceFiles, VerifyRequest, View,
+    AuditRequest, Color, NodeRequest, Pace, Request, RunRequest, SimRequest, Strictness,
+    TextRequest, TraceFiles, VerifyRequest, View,
 };
 use clap::error::ErrorKind;
 use clap::{ArgMatches, Command, Error};

@@ -100,7 +100,8 @@ impl<'a> TextRequest<'a> {
         ensures { result ≡ strictness_of self.now }
     {
         match self {
-            TextRequest::Eval { strictness, .. } | TextRequest::Check { strictness, .. } => *strictness,
+            TextRequest::Eval { strictness, .. } | TextRequest::Check { strictness, .. } =>
+                *strictness,
             TextRequest::Plan { .. } => Strictness::Silent,
         }
     }

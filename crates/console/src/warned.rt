@@ -13,9 +13,7 @@ use guidance::{marked_column, marked_line};
 use std::alloc::{AllocError, Global};
 use std::io;
 use text_commands::without_comments;
-use warnings::{
-    PlantWarnings, UnboundInput, Warning, warnings_of_a_plant, warnings_of_a_text,
-};
+use warnings::{PlantWarnings, UnboundInput, Warning, warnings_of_a_plant, warnings_of_a_text};
 
 /// Tells a warning: its place and kind, the line with a mark, and what to write instead.
 fn print_warning<R: Eprint + AllocGlobal>(
