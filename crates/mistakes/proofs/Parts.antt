@@ -1,7 +1,7 @@
 -- Rows that are put together again.
 use Rattle.std.proofs.Common.{◌≡◌, ◌++◌, ◌∙◌, ℕ, List, [], ◌∷◌, ap, drop, map, refl, sym, take}
 use Rattle.std.proofs.lemmas.List.{take-map, drop-map}
-use Rattle.mistakes.specs.Rows.{emptied, rows_left}
+use Rattle.mistakes.specs.Emptied.{emptied, rows_left}
 
 -- one function behind another
 pub map_map : {X : Type 0} (g : List ℕ → List ℕ) (f : X → List ℕ) (xs : List X) → map (λ x. g (f x)) xs ≡ map g (map f xs)

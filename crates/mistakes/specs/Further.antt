@@ -4,7 +4,8 @@ use Rattle.text_commands.specs.declared.text_fault.TextFault.{TextFault}
 use Rattle.text_commands.specs.Comments.{without_comments}
 use Rattle.text_commands.specs.EvalText.{RefusesDrawing}
 use Rattle.text_commands.specs.CheckText.{RefusesPlantText}
-use Rattle.mistakes.specs.Rows.{rows_of, without_rows}
+use Rattle.slips.specs.Rows.{rows_of}
+use Rattle.mistakes.specs.Emptied.{without_rows}
 
 -- what is left of a text where some rows, one below the other, are emptied, each to its rail or to nothing
 pub record IsEmptiedFrom (text rest : List ℕ) : Type 0 where

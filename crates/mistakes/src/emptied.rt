@@ -2,9 +2,9 @@
 
 ghost use Rattle.std.specs.Prelude.{◌≡◌, ◌++◌, take, drop, map, codes, OnOk, IfOk, string_bytes};
 ghost use Rattle.std.specs.List.{join_by};
-ghost use Rattle.mistakes.specs.Rows.{bare_rail, emptied, is_rail, rows_left, without_rows};
+ghost use Rattle.mistakes.specs.Emptied.{bare_rail, emptied, is_rail, rows_left, without_rows};
 
-use crate::rows::sign_at;
+use slips::sign_at;
 use std::alloc::{AllocError, Global};
 
 fn is_rail(sign: u8) -> bool

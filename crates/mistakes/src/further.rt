@@ -6,11 +6,9 @@ ghost use Rattle.text_commands.specs.EvalText.{RefusesDrawing};
 ghost use Rattle.mistakes.specs.Further.{IsEmptiedFrom, IsFurther, IsFurtherIn, IsLeftOf, Refuses};
 
 use crate::emptied::without_rows;
-use crate::pins::before_a_dot;
-use crate::rows::{row_at, rows_of};
-use crate::rung::{Part, rail_of, rung_of};
 use name_faults::BindKind;
 use plant_text::{Token, read_words};
+use slips::{Part, before_a_dot, rail_of, row_at, rows_of, rung_of};
 use std::alloc::{AllocError, Global};
 use std::fmt::Write;
 use text_commands::{TextCommandFault, TextFault, read_ladder, read_plant, without_comments};

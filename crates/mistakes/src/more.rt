@@ -1,18 +1,15 @@
 //! What is told behind the sentence on the kind of a fault.
 
-use crate::block_names::told_of_block;
-use crate::broken_row::{Broken, broken_at, broken_in};
-use crate::comment_sign::{told_of_comment, told_of_comments};
 use crate::further::{drawing_around, further_faults, push_faults, row_of};
-use crate::pins::{told_of_pins, told_of_pins_in};
 use crate::plant_place::told_of_place;
-use crate::rows::{row_at, rows_of};
-use crate::rung::{Part, rail_of, rung_of};
-use crate::wrong_form::{told_of_form, told_of_forms};
 use guidance::marked_column;
 use ladder_text::{DrawFault, DrawFaultKind};
 use name_faults::{BindFault, BindKind};
 use plant::{BodyFault, PlantFault};
+use slips::{
+    Broken, Part, broken_at, broken_in, rail_of, row_at, rows_of, rung_of, told_of_block,
+    told_of_comment, told_of_comments, told_of_form, told_of_forms, told_of_pins, told_of_pins_in,
+};
 use std::alloc::{AllocError, Global};
 use text_commands::{TextFault, without_comments};
 

@@ -1,9 +1,8 @@
 //! The word of a plant at which it is refused, and what could stand there.
 
-use crate::block_names::push_word;
 use crate::further::row_of;
-use crate::rows::{row_at, rows_of};
 use plant::{Plant, PlantFault, PlantFaultKind};
+use slips::{push_word, row_at, rows_of};
 use std::alloc::{AllocError, Global};
 use std::fmt::Write;
 

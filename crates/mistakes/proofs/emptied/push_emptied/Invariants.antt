@@ -1,5 +1,5 @@
 use Rattle.std.proofs.Common.{◌≡◌, ◌++◌, map, take}
-use Rattle.mistakes.specs.Rows.{emptied}
+use Rattle.mistakes.specs.Emptied.{emptied}
 use Rattle.mistakes.proofs.emptied.push_emptied.Given as goal
 
 abbrev pub invariant-loop-row : goal.invariant-loop-row

@@ -1,5 +1,5 @@
 use Rattle.std.proofs.Common.{◌++◌, ◌∙◌, Bor, List, ℕ, ap, drop, map, take}
-use Rattle.mistakes.specs.Rows.{emptied}
+use Rattle.mistakes.specs.Emptied.{emptied}
 use Rattle.mistakes.proofs.Parts.{parts_left}
 use Rattle.mistakes.proofs.emptied.rows_left.Goals as goal
 

@@ -1,7 +1,7 @@
 use Rattle.std.proofs.Common.{◌≡◌, IfOk, Result, Ok, Err, String, Global, codes, List, ℕ, Bor, map, string_bytes, ap, ◌∙◌}
 use Rattle.std.specs.List.{join_by}
 use Rattle.std.specs.declared.alloc.AllocError.{AllocError}
-use Rattle.mistakes.specs.Rows.{rows_left, without_rows}
+use Rattle.mistakes.specs.Emptied.{rows_left, without_rows}
 use Rattle.mistakes.proofs.Joining.{join-map}
 use Rattle.mistakes.proofs.emptied.without_rows.Goals as goal
 

@@ -1,14 +1,7 @@
--- Rows of a text, and the signs in them, both counted from 0.
-use Rattle.std.specs.Prelude.{ℕ, ◌==◌, ◌||◌, ◌++◌, Bool, if◌then◌else◌, List, [], codes, drop, map, slice_get, take, unwrap_or}
-use Rattle.std.specs.List.{join_by, repeat, slice_split}
-
--- the sign of a row in a column; a blank behind its end
-abbrev pub sign_at : List ℕ → ℕ → ℕ
-sign_at row column = unwrap_or (slice_get row column) 32
-
--- the rows of a text
-abbrev pub rows_of : List ℕ → List (List ℕ)
-rows_of text = slice_split (λ c. c == 10) text
+-- Rows that are emptied.
+use Rattle.std.specs.Prelude.{ℕ, ◌==◌, ◌||◌, ◌++◌, Bool, if◌then◌else◌, List, [], codes, drop, map, take}
+use Rattle.std.specs.List.{join_by, repeat}
+use Rattle.slips.specs.Rows.{sign_at}
 
 -- a `|` or `+`
 abbrev pub is_rail : ℕ → Bool

@@ -1,7 +1,7 @@
 use Rattle.std.proofs.Common.{◌∙◌, arith}
 use Rattle.std.proofs.lemmas.Iterator.Splits.{YieldsList-from_str_split}
 use Rattle.std.proofs.lemmas.Iterator.Consumers.{YieldsList-end}
-use Rattle.mistakes.proofs.rows.rows_of.Goals as goal
+use Rattle.slips.proofs.rows.rows_of.Goals as goal
 
 pub returns : goal.returns
 returns c =

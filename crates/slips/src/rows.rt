@@ -1,7 +1,7 @@
 //! Rows of a text, and the signs in them, both counted from 0.
 
 ghost use Rattle.std.specs.Prelude.{◌≡◌, map, IfOk};
-ghost use Rattle.mistakes.specs.Rows.{rows_of, sign_at};
+ghost use Rattle.slips.specs.Rows.{rows_of, sign_at};
 
 use std::alloc::{AllocError, Global};
 

@@ -1,5 +1,5 @@
 use Rattle.std.proofs.Common.{◌≡◌, map}
-use Rattle.mistakes.proofs.rows.rows_of.Given as goal
+use Rattle.slips.proofs.rows.rows_of.Given as goal
 
 abbrev pub invariant-loop-row : goal.invariant-loop-row
 invariant-loop-row l = map (λ row. row.now) l.rows.items ≡ map (λ row. row.now) l.yielded
