@@ -1,4 +1,5 @@
 pub mod SameNames
+pub mod NearEnds
 pub mod LaterCoils
 pub mod WarningOrder
 pub mod FaultyNetworks
