@@ -1,5 +1,5 @@
 -- Steps of the proofs.
-use Rattle.std.specs.Prelude.{◌≡◌, ℕ, ◌-◌, ◌==◌, Bool, length, slice_index_or, ◌&&◌, ◌||◌, if◌then◌else◌, List, [], ◌∷◌, String}
+use Rattle.std.specs.Prelude.{true, false, string_bytes, ◌≡◌, ℕ, ◌-◌, ◌==◌, Bool, length, slice_index_or, not, ◌&&◌, ◌||◌, if◌then◌else◌, List, [], ◌∷◌, String}
 use Rattle.std.specs.List.{list_any}
 use Rattle.std.specs.Global.{Global}
 use Rattle.std.specs.BTreeSet.{BTreeSet, contains_text}
@@ -10,6 +10,7 @@ use Rattle.network.specs.Links.{place}
 use Rattle.words.specs.Chars.{is_letter, is_digit}
 use Rattle.warnings.specs.declared.warning.Warning.{Warning}
 use Rattle.warnings.specs.declared.warning.WarningKind.TheVariants.{DoubleCoil}
+use Rattle.warnings.specs.Near.{is_near}
 use Rattle.warnings.specs.Found.{small, stores_always, stores_into, warning_at}
 
 -- a set has the small letters of these names, and no others
@@ -46,3 +47,16 @@ is_typed_digit x y = (is_letter x && is_digit y) || (is_digit x && is_letter y)
 -- the last characters are the same, or a letter and a digit
 unfoldable pub ends_fit : List ℕ → List ℕ → Bool
 ends_fit name other = last_sign name == last_sign other || is_typed_digit (last_sign name) (last_sign other)
+
+-- the characters at place k differ
+abbrev pub differ_at : List ℕ → List ℕ → ℕ → Bool
+differ_at name other k = not (slice_index_or name k 0 == slice_index_or other k 0)
+
+-- a name in small letters is none of those that something stores into, and nearly one of all
+abbrev pub is_strange : BTreeSet (String Global) → BTreeSet (String Global) → List ℕ → Bool
+is_strange stored names q =
+    not (contains_text stored q) && list_any (λ (other : String Global). is_near q (string_bytes other)) names.keys
+
+-- none of these names is strange
+abbrev pub ArePlain : BTreeSet (String Global) → BTreeSet (String Global) → BTreeSet (String Global) → Type 0
+ArePlain stored names plain = (q : List ℕ) → contains_text plain q ≡ true → is_strange stored names q ≡ false
