@@ -1,4 +1,6 @@
 pub mod SameNames
+pub mod NearEnds
+pub mod SlipPlaces
 pub mod LaterCoils
 pub mod WarningOrder
 pub mod FaultyNetworks

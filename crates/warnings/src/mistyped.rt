@@ -5,7 +5,7 @@ ghost use Rattle.std.specs.BTreeSet.{contains_text};
 ghost use Rattle.std.specs.List.{list_any};
 ghost use Rattle.warnings.specs.Near.{is_near};
 ghost use Rattle.warnings.specs.Found.{is_undotted, is_mistyped, mistyped_at, mistyped};
-ghost use Rattle.warnings.specs.Steps.{AreSmall};
+ghost use Rattle.warnings.specs.Steps.{AreSmall, is_strange, ArePlain};
 
 use crate::names::{names_of, stored_of};
 use crate::near::is_near;
@@ -33,9 +33,29 @@ fn is_near_any(name: &[u8], names: &BTreeSet<String>) -> bool
 
 /// Whether a name in small letters is none of those that something stores into, and nearly one of all.
 fn is_strange(name: &str, stored: &BTreeSet<String>, names: &BTreeSet<String>) -> bool
-    ensures { result ≡ (not (contains_text stored.now name.now) && list_any (λ other. is_near name.now (string_bytes other)) names.now.keys) }
+    ensures { result ≡ is_strange stored.now names.now name.now }
 {
     !stored.contains(name) && is_near_any(name.as_bytes(), names)
+}
+
+/// Whether a name in small letters is strange. One that isn't comes to the plain ones, of which none is asked for again.
+fn is_strange_cached(
+    name: String,
+    stored: &BTreeSet<String>,
+    names: &BTreeSet<String>,
+    plain: &mut BTreeSet<String>,
+) -> Result<bool, AllocError>
+    ensures told { ArePlain stored.now names.now plain.old → IfOk result (λ r. r ≡ is_strange stored.now names.now (string_bytes name)) }
+    ensures plain { ArePlain stored.now names.now plain.old → OnOk result (ArePlain stored.now names.now plain.new) }
+{
+    if plain.contains(name.as_str()) {
+        return Ok(false);
+    }
+    if is_strange(name.as_str(), stored, names) {
+        return Ok(true);
+    }
+    let _ = plain.insert(name)?;
+    Ok(false)
 }
 
 /// Whether a contact's name is most likely mistyped, by the names that something stores into and by all names.
@@ -44,14 +64,16 @@ fn is_mistyped(
     contact: &Contact,
     stored: &BTreeSet<String>,
     names: &BTreeSet<String>,
+    plain: &mut BTreeSet<String>,
 ) -> Result<bool, AllocError>
-    ensures { (xs ys : List (List ℕ)) → AreSmall xs stored.now → AreSmall ys names.now → IfOk result (λ r. r ≡ is_mistyped contact.now.name xs ys) }
+    ensures plain { ArePlain stored.now names.now plain.old → OnOk result (ArePlain stored.now names.now plain.new) }
+    ensures told { (xs ys : List (List ℕ)) → AreSmall xs stored.now → AreSmall ys names.now → ArePlain stored.now names.now plain.old → IfOk result (λ r. r ≡ is_mistyped contact.now.name xs ys) }
 {
     if !is_undotted(contact.name.as_bytes()) {
         return Ok(false);
     }
     let name = small(alloc, contact.name.as_str())?;
-    let strange = is_strange(name.as_str(), stored, names);
+    let strange = is_strange_cached(name, stored, names, plain)?;
     Ok(strange)
 }
 
@@ -62,14 +84,16 @@ fn push_mistyped(
     element: &Element,
     stored: &BTreeSet<String>,
     names: &BTreeSet<String>,
+    plain: &mut BTreeSet<String>,
 ) -> Result<(), AllocError>
-    ensures { (xs ys : List (List ℕ)) → AreSmall xs stored.now → AreSmall ys names.now → OnOk result (warnings.new.items ≡ warnings.old.items ++ mistyped_at first_line xs ys element.now) }
+    ensures plain { ArePlain stored.now names.now plain.old → OnOk result (ArePlain stored.now names.now plain.new) }
+    ensures told { (xs ys : List (List ℕ)) → AreSmall xs stored.now → AreSmall ys names.now → ArePlain stored.now names.now plain.old → OnOk result (warnings.new.items ≡ warnings.old.items ++ mistyped_at first_line xs ys element.now) }
 {
     let alloc = *warnings.allocator();
     let Element::Contact(contact) = element else {
         return Ok(());
     };
-    if is_mistyped(alloc, contact, stored, names)? {
+    if is_mistyped(alloc, contact, stored, names, plain)? {
         let place = Place {
             row: contact.row,
             column: contact.column,
@@ -89,9 +113,10 @@ pub fn mistyped(
 {
     let stored = small_names(alloc, &stored_of(alloc, elements)?)?;
     let names = small_names(alloc, &names_of(alloc, elements)?)?;
+    let mut plain = BTreeSet::new(alloc);
     let mut found = Vec::new(alloc);
     for element in elements {
-        push_mistyped(&mut found, first_line, element, &stored, &names)?;
+        push_mistyped(&mut found, first_line, element, &stored, &names, &mut plain)?;
     }
     Ok(found)
 }
