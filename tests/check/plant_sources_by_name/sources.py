@@ -65,7 +65,7 @@ def told(text):
     """What check tells first: the line and kind of a fault, or nothing."""
     with open("it.plant", "w", encoding="ascii") as file:
         file.write(text)
-    ran = subprocess.run([sys.argv[1], "check", "it.plant"], capture_output=True, text=True)
+    ran = subprocess.run([sys.argv[1], "check", "it.plant", "--no-warnings"], capture_output=True, text=True)
     if ran.returncode == 1:
         return ran.stderr.split("\n")[0].removeprefix("it.plant:")
     return ran.stderr if ran.returncode == 0 else f"status {ran.returncode}"

@@ -103,7 +103,7 @@ def told(drawing):
     """The place and kind that the program tells, or None."""
     with open("drawing.ladder", "w", encoding="ascii", newline="") as file:
         file.write(drawing)
-    ran = subprocess.run([sys.argv[1], "eval", "drawing.ladder"], capture_output=True, text=True)
+    ran = subprocess.run([sys.argv[1], "eval", "drawing.ladder", "--no-warnings"], capture_output=True, text=True)
     if ran.returncode == 0 and not ran.stderr:
         return None
     return ran.stderr.split("\n")[0].removeprefix("drawing.ladder:") if ran.returncode == 1 else f"status {ran.returncode}"

@@ -41,7 +41,7 @@ LINES = rb"\d+ lines, \d+ a second"
 # Of each command its words, a line of how far it is, and what it writes to standard output, where that is little.
 WORKS = {
     "verify": (["d.ladder", "--never", "CLASH"], rb"\d+ states, \d+ to go, \d+ scans a second", ANSWER),
-    "eval": (["large.ladder", "A=" + 400 * "1", "--show"], LINES, None),
+    "eval": (["large.ladder", "A=" + 400 * "1", "--show", "--no-warnings"], LINES, None),
     "sim": (["large.plant", "large.schedule"], LINES, None),
     "run": (["large.plant", "--until", str(TIMES), "%IX0=1"], rb"\d+ commands, \d+ a second", None),
 }

@@ -162,7 +162,7 @@ def try_links():
 def try_folders():
     with tempfile.TemporaryDirectory() as place:
         for folder in ("D", "", "D/E"):
-            compare(f"no folder {folder!r}", run(place, folder), (3, "", NO_REPORT))
+            compare(f"no folder {folder!r}", run(place, folder), (3, "", NO_REPORT + f"plc: {folder}: there is no folder of this name\n"))
         os.symlink("loop", os.path.join(place, "loop"))
         compare("a link to itself for the folder", run(place, "loop"), (3, "", "plc: loop: this folder's lock can't be opened\n"))
         os.remove(os.path.join(place, "loop"))
