@@ -38,7 +38,7 @@ def unanswered(texts):
         for text in texts:
             with open(os.path.join(place, "drawing"), "w", encoding="ascii", newline="") as file:
                 file.write(text)
-            ran = subprocess.run([PROGRAM, "eval", "drawing"], cwd=place, capture_output=True, text=True)
+            ran = subprocess.run([PROGRAM, "eval", "drawing", "--no-warnings"], cwd=place, capture_output=True, text=True)
             is_read = ran.returncode == 0 and ran.stdout.count("\n") == 1 and not ran.stderr
             is_refused = ran.returncode == 1 and not ran.stdout and FAULT.match(ran.stderr)
             if not (is_read or is_refused):
