@@ -232,8 +232,9 @@ ends the node after MS ms.
 
 With --state DIR the resource counts its incarnations in DIR/NAME.inc, one more at each start and RESTART, and its task K
 keeps what stands in VAR RETAIN in DIR/NAME.K.ret; without it the incarnation is 1: for one life alone. With --journal FILE
-each line that changes something is noted at the end of FILE, which is new or a journal, and on the disk, before it is done;
-plc audit reads these files. A second node doesn't use the same DIR or FILE meanwhile.
+each EVAL, each RESTART, each MESSAGE that is taken and each HELLO that is new is noted at the end of FILE, which is new or a
+journal, and on the disk, before it is done; plc audit reads these files. A second node doesn't use the same DIR or FILE
+meanwhile.
 
 Example:
 
