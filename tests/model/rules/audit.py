@@ -2,7 +2,9 @@
 from .core import Core, Message, left_by
 from .journals import Evaluated, Hello, Restart, Start, runs_of, told_of
 
-MOST_SKIPPED = 1_000_000
+MOST_ABOVE = 1_000_000
+# So many restarts may be of no START or RESTART that was noted, in all journals together.
+MOST_UNNOTED = 1_000_000
 
 
 class Stop(Exception):
@@ -36,6 +38,13 @@ class Journal:
     def is_whole(self):
         return self.at == len(self.lines)
 
+    def go_on(self):
+        """Follows the lines as far as it can; whether it could follow one."""
+        at = self.at
+        while self.go():
+            pass
+        return self.at > at
+
     def go(self):
         """Follows the next line; whether it could."""
         if self.is_whole or self.told:
@@ -67,7 +76,8 @@ class Journal:
     def rise(self, item):
         if item.incarnation <= self.incarnation:
             raise Stop(f"NotRisen {item.incarnation}")
-        if item.incarnation > self.incarnation + MOST_SKIPPED:
+        unnoted = item.incarnation - self.incarnation - 1
+        if item.incarnation > self.incarnation + MOST_ABOVE or self.audit.unnoted + unnoted > MOST_UNNOTED:
             raise Stop(f"TooHigh {item.incarnation}")
         if isinstance(item, Start):
             self.core = self.core or Core(self.plant, self.resource, item.kept)
@@ -75,11 +85,16 @@ class Journal:
                 raise Stop("Kept")
         self.core.begin(item.incarnation)
         self.incarnations.add(item.incarnation)
+        self.audit.unnoted += unnoted
 
     def hear(self, hello):
-        maker = self.audit.journal_of(hello.resource)
-        if self.core.is_news(hello.resource, hello.incarnation) and maker.incarnation < hello.incarnation:
-            raise Wait(hello.resource, hello.incarnation, f"{hello.resource.name} {hello.incarnation}")
+        maker, told = self.audit.journal_of(hello.resource), f"{hello.resource.name} {hello.incarnation}"
+        if not self.core.is_news(hello.resource, hello.incarnation):
+            return
+        if maker.incarnation < hello.incarnation:
+            raise Wait(hello.resource, hello.incarnation, told)
+        if hello.incarnation not in maker.incarnations:
+            raise Stop(f"Missing {told}")
         self.core.hear(hello.resource, hello.incarnation)
 
     def accept(self, message):
@@ -104,12 +119,12 @@ class Journal:
 class Audit:
     def __init__(self, plant, texts):
         """`texts` are the journals, each by its path."""
-        self.plant, self.entries, self.book = plant, {}, []
+        self.plant, self.entries, self.book, self.unnoted = plant, {}, [], 0
         parted = [(path, runs_of(plant, path, text)) for path, text in texts]
         runs = [run for _, those in parted for run in those]
         self.empty = [path for path, those in parted if not those]
         self.journals = [Journal(plant, it, runs, self) for it in plant.resources]
-        while any([it.go() for it in self.journals]):
+        while any([it.go_on() for it in self.journals]):
             pass
 
     def journal_of(self, resource):
@@ -136,7 +151,7 @@ class Audit:
                 yield f"UNSHOWN {line.path}:{line.number} {told}"
         yield from (f"UNSHOWN {path}:1 Syntax" for path in self.empty)
         yield from (f"NOJOURNAL {it.resource.name}" for it in self.journals if not it.lines)
-        yield "REPLAY equal"
+        yield "REPLAY equal" if self.is_whole else "REPLAY of what is shown equal"
 
     @property
     def is_whole(self):
