@@ -3,8 +3,6 @@ from .core import Core, Message, left_by
 from .journals import Evaluated, Hello, Restart, Start, runs_of, told_of
 
 MOST_ABOVE = 1_000_000
-# So many restarts may be of no START or RESTART that was noted, in all journals together.
-MOST_UNNOTED = 1_000_000
 
 
 class Stop(Exception):
@@ -76,8 +74,7 @@ class Journal:
     def rise(self, item):
         if item.incarnation <= self.incarnation:
             raise Stop(f"NotRisen {item.incarnation}")
-        unnoted = item.incarnation - self.incarnation - 1
-        if item.incarnation > self.incarnation + MOST_ABOVE or self.audit.unnoted + unnoted > MOST_UNNOTED:
+        if item.incarnation > self.incarnation + MOST_ABOVE:
             raise Stop(f"TooHigh {item.incarnation}")
         if isinstance(item, Start):
             self.core = self.core or Core(self.plant, self.resource, item.kept)
@@ -85,7 +82,6 @@ class Journal:
                 raise Stop("Kept")
         self.core.begin(item.incarnation)
         self.incarnations.add(item.incarnation)
-        self.audit.unnoted += unnoted
 
     def hear(self, hello):
         maker, told = self.audit.journal_of(hello.resource), f"{hello.resource.name} {hello.incarnation}"
@@ -119,7 +115,7 @@ class Journal:
 class Audit:
     def __init__(self, plant, texts):
         """`texts` are the journals, each by its path."""
-        self.plant, self.entries, self.book, self.unnoted = plant, {}, [], 0
+        self.plant, self.entries, self.book = plant, {}, []
         parted = [(path, runs_of(plant, path, text)) for path, text in texts]
         runs = [run for _, those in parted for run in those]
         self.empty = [path for path, those in parted if not those]
