@@ -84,13 +84,9 @@ class Journal:
         self.incarnations.add(item.incarnation)
 
     def hear(self, hello):
-        maker, told = self.audit.journal_of(hello.resource), f"{hello.resource.name} {hello.incarnation}"
-        if not self.core.is_news(hello.resource, hello.incarnation):
-            return
-        if maker.incarnation < hello.incarnation:
-            raise Wait(hello.resource, hello.incarnation, told)
-        if hello.incarnation not in maker.incarnations:
-            raise Stop(f"Missing {told}")
+        maker = self.audit.journal_of(hello.resource)
+        if self.core.is_news(hello.resource, hello.incarnation) and maker.incarnation < hello.incarnation:
+            raise Wait(hello.resource, hello.incarnation, f"{hello.resource.name} {hello.incarnation}")
         self.core.hear(hello.resource, hello.incarnation)
 
     def accept(self, message):
