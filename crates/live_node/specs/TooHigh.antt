@@ -14,10 +14,14 @@ abbrev pub is_far_held : ℕ → Option MessageValue → Bool
 is_far_held incarnation None = true
 is_far_held incarnation (Some m) = is_far incarnation m.name.incarnation
 
+-- it is so far above that of each message that is held from a resource
+abbrev pub is_far_from_held : MessageCoreValue → ℕ → ℕ → Bool
+is_far_from_held core of incarnation =
+    list_all (λ k. is_far_held incarnation (held_of core (record { resource = of; task = k })))
+    (range_with_len 0 (length (tasks_at core.plant of)))
+
 -- An incarnation of a resource is too high: it is so far above the one of which was heard (0 before the first hello), and
 -- above that of each message that is held from the resource.
 abbrev pub is_too_high : MessageCoreValue → ℕ → ℕ → Bool
 is_too_high core of incarnation =
-    is_far incarnation (slice_index core.heard of)
-    && list_all (λ k. is_far_held incarnation (held_of core (record { resource = of; task = k })))
-    (range_with_len 0 (length (tasks_at core.plant of)))
+    is_far incarnation (slice_index core.heard of) && is_far_from_held core of incarnation

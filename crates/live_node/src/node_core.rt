@@ -34,7 +34,7 @@ ghost use Rattle.exchange_core.specs.Openings.{AreOpeningOf};
 ghost use Rattle.live_node.specs.Keeping.{OutlivesMade, OutliveAlike};
 ghost use Rattle.live_node.specs.NodeValue.{IsStarted};
 ghost use Rattle.live_node.specs.NodeSteps.{CanBeHeard, HasTaken, HasHeardOf, HasRisen, HasMade, IsHelloRefusal, IsTaskRefusal, IsNotRefused, IsPlaceRefusal, is_behind};
-ghost use Rattle.live_node.specs.TooHigh.{is_far, is_far_held, is_too_high};
+ghost use Rattle.live_node.specs.TooHigh.{is_far, is_far_from_held, is_far_held, is_too_high};
 
 /// The incarnations in which all begin: 0 for each resource.
 fn zeros(alloc: Global, resources: usize) -> Result<Vec<u32>, AllocError>
@@ -182,14 +182,20 @@ impl NodeCore {
         }
     }
 
+    /// Whether an incarnation of a resource is above that of each message held from it by more than 1,000,000.
+    fn is_far_from_held(&self, of: usize, incarnation: u32) -> bool
+        ensures { result ≡ is_far_from_held self.now.core of incarnation }
+    {
+        let tasks = self.plant().tasks(of).len();
+        (0..tasks).all(|task| self.is_far_held(TaskRef { resource: of, task }, incarnation))
+    }
+
     /// Whether an incarnation of a resource is above all that is known of it by more than 1,000,000: above what was heard,
     /// and above each message held from it.
     pub fn is_too_high(&self, of: usize, incarnation: u32) -> bool
         ensures { result ≡ is_too_high self.now.core of incarnation }
     {
-        let tasks = self.plant().tasks(of).len();
-        is_far(incarnation, self.heard_of(of))
-            && (0..tasks).all(|task| self.is_far_held(TaskRef { resource: of, task }, incarnation))
+        is_far(incarnation, self.heard_of(of)) && self.is_far_from_held(of, incarnation)
     }
 
     /// Why a hello isn't heard, the first cause.

@@ -6,7 +6,3 @@ use Rattle.live_node.proofs.node.Node.answer_message.Goals as goal
 pub returns-in_err-push_refused-clause-stopped : goal.returns-in_err-push_refused-clause-stopped
 returns-in_err-push_refused-clause-stopped g c =
     none_undone c.from_residual.result c.args.self.now.state (Take c.args.message) c.args.line.now (g.N.Notes.noted c.args.self.now.notes) c.from_residual.ensures.1
-
-pub returns-in_err-pass_over-clause-stopped : goal.returns-in_err-pass_over-clause-stopped
-returns-in_err-pass_over-clause-stopped g c =
-    none_undone c.from_residual-in_err-pass_over.result c.args.self.now.state (Take c.args.message) c.args.line.now (g.N.Notes.noted c.args.self.now.notes) c.from_residual-in_err-pass_over.ensures.1
