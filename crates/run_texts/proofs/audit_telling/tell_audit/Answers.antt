@@ -28,7 +28,7 @@ pub returns-in_err-write_text-clause-fault : tell_audit_goals.returns-in_err-wri
 returns-in_err-write_text-clause-fault g c =
     let plant = c.args.plant.value in
     let audited = c.args.audited.now in
-    let shown = ap (λ b. last_line b c.in_ok-equal.equal) c.is_all_shown.ensures in
+    let shown = ap (λ b. last_line b c.in_ok-equal.equal) c.is_all_shown-is_shown.ensures in
     let line = c.last_line.ensures ∙ shown ∙ ap (last_line (is_all_shown audited)) (c.in_ok-equal.ensures.equal (rw c.as_slice.ensures c.requires.again)) in
     let part = rw line at c.in_err-write_text.ensures.prefix in
     kept_fault Write (TellsAuditPart plant c.args.files.now audited _ _) _ c.from_residual-in_err-write_text.ensures.1
@@ -38,10 +38,10 @@ pub returns-clause-ok : tell_audit_goals.returns-clause-ok
 returns-clause-ok g c =
     let plant = c.args.plant.value in
     let audited = c.args.audited.now in
-    let shown = ap (λ b. last_line b c.in_ok-equal.equal) c.is_all_shown.ensures in
+    let shown = ap (λ b. last_line b c.in_ok-equal.equal) c.is_all_shown-is_shown.ensures in
     let line = c.last_line.ensures ∙ shown ∙ ap (last_line (is_all_shown audited)) (c.in_ok-equal.ensures.equal (rw c.as_slice.ensures c.requires.again)) in
     record {
       appended = Appends-trans _ _ _ (audit_lines plant c.args.files.now audited) _ (rw c.deref.ensures at c.in_ok-write_audit.ensures.ok) (rw line at c.in_ok-write_text.ensures.whole);
-      shown_is = subst (λ (b : Bool). IsTrue b ↔ ((audited.unshown.items ≡ []) × (audited.without.items ≡ []))) (sym c.is_all_shown.ensures)
+      shown_is = subst (λ (b : Bool). IsTrue b ↔ ((audited.unshown.items ≡ []) × (audited.without.items ≡ []))) (sym c.is_all_shown-is_shown.ensures)
           (all_shown audited.unshown.items audited.without.items _ _ refl refl);
     }

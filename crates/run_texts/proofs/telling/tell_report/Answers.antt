@@ -1,5 +1,5 @@
 -- The report is written whole or in part.
-use Rattle.std.proofs.Common.{ap, ◌∙◌}
+use Rattle.std.proofs.Common.{true, ap, ◌∙◌}
 use Rattle.std.proofs.KnownBytes.{Appends-trans}
 use Rattle.lists.proofs.Results.{kept_fault}
 use Rattle.text_lines.specs.declared.send_fault.SendFault.TheVariants.{Write, Memory}
