@@ -1,4 +1,3 @@
-pub mod Replacing
 pub mod RunExplaining
 pub mod AuditExplaining
 pub mod KeeperNames

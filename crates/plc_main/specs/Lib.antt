@@ -4,5 +4,4 @@ pub mod NodeCommand
 pub mod Clashes
 pub mod UsedFiles
 pub mod Files
-pub mod Steps
 pub mod JournalHead
