@@ -1,8 +1,10 @@
 -- What a resource has made and received after one more step, and that the others stand as before.
-use Rattle.std.proofs.Common.{◌≡◌, ◌≢◌, ◌⊎◌, inl, inr, map, append_assoc, ℕ, ◌+◌, ◌++◌, List, [], ◌∷◌, All, Contains, Some, slice_get, slice_set, slice_index, reverse, cond, eqb, true, false, Bool, zero, suc, ◌<◌, add-zero, zero-add, length, replicate, refl, ap, ap₂, sym, ◌∙◌, subst, arith}
+use Rattle.std.proofs.Common.{◌≡◌, ◌≢◌, ◌⊎◌, inl, inr, map, append_assoc, ℕ, ◌+◌, ◌++◌, ◌==◌, ◌&&◌, ◌||◌, List, [], ◌∷◌, All, Contains, Some, slice_get, slice_index, reverse, cond, eqb, ne_eqb, true, false, Bool, zero, suc, ◌<◌, add-zero, zero-add, length, replicate, refl, ap, ap₂, sym, ◌∙◌, subst, arith}
+use Rattle.std.specs.List.{filter_map, list_any}
 use Rattle.std.proofs.lemmas.List.{append-nil, length-append, length-set, map-append, nil_from_length, get_or-set_same, get_or-set_other, reverse-append}
-use Rattle.std.proofs.lemmas.List.Elements.{filter-append, All-weaker, All-append, All-cons, All-nil}
-use Rattle.std.proofs.lemmas.Bool.{eq-eqb, eqb-true}
+use Rattle.std.proofs.lemmas.List.Elements.{filter-append, filter_map-append, All-weaker, All-append, All-cons, All-nil, Contains-append_right}
+use Rattle.std.proofs.lemmas.List.Folds.{list_any-append}
+use Rattle.std.proofs.lemmas.Bool.{eq-eqb, eqb-true, or-false}
 use Rattle.std.proofs.lemmas.Option.{slice_get_within, none-some, same_Some}
 use Rattle.lists.proofs.Members.{all_from_places}
 use Rattle.lists.proofs.Places.{push_cases}
@@ -23,30 +25,70 @@ use Rattle.node_reports.specs.Journals.{made, received, incarnation_after, with_
 use Rattle.node_reports.specs.Stations.{StationValue, PendingValue, IsReceived, IsTold, IsRestarted, IsPending, IsNoted}
 use Rattle.node_reports.specs.declared.run_fault.RunFault.{RunFault}
 use Rattle.node_reports.specs.declared.run_fault.RunFault.TheVariants as run
-use Rattle.node_reports.specs.Reports.{entries_of, Agree, IsAgreeFault}
+use Rattle.node_reports.specs.Reports.{entries_of, restarted_in, Agree, IsAgreeFault}
 use Rattle.audit.specs.declared.standing.Standing.{Standing}
 use Rattle.audit.specs.declared.standing.Standing.TheVariants.{Going, Ended}
 use Rattle.audit.specs.declared.follower.Follower.{Follower}
 use Rattle.audit.specs.Lines.{zeros, AreLeft}
-use Rattle.audit.specs.Reasons.{present_of}
+use Rattle.audit.specs.Reasons.{present_of, restarts_of, rose_to}
 use Rattle.audit.specs.Steps.Following.{IsFollowed}
 use Rattle.audit.specs.Steps.Settled.{IsSettled, AreSettled}
 use Rattle.audit.proofs.Comings.{followed_left, later_keeps, later_following}
-use Rattle.audit.specs.Steps.Standings.{AuditedBook, empty_book, IsJournalOf, IsGoing, IsEnded, IsStanding, IsPendingFor, journal_in, IsLater, Grows, Goes, IsOfSame, IsAt, AreFrom, AreJournalsFrom}
-use Rattle.audit.specs.Delivered.{AreDelivered}
+use Rattle.audit.specs.declared.rise.Rise.{Rise}
+use Rattle.audit.specs.Steps.Standings.{AuditedBook, empty_book, has_risen, raised, HearsRisen, IsJournalOf, IsGoing, IsEnded, IsStanding, IsPendingFor, journal_in, IsLater, Grows, Goes, IsOfSame, IsAt, AreFrom, AreJournalsFrom}
+use Rattle.audit.specs.Delivered.{AreDelivered, AreHeardTruly, HearsTruly}
 
 -- a step other than a restart leaves the incarnation as it was
 present_with : (j : Journal) (s : Step) → incarnation_after j.first (s ∷ reverse j.steps) ≡ present_of j → present_of (with_step j s) ≡ present_of j
 present_with j s same = ap (incarnation_after j.first) (reverse-append j.steps (s ∷ [])) ∙ same
 
--- a step that makes nothing and receives nothing
-still : (b : AuditedBook) (j : Journal) (s : Step) → made (s ∷ []) ≡ [] → received (s ∷ []) ≡ [] → incarnation_after j.first (s ∷ reverse j.steps) ≡ present_of j → IsJournalOf b j → IsJournalOf b (with_step j s)
-still b j s none nothing same is = record {
+-- one more START or RESTART
+rises_with : (rises : List Rise) (n k m i : ℕ) → has_risen (rises ++ record { resource = n; incarnation = k } ∷ []) m i ≡ (has_risen rises m i || ((n == m && k == i) || false))
+rises_with rises n k m i = list_any-append (λ (r : Rise). r.resource == m && r.incarnation == i) rises (record { resource = n; incarnation = k } ∷ [])
+
+rises_other : (rises : List Rise) (n k m i : ℕ) → m ≢ n → has_risen (rises ++ record { resource = n; incarnation = k } ∷ []) m i ≡ has_risen rises m i
+rises_other rises n k m i other =
+    rises_with rises n k m i ∙ ap (λ (e : Bool). has_risen rises m i || ((e && k == i) || false)) (ne_eqb n m (λ same. other (sym same))) ∙ or-false (has_risen rises m i)
+
+rises_more : (rises : List Rise) (n k m i : ℕ) → has_risen rises m i ≡ true → has_risen (rises ++ record { resource = n; incarnation = k } ∷ []) m i ≡ true
+rises_more rises n k m i before = rises_with rises n k m i ∙ ap (λ (e : Bool). e || ((n == m && k == i) || false)) before
+
+-- the restarts of a journal with one more step
+restarts_with : (j : Journal) (s : Step) → restarts_of (with_step j s) ≡ restarts_of j ++ filter_map restarted_in (s ∷ [])
+restarts_with j s = filter_map-append restarted_in j.steps (s ∷ [])
+
+rose_still : (b : AuditedBook) (j : Journal) (s : Step) → filter_map restarted_in (s ∷ []) ≡ [] → IsJournalOf b j → (i : ℕ) → has_risen b.rises j.resource i ≡ rose_to (restarts_of (with_step j s)) i
+rose_still b j s none is i = is.rose i ∙ ap (λ (ks : List ℕ). rose_to ks i) (sym (restarts_with j s ∙ ap (λ (ks : List ℕ). restarts_of j ++ ks) none ∙ append-nil (restarts_of j)))
+
+rose_more : (b : AuditedBook) (j : Journal) (ticket k : ℕ) → IsJournalOf b j → (i : ℕ) → has_risen (raised b j.resource k).rises j.resource i ≡ rose_to (restarts_of (with_step j (Restarted ticket k))) i
+rose_more b j ticket k is i =
+    rises_with b.rises j.resource k j.resource i
+    ∙ ap (λ (e : Bool). e || ((j.resource == j.resource && k == i) || false)) (is.rose i)
+    ∙ ap (λ (e : Bool). rose_to (restarts_of j) i || ((e && k == i) || false)) (eq-eqb j.resource j.resource refl)
+    ∙ sym (list_any-append (λ (n : ℕ). n == i) (restarts_of j) (k ∷ []))
+    ∙ ap (λ (ks : List ℕ). rose_to ks i) (sym (restarts_with j (Restarted ticket k)))
+
+-- one more step hears of what has risen, or of nothing
+heard_with : (rises : List Rise) (j : Journal) (s : Step) → HearsRisen rises s → All (HearsRisen rises) j.steps → All (HearsRisen rises) (with_step j s).steps
+heard_with rises j s truly before = All-append (HearsRisen rises) j.steps (s ∷ []) before (All-cons (HearsRisen rises) s [] truly (All-nil (HearsRisen rises)))
+
+-- what was heard stays so
+heard_later : (old new : List Rise) → ((r i : ℕ) → has_risen old r i ≡ true → has_risen new r i ≡ true) → (s : Step) → HearsRisen old s → HearsRisen new s
+heard_later old new more (Took x) h = tt
+heard_later old new more (Made x) h = tt
+heard_later old new more (Restarted ticket incarnation) h = tt
+heard_later old new more (Heard of incarnation) h = more of incarnation h
+
+-- a step that makes nothing, receives nothing and is no restart
+still : (b : AuditedBook) (j : Journal) (s : Step) → made (s ∷ []) ≡ [] → received (s ∷ []) ≡ [] → incarnation_after j.first (s ∷ reverse j.steps) ≡ present_of j → filter_map restarted_in (s ∷ []) ≡ [] → HearsRisen b.rises s → IsJournalOf b j → IsJournalOf b (with_step j s)
+still b j s none nothing same unrisen truly is = record {
   first_is = is.first_is;
   exists = is.exists;
   present_is = is.present_is ∙ sym (present_with j s same);
   made_is = made-append j.steps (s ∷ []) ∙ ap (λ ys. made j.steps ++ ys) none ∙ append-nil (made j.steps) ∙ is.made_is;
   delivered = subst (All (Contains b.book.entries)) (sym (received-append j.steps (s ∷ []) ∙ ap (λ ys. received j.steps ++ ys) nothing ∙ append-nil (received j.steps))) is.delivered;
+  rose = rose_still b j s unrisen is;
+  hearings = heard_with b.rises j s truly is.hearings;
 }
 
 -- one more entry was received
@@ -58,6 +100,8 @@ took b j x listed is = record {
   made_is = made-append j.steps (Took x ∷ []) ∙ append-nil (made j.steps) ∙ is.made_is;
   delivered = subst (All (Contains b.book.entries)) (sym (received-append j.steps (Took x ∷ [])))
       (All-append (Contains b.book.entries) (received j.steps) (x ∷ []) is.delivered (All-cons (Contains b.book.entries) x [] listed (All-nil (Contains b.book.entries))));
+  rose = rose_still b j (Took x) refl is;
+  hearings = heard_with b.rises j (Took x) tt is.hearings;
 }
 
 own_entry : (r : ℕ) (x : Evaluated) → x.name.task.resource ≡ r → entries_of r (x ∷ []) ≡ x ∷ []
@@ -118,15 +162,12 @@ received_going b old new x answer listed is going =
     gone b old new (set_of b old going) (accepted_setting old.core new.core x answer is.accepted) (ap (λ (j : Journal). j.resource) is.noted)
     (subst (IsJournalOf b) (sym is.noted) (took b old.journal x listed going.journal))
 
-pub heard_going : (b : AuditedBook) (old new : StationValue) (of incarnation : ℕ) (answer : Bool) → IsTold old new of incarnation answer → IsGoing b old → IsGoing b new
-heard_going b old new of incarnation answer is going =
+pub heard_going : (b : AuditedBook) (old new : StationValue) (of incarnation : ℕ) (answer : Bool) → has_risen b.rises of incarnation ≡ true → IsTold old new of incarnation answer → IsGoing b old → IsGoing b new
+heard_going b old new of incarnation answer risen is going =
     gone b old new (set_of b old going) (heard_setting old.core new.core of incarnation answer is.heard_is) (ap (λ (j : Journal). j.resource) is.noted)
-    (subst (IsJournalOf b) (sym is.noted) (still b old.journal (Heard of incarnation) refl refl refl going.journal))
+    (subst (IsJournalOf b) (sym is.noted) (still b old.journal (Heard of incarnation) refl refl refl refl risen going.journal))
 
 -- the incarnation to which a resource has come is noted
-abbrev pub raised : AuditedBook → ℕ → ℕ → AuditedBook
-raised b resource incarnation = record b { present = slice_set b.present resource incarnation }
-
 restarted_journal : (b : AuditedBook) (j : Journal) (ticket incarnation : ℕ) → IsJournalOf b j → IsJournalOf (raised b j.resource incarnation) (with_step j (Restarted ticket incarnation))
 restarted_journal b j ticket incarnation is = record {
   first_is = is.first_is;
@@ -134,6 +175,10 @@ restarted_journal b j ticket incarnation is = record {
   present_is = get_or-set_same b.present j.resource incarnation 0 is.exists ∙ sym (ap (incarnation_after j.first) (reverse-append j.steps (Restarted ticket incarnation ∷ [])));
   made_is = made-append j.steps (Restarted ticket incarnation ∷ []) ∙ append-nil (made j.steps) ∙ is.made_is;
   delivered = subst (All (Contains b.book.entries)) (sym (received-append j.steps (Restarted ticket incarnation ∷ []) ∙ append-nil (received j.steps))) is.delivered;
+  rose = rose_more b j ticket incarnation is;
+  hearings =
+      heard_with (raised b j.resource incarnation).rises j (Restarted ticket incarnation) tt
+      (All-weaker (HearsRisen b.rises) (HearsRisen (raised b j.resource incarnation).rises) (heard_later b.rises (raised b j.resource incarnation).rises (rises_more b.rises j.resource incarnation)) j.steps is.hearings);
 }
 
 restarted_going : (b : AuditedBook) (old new : StationValue) (ticket incarnation : ℕ) → IsRestarted old new ticket incarnation → IsGoing b old → IsGoing (raised b old.journal.resource incarnation) new
@@ -166,7 +211,7 @@ later_twice a b c one two = record {
 }
 
 pub grown_not : (resource : ℕ) (b : AuditedBook) → Grows resource b b
-grown_not resource b = record { plant_is = refl; book_is = later_not b.book; others = λ r other. refl; long = refl; still = λ r other. refl }
+grown_not resource b = record { plant_is = refl; book_is = later_not b.book; others = λ r other. refl; long = refl; still = λ r other. refl; rises_more = λ r i h. h; rises_still = λ r i other. refl }
 
 pub grown_twice : (resource : ℕ) (a b c : AuditedBook) → Grows resource a b → Grows resource b c → Grows resource a c
 grown_twice resource a b c one two = record {
@@ -175,6 +220,8 @@ grown_twice resource a b c one two = record {
   others = λ r other. two.others r other ∙ one.others r other;
   long = two.long ∙ one.long;
   still = λ r other. two.still r other ∙ one.still r other;
+  rises_more = λ r i h. two.rises_more r i (one.rises_more r i h);
+  rises_still = λ r i other. two.rises_still r i other ∙ one.rises_still r i other;
 }
 
 -- one resource has come to another incarnation
@@ -185,6 +232,8 @@ grown_raised resource incarnation b = record {
   others = λ r other. refl;
   long = length-set b.present resource incarnation;
   still = λ r other. get_or-set_other b.present resource r incarnation 0 other;
+  rises_more = rises_more b.rises resource incarnation;
+  rises_still = λ r i other. rises_other b.rises resource incarnation r i other;
 }
 
 -- a book with one more entry
@@ -204,6 +253,8 @@ grown_by resource b x own = record {
   others = λ r other. entries_behind r b x ∙ ap (λ ys. entries_of r b.book.entries ++ ys) (no_entry r x (λ same. other (sym same ∙ own))) ∙ append-nil (entries_of r b.book.entries);
   long = refl;
   still = λ r other. refl;
+  rises_more = λ r i h. h;
+  rises_still = λ r i other. refl;
 }
 
 -- the journal of another resource is one of a book that has grown
@@ -214,6 +265,8 @@ still_of resource old new j grows other is = record {
   present_is = grows.still j.resource other ∙ is.present_is;
   made_is = is.made_is ∙ sym (grows.others j.resource other);
   delivered = All-weaker (Contains old.book.entries) (Contains new.book.entries) (later_keeps old.book new.book grows.book_is) (received j.steps) is.delivered;
+  rose = λ i. grows.rises_still j.resource i other ∙ is.rose i;
+  hearings = All-weaker (HearsRisen old.rises) (HearsRisen new.rises) (heard_later old.rises new.rises grows.rises_more) j.steps is.hearings;
 }
 
 pub still_standing : (resource : ℕ) (old new : AuditedBook) (s : Standing) → Grows resource old new → (journal_in s).resource ≢ resource → IsStanding old s → IsStanding new s
@@ -245,6 +298,8 @@ noted_going old new p s is noted pending = subst (λ b. IsGoing b s) (sym is) (r
         ∙ sym (entries_behind p.journal.resource old p.made);
     delivered = subst (All (Contains (entered old p.made).book.entries)) (sym (received-append p.journal.steps (Made p.made ∷ []) ∙ append-nil (received p.journal.steps)))
         (All-weaker (Contains old.book.entries) (Contains (entered old p.made).book.entries) (later_keeps old.book (entered old p.made).book (later_by old p.made)) (received p.journal.steps) pending.going.journal.delivered);
+    rose = rose_still old p.journal (Made p.made) refl pending.going.journal;
+    hearings = heard_with old.rises p.journal (Made p.made) tt pending.going.journal.hearings;
   });
 })
 
@@ -286,6 +341,17 @@ present_at b fs n f stand at =
     by : (standing : Standing) → IsStanding b standing → slice_index b.present (journal_in standing).resource ≡ present_of (journal_in standing)
     by (Going s) stands = stands.journal.present_is
     by (Ended j) stands = stands.journal.present_is
+
+-- and so are the incarnations in which it was
+pub rose_at : (b : AuditedBook) (fs : List Follower) (n i : ℕ) (f : Follower) → AreFrom b 0 fs → slice_get fs n ≡ Some f → has_risen b.rises n i ≡ rose_to (restarts_of (journal_in f.standing)) i
+rose_at b fs n i f stand at =
+    let is = stand n f at in
+    let place : (journal_in f.standing).resource ≡ n = is.resource_is ∙ zero-add n in
+    ap (λ (m : ℕ). has_risen b.rises m i) (sym place) ∙ by f.standing is.stands
+  where
+    by : (standing : Standing) → IsStanding b standing → has_risen b.rises (journal_in standing).resource i ≡ rose_to (restarts_of (journal_in standing)) i
+    by (Going s) stands = stands.journal.rose i
+    by (Ended j) stands = stands.journal.rose i
 
 -- one more behind those from 0 on
 pub one_more_at : (b : AuditedBook) (n : ℕ) (fs : List Follower) (f : Follower) → AreFrom b n fs → IsAt b (n + length fs) f → AreFrom b n (fs ++ f ∷ [])
@@ -358,6 +424,27 @@ pub record AllAgree (plant : PlantValue) (book : BookValue) (journals : List Jou
   pub lawful : All (IsLawful plant (firsts_of journals) 4294967295) journals
   pub agree : Agree plant book journals
   pub delivered : AreDelivered book.entries journals
+  pub heard : AreHeardTruly journals
+
+-- what is among numbers by a test is among them
+among : (xs : List ℕ) (i : ℕ) → rose_to xs i ≡ true → Contains xs i
+among [] i h = absurd cc
+among (x ∷ xs) i h = by (x == i) refl
+  where
+    by : (e : Bool) → (x == i) ≡ e → Contains (x ∷ xs) i
+    by true is = (0, omega arith, eqb-true x i is)
+    by false is = Contains-append_right (x ∷ []) xs i (among xs i (sym (ap (λ (e : Bool). e || rose_to xs i) is) ∙ h))
+
+-- what was heard was so, by the journals
+heard_so : (b : AuditedBook) (journals : List Journal) → AreJournalsFrom b 0 journals → (s : Step) → HearsRisen b.rises s → HearsTruly journals s
+heard_so b journals are (Took x) h = tt
+heard_so b journals are (Made x) h = tt
+heard_so b journals are (Restarted ticket incarnation) h = tt
+heard_so b journals are (Heard of incarnation) h = λ maker at.
+    let is = are of maker at in
+    let place : maker.resource ≡ of = is.1 ∙ zero-add of in
+    let rose : rose_to (restarts_of maker) incarnation ≡ true = sym (is.0.journal.rose incarnation) ∙ ap (λ (n : ℕ). has_risen b.rises n incarnation) place ∙ h in
+    Contains-append_right (maker.first ∷ []) (restarts_of maker) incarnation (among (restarts_of maker) incarnation rose)
 
 firsts_zero : (js : List Journal) → ((k : ℕ) (j : Journal) → slice_get js k ≡ Some j → j.first ≡ 0) → firsts_of js ≡ replicate (length js) 0
 firsts_zero [] each = refl
@@ -375,6 +462,7 @@ all_agree plant b journals plant_is first_is many are =
         in_book = all_from_places (λ (j : Journal). made j.steps ≡ entries_of j.resource b.book.entries) journals (λ k j at. (are k j at).0.journal.made_is);
       };
       delivered = all_from_places (λ (j : Journal). All (Contains b.book.entries) (received j.steps)) journals (λ k j at. (are k j at).0.journal.delivered);
+      heard = all_from_places (λ (j : Journal). All (HearsTruly journals) j.steps) journals (λ k j at. All-weaker (HearsRisen b.rises) (HearsTruly journals) (heard_so b journals are) j.steps (are k j at).0.journal.hearings);
     }
 
 pub goes_still : (b : AuditedBook) (s t : StationValue) → IsGoing b t → t.journal.resource ≡ s.journal.resource → Goes b b (Going s) (Going t)

@@ -1,5 +1,5 @@
 -- What is shown of all resources, and what can't be.
-use Rattle.std.proofs.Common.{arith, ◌≡◌, ℕ, zero, suc, ◌+◌, ◌++◌, List, [], ◌∷◌, Option, Some, None, length, map, slice_get, slice_index, ◌<◌, inl, inr, IfSome, refl, ap, sym, ◌∙◌, subst, zero-add, add-one, option_map, append-nil}
+use Rattle.std.proofs.Common.{arith, ◌≡◌, ℕ, zero, suc, ◌+◌, ◌++◌, List, [], ◌∷◌, Option, Some, None, length, map, slice_get, slice_index, ◌<◌, ◌≤◌, false, inl, inr, IfSome, refl, ap, sym, ◌∙◌, subst, zero-add, add-one, option_map, append-nil}
 use Rattle.std.proofs.lemmas.List.{length-map}
 use Rattle.std.specs.Global.{Vec}
 use Rattle.std.proofs.lemmas.Option.{slice_get-map}
@@ -19,35 +19,45 @@ use Rattle.audit.specs.declared.reason.Reason.TheVariants as reason
 use Rattle.audit.specs.declared.reason.Unshown.{Unshown}
 use Rattle.audit.specs.declared.standing.Standing.{Standing}
 use Rattle.audit.specs.declared.standing.Standing.TheVariants.{Going, Ended}
-use Rattle.audit.specs.Reasons.{Course, present_of, IsOver, MayBeIn, HasNotCome, Needs, maker_in, incarnation_of, IsReason}
+use Rattle.audit.specs.Reasons.{Course, present_of, IsGone, IsOver, MayBeIn, WasNotIn, Needs, maker_in, incarnation_of, IsReason}
 use Rattle.audit.specs.Told.{IsTold, IsShown, AreShown, AreToldBy, if_none, without_lines, all_without}
-use Rattle.audit.specs.Steps.Standings.{AuditedBook, journal_in, AreFrom}
+use Rattle.audit.specs.Steps.Standings.{AuditedBook, has_risen, journal_in, AreFrom}
 use Rattle.audit.specs.Steps.Following.{IsLed, WouldNeed, IsStop, IsTried, IsFollowed}
-use Rattle.audit.specs.Steps.Settled.{IsUnmet, IsAhead, IsStuck, IsSettled, course_of, courses_of, maker_of, IsReasonFor, IsToldOf, AreToldOf, HaveTold}
+use Rattle.audit.specs.Steps.Settled.{IsUnmet, IsStuck, IsSettled, course_of, courses_of, maker_of, IsReasonFor, IsToldOf, AreToldOf, HaveTold}
 use Rattle.audit.specs.declared.journal_file.JournalFile.{JournalFile}
 use Rattle.audit.specs.declared.reading.Readings.{Readings}
 use Rattle.audit.specs.Readings.{AreReadings}
 use Rattle.audit.specs.declared.auditing.Audited.{Audited}
-use Rattle.audit.proofs.GoingOn.{lines_of, journals_in, present_at}
+use Rattle.audit.proofs.GoingOn.{lines_of, journals_in, present_at, rose_at}
 
 -- what is shown of a resource at its place among all
 course_at : (fs : List Follower) (n : ℕ) (maker : Option Follower) → slice_get fs n ≡ maker → slice_get (courses_of fs) n ≡ option_map course_of maker
 course_at fs n maker at = slice_get-map course_of fs n ∙ ap (option_map course_of) at
 
--- where an incarnation isn't met, the resource hasn't come to it
-not_come : (b : AuditedBook) (fs : List Follower) (n i : ℕ) → AreFrom b 0 fs → slice_index b.present n < i → HasNotCome (slice_get (courses_of fs) n) i
-not_come b fs n i stand below = by (slice_get fs n) refl
+-- where an incarnation isn't met, the resource wasn't in it
+not_in : (b : AuditedBook) (fs : List Follower) (n i : ℕ) → AreFrom b 0 fs → has_risen b.rises n i ≡ false → WasNotIn (slice_get (courses_of fs) n) i
+not_in b fs n i stand unrisen = by (slice_get fs n) refl
   where
-    by : (maker : Option Follower) → slice_get fs n ≡ maker → HasNotCome (slice_get (courses_of fs) n) i
-    by None at = subst (λ (c : Option Course). HasNotCome c i) (sym (course_at fs n None at)) tt
-    by (Some f) at =
-        let present : slice_index b.present n ≡ present_of (journal_in f.standing) = present_at b fs n f stand at in
-        subst (λ (c : Option Course). HasNotCome c i) (sym (course_at fs n (Some f) at)) (omega (arith, present, below))
+    by : (maker : Option Follower) → slice_get fs n ≡ maker → WasNotIn (slice_get (courses_of fs) n) i
+    by None at = subst (λ (c : Option Course). WasNotIn c i) (sym (course_at fs n None at)) tt
+    by (Some f) at = subst (λ (c : Option Course). WasNotIn c i) (sym (course_at fs n (Some f) at)) (sym (rose_at b fs n i f stand at) ∙ unrisen)
+
+-- what a line needs is missing: there is no maker, or it has no line left, or it has come to a greater incarnation
+pub missing_none : (need : Need) → (IsGone None need → ⊥) × (MayBeIn None (incarnation_of need) → ⊥)
+missing_none (Evaluation name) = (λ h. h, λ h. h)
+missing_none (Incarnation n i) = (λ h. h, λ h. h)
+
+pub missing_closed : (c : Course) (need : Need) (present : ℕ) → present ≡ present_of c.journal → present ≤ incarnation_of need → (c.shown < length c.lines → ⊥) → (IsGone (Some c) need → ⊥) × (MayBeIn (Some c) (incarnation_of need) → ⊥)
+missing_closed c (Evaluation name) present is below closed = (λ gone. absurd (omega (arith, gone.1, is, below)), λ may. closed may.1)
+missing_closed c (Incarnation n i) present is below closed = (λ gone. gone, λ may. closed may.1)
+
+pub missing_past : (c : Course) (n i present : ℕ) → present ≡ present_of c.journal → i < present → (IsGone (Some c) (Incarnation n i) → ⊥) × (MayBeIn (Some c) i → ⊥)
+missing_past c n i present is past = (λ gone. gone, λ may. absurd (omega (arith, may.0, is, past)))
 
 -- a need that isn't met
 needs_so : (b : AuditedBook) (fs : List Follower) (s : StationValue) (item : Item) (need : Need) → AreFrom b 0 fs → WouldNeed s item need → IsUnmet b need → Needs b.book (courses_of fs) s item need
 needs_so b fs s item (Evaluation name) stand would unmet = (would.0, would.1, would.2, unmet)
-needs_so b fs s item (Incarnation n i) stand would unmet = (would, not_come b fs n i stand unmet)
+needs_so b fs s item (Incarnation n i) stand would unmet = (would, not_in b fs n i stand unmet)
 
 -- a need that isn't met is the reason
 reason_for : (book : BookValue) (all : List Course) (s : StationValue) (item : Item) (need : Need) (why : Reason) → IsReasonFor (maker_in all need) need why → Needs book all s item need → IsReason book all s item why
@@ -61,7 +71,7 @@ reason_for book all s item need (reason.Unmade name) is h =
 reason_for book all s item need (reason.Waits n) is h =
     subst (λ n. Needs book all s item n × MayBeIn (maker_in all n) (incarnation_of n)) (sym is.0) (h, is.1)
 reason_for book all s item need (reason.Missing n) is h =
-    subst (λ n. Needs book all s item n × (IsOver (maker_in all n) (incarnation_of n) → ⊥) × (MayBeIn (maker_in all n) (incarnation_of n) → ⊥)) (sym is.0) (h, is.1, is.2)
+    subst (λ n. Needs book all s item n × (IsGone (maker_in all n) n → ⊥) × (MayBeIn (maker_in all n) (incarnation_of n) → ⊥)) (sym is.0) (h, is.1, is.2)
 reason_for book all s item need (reason.Misfit misfit) is h = absurd is
 
 -- a line that can't be done, whatever others do
@@ -103,11 +113,6 @@ come_to b fs n present (Some f) stand at is = is ∙ present_at b fs n f stand (
 pub waiting_unmet : (b : AuditedBook) (f : Follower) (line : Line) (need : Need) → slice_get f.lines.items f.trail.at ≡ Some line → f.trail.last ≡ Waits need → IsSettled b f → IsUnmet b need
 waiting_unmet b f line need at last (inl none) = absurd (let e = sym at ∙ none in cc)
 waiting_unmet b f line need at last (inr stuck) = subst (IsStuck b) last stuck
-
-pub ahead_of : (b : AuditedBook) (need : Need) (n present : ℕ) → n ≡ maker_of need → present ≡ slice_index b.present n → IsUnmet b need → IsAhead present need
-ahead_of b (Evaluation name) n present same is unmet = tt
-ahead_of b (Incarnation m i) n present same is unmet =
-    let come : present ≡ slice_index b.present m = is ∙ ap (slice_index b.present) same in omega (arith, come, unmet)
 
 -- one more resource
 pub told_more : (b : AuditedBook) (fs : List Follower) (n : ℕ) (before these after : List Unshown) (f : Follower) → slice_get fs n ≡ Some f → AreToldOf b fs n before → IsToldOf b fs f these → after ≡ before ++ these → AreToldOf b fs (n + 1) after

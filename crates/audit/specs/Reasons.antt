@@ -1,7 +1,7 @@
 -- Why a line can't be shown, by what is shown of all journals.
 use Rattle.std.specs.Prelude.{◌≡◌, ◌≢◌, ◌==◌, ◌⊎◌, ◌++◌, ℕ, ◌+◌, ◌<◌, ◌≤◌, Bool, true, false, List, All, Contains, Option, IfSome, IsSomeAnd, length, reverse, slice_get, take}
 use Rattle.std.specs.Global.{Vec}
-use Rattle.std.specs.List.{list_any}
+use Rattle.std.specs.List.{filter_map, list_any}
 use Rattle.std_blocks.specs.declared.value.Value.{Value}
 use Rattle.evaluation.specs.declared.field_input.FieldInput.{FieldInput}
 use Rattle.evaluation.specs.declared.name.Name.{Name}
@@ -17,6 +17,7 @@ use Rattle.exchange_core.specs.MessageCoreValue.{IsAnswer}
 use Rattle.exchange_core.specs.CoreValue.{IsEvalFault, IsNextOf, is_news}
 use Rattle.node_reports.specs.declared.journal.Journal.{Journal}
 use Rattle.node_reports.specs.Journals.{incarnation_after}
+use Rattle.node_reports.specs.Reports.{restarted_in}
 use Rattle.node_reports.specs.Stations.{StationValue}
 use Rattle.audit.specs.declared.item.Item.{Item}
 use Rattle.audit.specs.declared.item.Item.TheVariants.{Start, Restart, Message, Hello, Evaluate, Faulty}
@@ -58,9 +59,17 @@ IsOver maker i = IsSomeAnd maker (λ (c : Course). (was_in c i ≡ true) × (i <
 abbrev pub MayBeIn : Option Course → ℕ → Type 0
 MayBeIn maker i = IsSomeAnd maker (λ (c : Course). (present_of c.journal ≤ i) × (c.shown < length c.lines))
 
--- It hasn't come to an incarnation yet.
-abbrev pub HasNotCome : Option Course → ℕ → Type 0
-HasNotCome maker i = IfSome maker (λ (c : Course). present_of c.journal < i)
+-- the incarnations to which a resource rose, at each START and RESTART
+abbrev pub restarts_of : Journal → List ℕ
+restarts_of j = filter_map restarted_in j.steps
+
+-- it rose to this one
+abbrev pub rose_to : List ℕ → ℕ → Bool
+rose_to restarts i = list_any (λ (k : ℕ). k == i) restarts
+
+-- By what is shown of it, it wasn't in an incarnation.
+abbrev pub WasNotIn : Option Course → ℕ → Type 0
+WasNotIn maker i = IfSome maker (λ (c : Course). rose_to (restarts_of c.journal) i ≡ false)
 
 -- A line is none of a node, or an evaluation of a task that isn't there or whose numbers are spent.
 abbrev pub IsNoLine : StationValue → Item → Type 0
@@ -101,11 +110,11 @@ IsOther book s item name =
     (m made : MessageValue) × WouldTake s item m × (m.name ≡ name) × WasMade book name made × (made ≢ m)
 
 -- A line needs what isn't there: an evaluation that the book doesn't have, whose message the resource takes; or an
--- incarnation to which the other resource hasn't come, of which the hello is news.
+-- incarnation in which the other resource wasn't, of which the hello is news.
 abbrev pub Needs : BookValue → List Course → StationValue → Item → Need → Type 0
 Needs book all s item (Evaluation name) =
     (m : MessageValue) × WouldTake s item m × (m.name ≡ name) × WasNotMade book name
-Needs book all s item (Incarnation n i) = WouldHear s item n i × HasNotCome (slice_get all n) i
+Needs book all s item (Incarnation n i) = WouldHear s item n i × WasNotIn (slice_get all n) i
 
 -- what is shown of the resource of which a line needs something
 abbrev pub maker_in : List Course → Need → Option Course
@@ -116,6 +125,11 @@ maker_in all (Incarnation n i) = slice_get all n
 abbrev pub incarnation_of : Need → ℕ
 incarnation_of (Evaluation name) = name.incarnation
 incarnation_of (Incarnation n i) = i
+
+-- what it needs was never made: the other resource is over with that incarnation
+abbrev pub IsGone : Option Course → Need → Type 0
+IsGone maker (Evaluation name) = IsOver maker name.incarnation
+IsGone maker (Incarnation n i) = ⊥
 
 -- A line is an evaluation, and what it makes didn't fit the book's entries before it.
 abbrev pub IsUnfit : BookValue → StationValue → Item → Misfit → Type 0
@@ -139,6 +153,6 @@ IsReason book all s item (reason.Unmade name) =
 IsReason book all s item (reason.Waits need) =
     Needs book all s item need × MayBeIn (maker_in all need) (incarnation_of need)
 IsReason book all s item (reason.Missing need) =
-    Needs book all s item need × (IsOver (maker_in all need) (incarnation_of need) → ⊥)
+    Needs book all s item need × (IsGone (maker_in all need) need → ⊥)
     × (MayBeIn (maker_in all need) (incarnation_of need) → ⊥)
 IsReason book all s item (reason.Misfit misfit) = IsUnfit book s item misfit

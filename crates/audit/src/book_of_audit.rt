@@ -1,5 +1,6 @@
-//! The book of an audit, in which an entry is found by its name, and the incarnations to which the resources have come.
+//! The book of an audit, in which an entry is found by its name, and the incarnations in which the resources were.
 
+use crate::rise::Rise;
 use book::{Book, Misfit};
 use evaluation::{Frame, Name};
 use plant::Plant;
@@ -7,12 +8,14 @@ use std::alloc::{AllocError, Global};
 use std::marker::Model;
 use std::sync::Arc;
 
-/// A book whose entries are by a plant's codes, and the present incarnation of each resource.
+/// A book whose entries are by a plant's codes, the present incarnation of each resource, and each START and RESTART that
+/// was done.
 #[derive(Drop)]
 pub(crate) struct BookOfAudit {
     plant: Arc<Plant>,
     book: Book,
     present: Vec<u32>,
+    rises: Vec<Rise>,
 }
 
 impl Model for BookOfAudit {
@@ -21,16 +24,16 @@ impl Model for BookOfAudit {
 
     ghost Value = { AuditedBook };
 
-    ghost view = { λ b. record { plant = b.plant.value; book = b.book; present = b.present.items } };
+    ghost view = { λ b. record { plant = b.plant.value; book = b.book; present = b.present.items; rises = b.rises.items } };
 
     ghost invariant = { λ b. AreOfPlant b.plant.value b.book.entries };
 }
 
-ghost use Rattle.std.specs.Prelude.{◌≡◌, ◌∷◌, ◌++◌, [], IfOk, IfSome, MatchOption, slice_index, slice_set};
+ghost use Rattle.std.specs.Prelude.{◌≡◌, ◌∷◌, ◌++◌, [], IfOk, IfSome, OnOk, MatchOption, slice_index};
 ghost use Rattle.node_reports.specs.Codes.{IsOfPlant, AreOfPlant};
 ghost use Rattle.audit.specs.Reasons.{WasNotMade};
 ghost use Rattle.audit.specs.Steps.Following.{IsEntry, IsMisfitOf};
-ghost use Rattle.audit.specs.Steps.Standings.{empty_book};
+ghost use Rattle.audit.specs.Steps.Standings.{empty_book, has_risen, raised};
 
 impl BookOfAudit {
     /// A book without entries. Each resource begins in 0.
@@ -43,6 +46,7 @@ impl BookOfAudit {
             plant,
             book,
             present,
+            rises: Vec::new(alloc),
         })
     }
 
@@ -62,13 +66,24 @@ impl BookOfAudit {
         self.present.get(resource).copied().unwrap_or(0)
     }
 
-    /// Notes that a resource has come to a greater incarnation.
-    pub(crate) fn raise(&mut self, resource: usize, incarnation: u32)
-        ensures { self.new ≡ record self.old { present = slice_set self.old.present resource incarnation } }
+    /// Whether a resource was in an incarnation, by a START or RESTART that was done.
+    pub(crate) fn has_risen(&self, resource: usize, incarnation: u32) -> bool
+        ensures { result ≡ has_risen self.now.rises resource incarnation }
     {
+        self.rises
+            .iter()
+            .any(|rise| rise.resource == resource && rise.incarnation == incarnation)
+    }
+
+    /// Notes that a resource has come to a greater incarnation.
+    pub(crate) fn raise(&mut self, resource: usize, incarnation: u32) -> Result<(), AllocError>
+        ensures { OnOk result (self.new ≡ raised self.old resource incarnation) }
+    {
+        self.rises.push(Rise { resource, incarnation })?;
         if resource < self.present.len() {
             self.present[resource] = incarnation;
         }
+        Ok(())
     }
 
     /// Appends an evaluation that fits the entries; else it tells why it doesn't, and the book is unchanged.

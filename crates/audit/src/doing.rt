@@ -48,7 +48,7 @@ fn restart(
     let resource = station.resource();
     match station.restart(alloc, ticket, incarnation) {
         Ok(station) => {
-            book.raise(resource, incarnation);
+            book.raise(resource, incarnation)?;
             Ok((Standing::Going(station), Outcome::Done))
         }
         Err(_) => Err(AllocError),

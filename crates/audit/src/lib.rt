@@ -23,6 +23,7 @@ mod past;
 mod reading;
 mod reason;
 mod restart_line;
+mod rise;
 mod rising;
 mod run;
 mod runs;

@@ -1,37 +1,60 @@
 -- Resources that go through their lines, and the book that they make.
-use Rattle.std.specs.Prelude.{◌≡◌, ◌≢◌, ℕ, ◌+◌, ◌<◌, ◌++◌, List, [], All, Contains, Some, length, slice_get, slice_index}
+use Rattle.std.specs.Prelude.{◌≡◌, ◌≢◌, ℕ, ◌+◌, ◌<◌, ◌++◌, ◌==◌, ◌&&◌, Bool, true, List, [], ◌∷◌, All, Contains, Some, length, slice_get, slice_index, slice_set}
+use Rattle.std.specs.List.{list_any}
 use Rattle.plant.specs.PlantValue.{PlantValue}
 use Rattle.evaluation.specs.Meaning.{Evaluated}
 use Rattle.book.specs.Book.{BookValue}
 use Rattle.node_reports.specs.declared.journal.Journal.{Journal}
+use Rattle.node_reports.specs.declared.step.Step.{Step}
+use Rattle.node_reports.specs.declared.step.Step.TheVariants.{Took, Made, Restarted, Heard}
 use Rattle.node_reports.specs.Journals.{made, received, IsLawful}
 use Rattle.node_reports.specs.Stations.{StationValue, PendingValue}
 use Rattle.node_reports.specs.Reports.{entries_of}
 use Rattle.audit.specs.Lines.{zeros}
-use Rattle.audit.specs.Reasons.{present_of}
+use Rattle.audit.specs.Reasons.{present_of, restarts_of, rose_to}
 use Rattle.audit.specs.Steps.Following.{IsFollowed}
 use Rattle.audit.specs.declared.follower.Follower.{Follower}
+use Rattle.audit.specs.declared.rise.Rise.{Rise}
 use Rattle.audit.specs.declared.standing.Standing.{Standing}
 use Rattle.audit.specs.declared.standing.Standing.TheVariants.{Going, Ended}
 
--- a plant, its book, and the incarnation to which each resource has come
+-- a plant, its book, the incarnation to which each resource has come, and each START and RESTART that was done
 pub record AuditedBook : Type 0 where
   pub plant : PlantValue
   pub book : BookValue
   pub present : List ℕ
+  pub rises : List Rise
+
+-- a START or RESTART in this incarnation of a resource was done
+abbrev pub has_risen : List Rise → ℕ → ℕ → Bool
+has_risen rises n i = list_any (λ (r : Rise). r.resource == n && r.incarnation == i) rises
+
+-- one more was done
+abbrev pub raised : AuditedBook → ℕ → ℕ → AuditedBook
+raised b n i =
+    record b { present = slice_set b.present n i; rises = b.rises ++ record { resource = n; incarnation = i } ∷ [] }
+
+-- where a step hears of an incarnation, a START or RESTART in it was done
+abbrev pub HearsRisen : List Rise → Step → Type 0
+HearsRisen rises (Took x) = Unit {0}
+HearsRisen rises (Made x) = Unit {0}
+HearsRisen rises (Restarted ticket incarnation) = Unit {0}
+HearsRisen rises (Heard of incarnation) = has_risen rises of incarnation ≡ true
 
 -- the book before the first entry
 abbrev pub empty_book : PlantValue → AuditedBook
-empty_book plant = record { plant = plant; book = record { first = zeros plant; entries = [] }; present = zeros plant }
+empty_book plant = record { plant = plant; book = record { first = zeros plant; entries = [] }; present = zeros plant; rises = [] }
 
--- the journal of a resource that began in 0: what it made are the book's entries of it, what it received are entries, and
--- its present incarnation is noted
+-- the journal of a resource that began in 0: what it made are the book's entries of it, what it received are entries, its
+-- incarnations are noted, and it heard of those of others that are
 pub record IsJournalOf (b : AuditedBook) (j : Journal) : Type 0 where
   pub first_is : j.first ≡ 0
   pub exists : j.resource < length b.present
   pub present_is : slice_index b.present j.resource ≡ present_of j
+  pub rose : (i : ℕ) → has_risen b.rises j.resource i ≡ rose_to (restarts_of j) i
   pub made_is : made j.steps ≡ entries_of j.resource b.book.entries
   pub delivered : All (Contains b.book.entries) (received j.steps)
+  pub hearings : All (HearsRisen b.rises) j.steps
 
 -- a resource of the plant that goes on
 pub record IsGoing (b : AuditedBook) (s : StationValue) : Type 0 where
@@ -73,6 +96,8 @@ pub record Grows (resource : ℕ) (old new : AuditedBook) : Type 0 where
   pub others : (r : ℕ) → r ≢ resource → entries_of r new.book.entries ≡ entries_of r old.book.entries
   pub long : length new.present ≡ length old.present
   pub still : (r : ℕ) → r ≢ resource → slice_index new.present r ≡ slice_index old.present r
+  pub rises_more : (r i : ℕ) → has_risen old.rises r i ≡ true → has_risen new.rises r i ≡ true
+  pub rises_still : (r i : ℕ) → r ≢ resource → has_risen new.rises r i ≡ has_risen old.rises r i
 
 -- a book of the same plant, in which the resources begin in the same incarnations
 pub record IsOfSame (old new : AuditedBook) : Type 0 where

@@ -1,5 +1,6 @@
+use Rattle.std.proofs.Common.{◌∙◌, sym}
 use Rattle.audit.proofs.GoingOn.{heard_going}
 use Rattle.audit.proofs.answering.hear.Goals as goal
 
 pub returns-clause-going : goal.returns-clause-going
-returns-clause-going c = heard_going c.args.book.now c.args.station.now c.hear.new.self c.args.of c.args.incarnation c.in_ok-hear.field-0 c.in_ok-hear.ensures.ok c.requires
+returns-clause-going c = heard_going c.args.book.now c.args.station.now c.hear.new.self c.args.of c.args.incarnation c.in_ok-hear.field-0 (sym c.has_risen.ensures ∙ c.if-not-has_risen.false) c.in_ok-hear.ensures.ok c.requires

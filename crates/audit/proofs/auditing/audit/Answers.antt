@@ -5,7 +5,7 @@ use Rattle.book.specs.Book.{BookValue}
 use Rattle.node_reports.specs.declared.journal.Journal.{Journal}
 use Rattle.node_reports.specs.Journals.{firsts_of, IsLawful}
 use Rattle.node_reports.specs.Reports.{RunsAgain, IsAgreeFault}
-use Rattle.audit.specs.Delivered.{AreDelivered}
+use Rattle.audit.specs.Delivered.{AreDelivered, AreHeardTruly}
 use Rattle.audit.specs.Steps.Standings.{AuditedBook, empty_book, AreFrom}
 use Rattle.audit.specs.Readings.{AreReadings}
 use Rattle.audit.specs.declared.line.Place.{Place}
@@ -42,6 +42,14 @@ returns-clause-delivered c =
     c.in_ok-followers-2.ensures.plant c.in_ok-followers.ensures.many c.in_ok-followers-2.ensures.many c.in_ok-journals.ensures.many c.in_ok-followers-2.ensures.stand c.in_ok-journals.ensures.journals in
     subst (λ (k : BookValue). AreDelivered k.entries c.in-Ok.field-0.journals) (sym (kept.0 ∙ c.into_book.ensures.same))
     (subst (λ (js : List Journal). AreDelivered c.go_on.new.book.book.entries js) (sym kept.1) all.delivered)
+
+pub returns-clause-heard : goal.returns-clause-heard
+returns-clause-heard c =
+    let journals = c.in_ok-journals.journals.items in
+    let begins : c.in_ok-book.book ≡ empty_book c.args.plant.value = c.in_ok-book.ensures ∙ ap (λ (p : PlantValue). empty_book p) c.in_ok-try_clone.ensures in
+    let all = audited_agree c.args.plant.value c.in_ok-book.book c.go_on.new.book c.in_ok-followers.followers.items c.in_ok-followers-2.followers.items journals begins
+    c.in_ok-followers-2.ensures.plant c.in_ok-followers.ensures.many c.in_ok-followers-2.ensures.many c.in_ok-journals.ensures.many c.in_ok-followers-2.ensures.stand c.in_ok-journals.ensures.journals in
+    subst (λ (js : List Journal). AreHeardTruly js) (sym c.in-Ok.ensures.kept.1) all.heard
 
 pub unreachable-requires : goal.unreachable-requires
 unreachable-requires c =

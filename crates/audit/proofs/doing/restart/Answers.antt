@@ -4,7 +4,7 @@ use Rattle.audit.proofs.Leavings.{left_restarted}
 use Rattle.audit.proofs.doing.restart.Goals as goal
 
 pub returns-in-Ok-clause-goes : goal.returns-in-Ok-clause-goes
-returns-in-Ok-clause-goes c = restarted_goes c.args.book.now c.raise.new.self c.args.station c.in-Ok.station _ c.args.incarnation c.resource-resource.result c.raise.ensures c.resource-resource.ensures c.in-Ok.ensures.ok c.requires.going
+returns-in-Ok-clause-goes c = restarted_goes c.args.book.now c.raise.new.self c.args.station c.in-Ok.station _ c.args.incarnation c.resource-resource.result c.in_ok-raise.ensures c.resource-resource.ensures c.in-Ok.ensures.ok c.requires.going
 
 pub returns-in-Ok-clause-risen : goal.returns-in-Ok-clause-risen
 returns-in-Ok-clause-risen c = (c.in-Ok.station, refl, (search rules, c.in-Ok.ensures.ok))
