@@ -1,10 +1,11 @@
 -- What is shown of all resources, and what can't be.
-use Rattle.std.proofs.Common.{arith, ◌≡◌, ℕ, zero, suc, ◌+◌, ◌++◌, List, [], ◌∷◌, Option, Some, None, length, map, slice_get, slice_index, ◌<◌, ◌≤◌, false, inl, inr, IfSome, refl, ap, sym, ◌∙◌, subst, zero-add, add-one, option_map, append-nil}
+use Rattle.std.proofs.Common.{arith, ◌≡◌, ℕ, zero, suc, ◌+◌, ◌++◌, List, [], ◌∷◌, Option, Some, None, length, map, slice_get, slice_index, ◌<◌, ◌≤◌, ◌↔◌, Bool, false, IsTrue, inl, inr, IfSome, refl, ap, sym, ◌∙◌, subst, zero-add, add-one, option_map, append-nil}
 use Rattle.std.proofs.lemmas.List.{length-map}
 use Rattle.std.specs.Global.{Vec}
 use Rattle.std.proofs.lemmas.Option.{slice_get-map}
 use Rattle.lists.proofs.Mapped.{map-map}
 use Rattle.plant.specs.PlantValue.{PlantValue}
+use Rattle.evaluation.specs.declared.name.Name.{Name}
 use Rattle.book.specs.Book.{BookValue}
 use Rattle.node_reports.specs.Stations.{StationValue}
 use Rattle.audit.specs.declared.item.Item.{Item}
@@ -19,7 +20,7 @@ use Rattle.audit.specs.declared.reason.Reason.TheVariants as reason
 use Rattle.audit.specs.declared.reason.Unshown.{Unshown}
 use Rattle.audit.specs.declared.standing.Standing.{Standing}
 use Rattle.audit.specs.declared.standing.Standing.TheVariants.{Going, Ended}
-use Rattle.audit.specs.Reasons.{Course, present_of, IsGone, IsOver, MayBeIn, WasNotIn, Needs, maker_in, incarnation_of, IsReason}
+use Rattle.audit.specs.Reasons.{Course, present_of, was_in, IsGone, IsOver, MayBeIn, WasNotIn, Needs, maker_in, incarnation_of, IsReason}
 use Rattle.audit.specs.Told.{IsTold, IsShown, AreShown, AreToldBy, if_none, without_lines, all_without}
 use Rattle.audit.specs.Steps.Standings.{AuditedBook, has_risen, journal_in, AreFrom}
 use Rattle.audit.specs.Steps.Following.{IsLed, WouldNeed, IsStop, IsTried, IsFollowed}
@@ -42,17 +43,27 @@ not_in b fs n i stand unrisen = by (slice_get fs n) refl
     by None at = subst (λ (c : Option Course). WasNotIn c i) (sym (course_at fs n None at)) tt
     by (Some f) at = subst (λ (c : Option Course). WasNotIn c i) (sym (course_at fs n (Some f) at)) (sym (rose_at b fs n i f stand at) ∙ unrisen)
 
--- what a line needs is missing: there is no maker, or it has no line left, or it has come to a greater incarnation
-pub missing_none : (need : Need) → (IsGone None need → ⊥) × (MayBeIn None (incarnation_of need) → ⊥)
-missing_none (Evaluation name) = (λ h. h, λ h. h)
-missing_none (Incarnation n i) = (λ h. h, λ h. h)
+-- what a line needs is missing: there is no maker
+pub missing_none : (need : Need) → IsReasonFor None need (reason.Missing need)
+missing_none (Evaluation name) = (refl, (λ gone. gone), λ may. may)
+missing_none (Incarnation n i) = (refl, (λ gone. gone), λ may. may)
 
-pub missing_closed : (c : Course) (need : Need) (present : ℕ) → present ≡ present_of c.journal → present ≤ incarnation_of need → (c.shown < length c.lines → ⊥) → (IsGone (Some c) need → ⊥) × (MayBeIn (Some c) (incarnation_of need) → ⊥)
-missing_closed c (Evaluation name) present is below closed = (λ gone. absurd (omega (arith, gone.1, is, below)), λ may. closed may.1)
-missing_closed c (Incarnation n i) present is below closed = (λ gone. gone, λ may. closed may.1)
+-- or it has no line left
+pub missing_closed : (c : Course) (need : Need) (present at : ℕ) (open : Bool) → present ≡ present_of c.journal → at ≡ incarnation_of need → present ≤ at → IsTrue open ↔ (c.shown < length c.lines) → open ≡ false → IsReasonFor (Some c) need (reason.Missing need)
+missing_closed c (Evaluation name) present at open is at_is below left none = (refl, (λ gone. absurd (omega (arith, gone.1, is, at_is, below))), λ may. let some = left.1 may.1 in absurd cc)
+missing_closed c (Incarnation n i) present at open is at_is below left none = (refl, (λ gone. gone), λ may. let some = left.1 may.1 in absurd cc)
 
-pub missing_past : (c : Course) (n i present : ℕ) → present ≡ present_of c.journal → i < present → (IsGone (Some c) (Incarnation n i) → ⊥) × (MayBeIn (Some c) i → ⊥)
-missing_past c n i present is past = (λ gone. gone, λ may. absurd (omega (arith, may.0, is, past)))
+-- or it has come to a greater incarnation, and wasn't in that one
+pub missing_past : (c : Course) (need : Need) (n i present at : ℕ) → need ≡ Incarnation n i → present ≡ present_of c.journal → at ≡ incarnation_of need → at < present → IsReasonFor (Some c) need (reason.Missing need)
+missing_past c (Evaluation name) n i present at one is at_is past = absurd cc
+missing_past c (Incarnation m k) n i present at one is at_is past = (refl, (λ gone. gone), λ may. absurd (omega (arith, may.0, is, at_is, past)))
+
+pub missing_unmade : (c : Course) (need : Need) (name : Name) (present at : ℕ) → need ≡ Evaluation name → present ≡ present_of c.journal → at ≡ incarnation_of need → at < present → was_in c name.incarnation ≡ false → IsReasonFor (Some c) need (reason.Missing need)
+missing_unmade c (Evaluation other) name present at one is at_is past never =
+    let same : other ≡ name = let e = one in cc in
+    let none : was_in c other.incarnation ≡ false = ap (λ (m : Name). was_in c m.incarnation) same ∙ never in
+    (refl, (λ gone. let been = gone.0 in absurd cc), λ may. absurd (omega (arith, may.0, is, at_is, past)))
+missing_unmade c (Incarnation n i) name present at one is at_is past never = absurd cc
 
 -- a need that isn't met
 needs_so : (b : AuditedBook) (fs : List Follower) (s : StationValue) (item : Item) (need : Need) → AreFrom b 0 fs → WouldNeed s item need → IsUnmet b need → Needs b.book (courses_of fs) s item need

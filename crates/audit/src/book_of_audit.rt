@@ -70,16 +70,17 @@ impl BookOfAudit {
     pub(crate) fn has_risen(&self, resource: usize, incarnation: u32) -> bool
         ensures { result ≡ has_risen self.now.rises resource incarnation }
     {
-        self.rises
-            .iter()
-            .any(|rise| rise.resource == resource && rise.incarnation == incarnation)
+        self.rises.iter().any(|rise| rise.resource == resource && rise.incarnation == incarnation)
     }
 
     /// Notes that a resource has come to a greater incarnation.
     pub(crate) fn raise(&mut self, resource: usize, incarnation: u32) -> Result<(), AllocError>
         ensures { OnOk result (self.new ≡ raised self.old resource incarnation) }
     {
-        self.rises.push(Rise { resource, incarnation })?;
+        self.rises.push(Rise {
+            resource,
+            incarnation,
+        })?;
         if resource < self.present.len() {
             self.present[resource] = incarnation;
         }

@@ -18,7 +18,7 @@ use std::alloc::{AllocError, Global};
 
 /// Why a line can't be done that needs what isn't there, by what is shown of the resource of which it needs it; `present` is the
 /// incarnation to which that one has come.
-#[tactic(auto, using(crate::proofs::Tellings::missing_none, crate::proofs::Tellings::missing_closed, crate::proofs::Tellings::missing_past))]
+#[tactic(auto, using(crate::proofs::Tellings::missing_none, crate::proofs::Tellings::missing_closed, crate::proofs::Tellings::missing_past, crate::proofs::Tellings::missing_unmade))]
 fn reason_of(maker: Option<&Follower>, present: u32, need: Need) -> Reason
     requires { IfSome (option_copied maker) (λ (f : FollowerValue). present ≡ present_of (journal_in f.standing)) }
     ensures { IsReasonFor (option_map course_of (option_copied maker.entry)) need result }
