@@ -49,7 +49,7 @@ missing_none (Evaluation name) = (refl, (λ gone. gone), λ may. may)
 missing_none (Incarnation n i) = (refl, (λ gone. gone), λ may. may)
 
 -- or it has no line left
-pub missing_closed : (c : Course) (need : Need) (present at : ℕ) (left : Bool) → present ≡ present_of c.journal → at ≡ incarnation_of need → present ≤ at → IsTrue left ↔ (c.shown < length c.lines) → left ≡ false → IsReasonFor (Some c) need (reason.Missing need)
+pub missing_closed : (c : Course) (need : Need) (present at : ℕ) (left : Bool) → present ≡ present_of c.journal → at ≡ incarnation_of need → present ≤ at → (IsTrue left ↔ (c.shown < length c.lines)) → left ≡ false → IsReasonFor (Some c) need (reason.Missing need)
 missing_closed c (Evaluation name) present at left is at_is below some_left none = (refl, (λ gone. absurd (omega (arith, gone.1, is, at_is, below))), λ may. let some = some_left.1 may.1 in absurd cc)
 missing_closed c (Incarnation n i) present at left is at_is below some_left none = (refl, (λ gone. gone), λ may. let some = some_left.1 may.1 in absurd cc)
 
