@@ -4,8 +4,8 @@ use Rattle.std.specs.Io.KnownBytes.{Consumes, IsAtEnd}
 use Rattle.text_lines.specs.Lines.{HasNoFeed, TakesSome}
 use Rattle.text_lines.specs.declared.read_fault.ReadFault.{ReadFault}
 use Rattle.text_lines.specs.declared.read_fault.ReadFault.TheVariants as reading
-use Rattle.node_loop.specs.declared.taken_line.TakenLine.{TakenLine}
-use Rattle.node_loop.specs.declared.taken_line.TakenLine.TheVariants.{Line, TooLong, End}
+use Rattle.live_node.specs.declared.live_lines.TakenLine.{TakenLine}
+use Rattle.live_node.specs.declared.live_lines.TakenLine.TheVariants.{Line, TooLong, End}
 
 -- this was taken up to the end of a line: its line feed, or the end of all
 abbrev pub TakesToEnd : Option (List ℕ) → Option (List ℕ) → List ℕ → Bool → Type 0
@@ -21,25 +21,6 @@ abbrev pub Takes : Option (List ℕ) → Option (List ℕ) → List ℕ → Take
 Takes old new line (Line fed) = (length line ≤ 16777216) × TakesLine old new line fed
 Takes old new line (TooLong fed) = (long : List ℕ) × (16777216 < length long) × TakesLine old new long fed
 Takes old new line End = Consumes old new [] × IsAtEnd new
-
--- what was taken of a line behind its beginning: the whole is held, or is too long
-abbrev pub TakesRest : Option (List ℕ) → Option (List ℕ) → List ℕ → List ℕ → TakenLine → Type 0
-TakesRest old new begun line (Line fed) =
-    (rest : List ℕ) × (line ≡ begun ++ rest) × (length line ≤ 16777216) × HasNoFeed rest × TakesToEnd old new rest fed
-TakesRest old new begun line (TooLong fed) =
-    (rest : List ℕ) × (16777216 < length (begun ++ rest)) × HasNoFeed rest × TakesToEnd old new rest fed
-TakesRest old new begun line End = ⊥
-
--- a line of which this was taken
-abbrev pub IsTaken : Bool → Bool → TakenLine → Type 0
-IsTaken too_long fed (Line f) = (too_long ≡ false) × (f ≡ fed)
-IsTaken too_long fed (TooLong f) = (too_long ≡ true) × (f ≡ fed)
-IsTaken too_long fed End = ⊥
-
--- a piece was put behind a line; or the line is too long with it, or was before
-abbrev pub HasPut : List ℕ → List ℕ → List ℕ → Bool → Bool → Type 0
-HasPut old new piece before true = (new ≡ old) × (before ≡ false → 16777216 < length (old ++ piece))
-HasPut old new piece before false = (new ≡ old ++ piece) × (before ≡ false) × (length new ≤ 16777216)
 
 -- a line of at least so many bytes was taken, with its line feed
 abbrev pub TakesLong : ℕ → Option (List ℕ) → Option (List ℕ) → Type 0
