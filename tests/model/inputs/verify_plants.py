@@ -233,11 +233,17 @@ def options(chance, plant):
     return [
         *(["--no-restarts"] if chance.random() < 0.4 else []),
         *(["--dt", str(chance.choice([1, 5, 10, 20]))] if chance.random() < 0.15 else []),
-        *(["--given", chance.choice(plant.bits())] if isinstance(plant, SmallPlant) and chance.random() < 0.4 else []),
-        *(["--most-waiting", "12"] if chance.random() < 0.2 else []),
+        *(word for it in givens(chance, plant) for word in ("--given", it)),
         *([f"%IX{chance.randint(0, 1)}={chance.randint(0, 1)}"] if chance.random() < 0.2 else []),
         *([chance.choice(["%IW0=1", "%IW0=-2", "%IW0=0..2", "%IW0=2..3", "%iw0=-1..0"])] if chance.random() < 0.3 else []),
     ]
+
+
+def givens(chance, plant):
+    if isinstance(plant, Zone):
+        return [chance.choice(["R1.A.ASK", "R1.A.INSIDE", "R2.O.PERMIT"])] if chance.random() < 0.1 else []
+    bits = plant.bits()
+    return chance.sample(bits, min(len(bits), chance.choice([0, 0, 0, 1, 1, 2])))
 
 
 REFUSED = [
@@ -262,13 +268,28 @@ REFUSED = [
 
 
 def decided(text, given):
-    """Whether the model tells a verdict on each claim that depends on no limit."""
+    """The searches by which the model tells a verdict on each claim that depends on no limit; None where one depends on it."""
     with tempfile.TemporaryDirectory() as folder:
         with open(os.path.join(folder, "it.plant"), "w", encoding="utf-8", newline="") as file:
             file.write(text)
         question, claims = asked(given, folder)
     searches = [verify_plant.Search(question, it, MOST_STATES).search() for it in claims]
-    return all((it.steps or it.is_whole) and not it.loose_steps for it in searches) and any(len(it.met) > 4 for it in searches)
+    is_any = all((it.steps or it.is_whole) and not it.loose_steps for it in searches)
+    return searches if is_any and any(len(it.met) > 4 or it.never_given() for it in searches) else None
+
+
+def enough_waiting(searches):
+    """So many images may wait that no order is forgotten: one more than wait in these searches (where nothing is held yet, an image
+    may wait that has the first values), and one more where these ended before all states."""
+    rows = [channel.row for it in searches for point in it.met for channel in point.channels]
+    return max(map(len, rows), default=1) + any(it.steps for it in searches)
+
+
+def most_waiting(chance, searches):
+    """Now and then how many images may wait: many, just enough, or fewer."""
+    enough = enough_waiting(searches)
+    choice = chance.choice([None, None, 12, enough, enough, enough - 1, enough - 2, 0])
+    return [] if choice is None else ["--most-waiting", str(max(0, choice))]
 
 
 def asked(given, folder):
@@ -283,8 +304,10 @@ def plant_claims(chance):
         plant = Zone(chance) if chance.random() < 0.5 else SmallPlant(chance)
         text = plant.text()
         given = ["verify", "it.plant", *(word for it in plant.claims() for word in ("--never", it)), *options(chance, plant)]
-        if is_read(text) and decided(text, given):
+        searches = decided(text, given) if is_read(text) else None
+        if searches:
             break
+    given += most_waiting(chance, searches)
     if chance.random() < 0.06:
         given += chance.choice(REFUSED)
     return {"it.plant": text}, [given]
@@ -355,11 +378,13 @@ def broken_by(chance, question, claim, runs=4, count=60):
 
 def judged(given, folder, written, who):
     """The lines that tell of claims, without counts of states and steps. Behind FAILS stands how many evaluations and restarts the
-    schedule has, or why it isn't one that was asked for; behind HOLDS, if a run by chance breaks it, its events."""
+    schedule has, or why it isn't one that was asked for; behind HOLDS, if a run by chance breaks it, its events. Where an order may
+    have been forgotten, the right verdict and UNDECIDED are one."""
     lines = written.splitlines()
     if not lines:
         return written
     question, claims = asked(given, folder)
+    searches = forgetful(question, claims, given)
     told, ahead = [], list(claims)
     while lines:
         line = lines.pop(0)
@@ -372,8 +397,24 @@ def judged(given, folder, written, who):
             line = re.sub(r": \d+ states?, \d+ steps?$", "", line) + broken(question, ahead.pop(0), written, who)
         elif line.startswith("UNDECIDED"):
             ahead.pop(0)
+        if searches and not line.startswith("given"):
+            line = either(searches.pop(0), line)
         told.append(line)
     return "".join(f"{it}\n" for it in told)
+
+
+def forgetful(question, claims, given):
+    """The searches in which no order is forgotten, where as few images may wait that one may have been."""
+    few = read_words(SHAPES["verify"], given[1:])[1].get("--most-waiting")
+    searches = [] if few is None else [verify_plant.Search(question, it, MOST_STATES).search() for it in claims]
+    return searches if searches and few < enough_waiting(searches) else []
+
+
+def either(search, line):
+    """The verdict of a search in which no order is forgotten, where a line tells this, or that an order was."""
+    verdict = "FAILS" if search.steps else "HOLDS"
+    is_right = line.startswith(verdict) and ", but " not in line
+    return f"{verdict} or UNDECIDED" if is_right or line.endswith("a larger --most-waiting may decide") else line
 
 
 def judged_schedule(question, claim, line, schedule):
