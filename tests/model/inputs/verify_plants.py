@@ -3,7 +3,9 @@ import os
 import random
 import re
 import tempfile
+from collections import deque
 from dataclasses import dataclass, field
+from itertools import islice, product
 
 from rules import verify_plant
 from rules.commands import SHAPES, Files, Refused, question_of, read_words
@@ -17,6 +19,8 @@ from .plants import INTERVALS, PlantMaker, Variables
 
 # A plant with more states is drawn anew.
 MOST_STATES = 500
+# So many runs are tried that are to break a claim with fewer evaluations and restarts.
+MOST_RUNS = 400
 
 
 @dataclass
@@ -392,7 +396,9 @@ def judged(given, folder, written, who):
             schedule = []
             while lines and not lines[0].startswith(("FAILS", "HOLDS", "UNDECIDED", "given")):
                 schedule.append(lines.pop(0))
-            line = judged_schedule(question, ahead.pop(0), line, schedule)
+            claim = ahead.pop(0)
+            line = judged_schedule(question, claim, line, schedule)
+            line += cheaper(question, claim, schedule) if who == "program" and ", but " not in line else ""
         elif line.startswith("HOLDS"):
             line = re.sub(r": \d+ states?, \d+ steps?$", "", line) + broken(question, ahead.pop(0), written, who)
         elif line.startswith("UNDECIDED"):
@@ -431,6 +437,61 @@ def judged_schedule(question, claim, line, schedule):
     if not line.endswith(counted):
         return f"{line}, but the schedule has {len(events)}"
     return f"{line.removesuffix(counted)} after {verify_plant.cost_of(events)} evaluations and restarts"
+
+
+def cheaper(question, claim, schedule):
+    """The events of a run of the world with fewer evaluations and restarts, if there is one among the first that are tried."""
+    most = verify_plant.cost_of(events_of(schedule)) - 1
+    events = next((it for it in islice(runs_of(question, claim, most), MOST_RUNS) if verify_plant.does(question, claim, it)), None)
+    return ", but fewer do it: " + ", ".join(map(verify_plant.line_of, events)) if events else ""
+
+
+def runs_of(question, claim, most):
+    """Runs of so many evaluations and restarts at most, the shortest first: before each evaluation a message of each task from which it
+    takes is delivered, or none; of each restart all hear at once, or nobody does."""
+    tasks = verify_plant.sources_of([it.task for it in [*claim, *question.given]])
+    ahead = deque([([], 0)])
+    while ahead:
+        events, cost = ahead.popleft()
+        if cost == most:
+            continue
+        watched = verify_plant.Watched(question)
+        for event in events:
+            watched.happen(event)
+        for more in (*evaluations(question, tasks, watched.run.log), *restarts(question, tasks, watched.run.nodes)):
+            yield [*events, *more]
+            if keeps(question, [*events, *more]):
+                ahead.append(([*events, *more], cost + 1))
+
+
+def evaluations(question, tasks, log):
+    for task in tasks:
+        addresses = verify_plant.addresses_of(task)
+        others = [it for it in task.producers() if it.resource is not task.resource]
+        messages = [[None, *(made.message for made in log if made.task is it)] for it in others]
+        for chosen, values in product(product(*messages), product(*map(question.values_of, addresses))):
+            fields = Inputs(f"{space}{number}={int(value)}" for (space, number), value in zip(addresses, values))
+            delivered = [Deliver(it, task.resource.name) for it in chosen if it is not None]
+            yield [*delivered, Evaluate(task.resource.name, task.name, question.elapsed_of(task), fields)]
+
+
+def restarts(question, tasks, nodes):
+    resources = list(dict.fromkeys(it.resource for it in tasks))
+    for one in resources if question.has_restarts else []:
+        others = [it for it in resources if it is not one]
+        heard = [Hear(it.name, one.name, nodes[one.place].incarnation + 1) for it in others]
+        heard += [Hear(one.name, it.name, nodes[it.place].incarnation) for it in others]
+        yield [Restart(one.name)]
+        yield [Restart(one.name), *heard]
+
+
+def keeps(question, events):
+    """Whether each of these events may happen, and keeps to a question."""
+    try:
+        verify_plant.check(question, [], events)
+    except verify_plant.Unkept:
+        return False
+    return True
 
 
 def broken(question, claim, written, who):
