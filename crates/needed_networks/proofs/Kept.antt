@@ -1,6 +1,8 @@
 -- The networks that are kept, one after the other; and what two lists of elements tell that are the same item by item.
-use Rattle.std.proofs.Common.{◌≡◌, ℕ, zero, suc, ◌+◌, List, [], ◌∷◌, ◌++◌, Bool, true, false, Some, IsTrue, length, map, take, slice_get, get_or, map-append, append-nil, refl, sym, ap, ◌∙◌, subst, arith, none-some, same_Some}
+use Rattle.std.proofs.Common.{◌≡◌, ℕ, zero, suc, ◌+◌, List, [], ◌∷◌, ◌++◌, Bool, true, false, Some, IsTrue, length, map, take, slice_get, get_or, append-nil, refl, sym, ap, ◌∙◌, subst, arith}
 use Rattle.std.specs.Prelude.{if◌then◌else◌}
+use Rattle.std.proofs.lemmas.List.{map-append}
+use Rattle.std.proofs.lemmas.Option.{none-some, same_Some}
 use Rattle.lists.specs.Alike.{Tells}
 use Rattle.lists.proofs.Places.{same_by_each}
 use Rattle.drawings.specs.declared.place.Place.{Place}

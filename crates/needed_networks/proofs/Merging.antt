@@ -69,7 +69,7 @@ pub not_idle_from : (idle : List Bool) (k : ℕ) → get_or idle k false ≡ fal
 not_idle_from idle k off on = cc
 
 -- one store in both lists
-set_agreed : (idle : List Bool) (xs ys : List Slot) (place : ℕ) (x : Slot) → AreAgreed idle xs ys → AreAgreed idle (set xs place x) (set ys place x)
+pub set_agreed : (idle : List Bool) (xs ys : List Slot) (place : ℕ) (x : Slot) → AreAgreed idle xs ys → AreAgreed idle (set xs place x) (set ys place x)
 set_agreed idle xs ys place x agreed = record {
   long = length-set ys place x ∙ agreed.long ∙ sym (length-set xs place x);
   same = λ k matters. elim (cases_eq k place) [

@@ -36,23 +36,17 @@ fn pin_is_idle(declarations: &Declarations, idle: &[bool], pin: &DrawnPin) -> bo
 fn box_matters(declarations: &Declarations, idle: &[bool], drawn: &DrawnBox) -> bool
     ensures { IsTrue result ↔ BoxMatters declarations.now idle.now drawn.now }
 {
+    let pins = drawn.pins.as_slice();
     matters(idle, place_of(declarations, &drawn.instance))
-        && drawn
-            .pins
-            .as_slice()
-            .iter()
-            .all(|pin| pin_matters(declarations, idle, pin))
+        && pins.iter().all(|pin| pin_matters(declarations, idle, pin))
 }
 
 fn box_is_idle(declarations: &Declarations, idle: &[bool], drawn: &DrawnBox) -> bool
     ensures { IsTrue result ↔ BoxIsIdle declarations.now idle.now drawn.now }
 {
+    let pins = drawn.pins.as_slice();
     is_idle(idle, place_of(declarations, &drawn.instance))
-        && drawn
-            .pins
-            .as_slice()
-            .iter()
-            .all(|pin| pin_is_idle(declarations, idle, pin))
+        && pins.iter().all(|pin| pin_is_idle(declarations, idle, pin))
 }
 
 /// Whether all that an element reads and changes matters.

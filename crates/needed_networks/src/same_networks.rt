@@ -1,6 +1,6 @@
 //! Whether the networks of a graph are those of a ladder that aren't left out.
 
-ghost use Rattle.std.specs.Prelude.{◌≡◌, IsTrue, map};
+ghost use Rattle.std.specs.Prelude.{◌≡◌, ◌↔◌, IsTrue, map};
 ghost use Rattle.network.specs.Links.{Diagram};
 ghost use Rattle.needed_networks.specs.Slices.{kept_networks};
 
@@ -85,7 +85,7 @@ fn has_elements(network: &Network, elements: &[Element]) -> bool
 
 /// Whether the rails stand at the same places.
 pub(crate) fn are_same_rails(rails: &[Place], others: &[Place]) -> bool
-    ensures { IsTrue result → rails.now ≡ others.now }
+    ensures { IsTrue result ↔ (rails.now ≡ others.now) }
 {
     rails == others
 }
