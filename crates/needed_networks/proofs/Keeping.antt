@@ -1,18 +1,13 @@
 -- A network that is kept, from other slots that agree where it matters.
-use Rattle.std.proofs.Common.{◌≡◌, ℕ, ◌⊎◌, inl, inr, List, [], ◌∷◌, Bool, true, false, Option, Some, None, Contains, length, map, slice_get, get_or, set, refl, sym, ap, ◌∙◌, subst}
-use Rattle.std.specs.List.{enumerate_from}
-use Rattle.drawings.specs.declared.drawn_box.DrawnBox.{DrawnBox}
-use Rattle.network.specs.declared.element.Element.{Element}
-use Rattle.network.specs.declared.element.Element.TheVariants.{Wire, Join, Upright, Contact, Coil, Box}
+use Rattle.std.proofs.Common.{◌≡◌, ℕ, inl, inr, List, [], ◌∷◌, Bool, length, slice_get, set, refl, sym, ◌∙◌, subst}
+use Rattle.network.specs.declared.element.Element.TheVariants.{Box}
 use Rattle.network.specs.Links.{Diagram}
 use Rattle.std_blocks.specs.declared.value.Value.{Value}
 use Rattle.declared_names.specs.declared.declarations.Declaration.{Declaration}
-use Rattle.declared_names.specs.Names.{place_of}
-use Rattle.scan_steps.specs.declared.slot.Instance.{Instance}
 use Rattle.scan_steps.specs.declared.slot.Slot.{Slot}
-use Rattle.scan_steps.specs.declared.slot.Slot.TheVariants.{Variable, Block}
-use Rattle.power_flow.specs.Meaning.{Moment, moment, AreLinks, BlocksStep, HasNoBlockAt, NetworkMeaning, next_memory, stored, stores, first_place}
-use Rattle.needed_networks.specs.Needs.{IsIdle, IsInside, Reads, Changes}
+use Rattle.scan_steps.specs.declared.slot.Slot.TheVariants.{Variable}
+use Rattle.power_flow.specs.Meaning.{Moment, moment, AreLinks, BlocksStep, NetworkMeaning, stored, stores, first_place}
+use Rattle.needed_networks.specs.Needs.{IsIdle, IsInside}
 use Rattle.needed_networks.specs.Slices.{AreAgreed}
 use Rattle.needed_networks.proofs.Values.{ReadsSame, StepsSame, reads_back, steps_back, memories_same, stores_same}
 use Rattle.needed_networks.proofs.Power.{power_from, inputs_from}

@@ -1,9 +1,9 @@
 -- A network that is left out changes nothing that matters.
-use Rattle.std.proofs.Common.{◌≡◌, ℕ, ◌+◌, ◌⊎◌, inl, inr, List, [], ◌∷◌, ◌++◌, Bool, Option, Some, None, Contains, MatchOption, length, slice_get, set, length-set, refl, sym, ap, ◌∙◌, subst}
+use Rattle.std.proofs.Common.{◌≡◌, ℕ, ◌+◌, inl, inr, List, [], ◌∷◌, Bool, Option, Some, None, Contains, MatchOption, length, slice_get, set, length-set, refl, sym, ap, ◌∙◌, subst}
 use Rattle.std.specs.List.{AllByRecursion, flat_map, enumerate_from}
 use Rattle.std.specs.Option.{option_map, option_map_or}
 use Rattle.lists.proofs.Each.{each-append}
-use Rattle.lists.proofs.Members.{cons_first, cons_later, any_at}
+use Rattle.lists.proofs.Members.{cons_first, cons_later}
 use Rattle.lists.proofs.Places.{slice_get-set_other}
 use Rattle.drawings.specs.declared.drawn_box.DrawnBox.{DrawnBox}
 use Rattle.drawings.specs.declared.drawn_box.DrawnPin.{DrawnPin}
@@ -18,10 +18,10 @@ use Rattle.std_blocks.specs.declared.value.Value.TheVariants.{Bool as BoolValue}
 use Rattle.declared_names.specs.declared.declarations.Declaration.{Declaration}
 use Rattle.declared_names.specs.Names.{place_of}
 use Rattle.scan_steps.specs.declared.slot.Slot.{Slot}
-use Rattle.scan_steps.specs.declared.slot.Slot.TheVariants.{Variable, Block}
+use Rattle.scan_steps.specs.declared.slot.Slot.TheVariants.{Variable}
 use Rattle.scan_steps.specs.Conducting.{bit_at}
 use Rattle.power_flow.specs.Values.{value_at}
-use Rattle.power_flow.specs.Meaning.{Moment, moment, NetworkMeaning, BlocksStep, HasNoBlockAt, side_stores, result_stores, coil_stores, coil_value, store, stored, stores}
+use Rattle.power_flow.specs.Meaning.{Moment, NetworkMeaning, side_stores, result_stores, coil_stores, coil_value, store, stored, stores}
 use Rattle.needed_networks.specs.Needs.{IsIdle, IsOutside, Changes, PinStores}
 use Rattle.needed_networks.specs.Slices.{AreAgreed}
 

@@ -1,11 +1,11 @@
 -- The slots of one list where they matter, and those of another where they don't.
-use Rattle.std.proofs.Common.{◌≡◌, ℕ, zero, suc, ◌+◌, ◌<◌, ◌≤◌, ◌⊎◌, inl, inr, List, [], ◌∷◌, Bool, true, false, Option, Some, None, IsTrue, length, map, slice_get, get_or, set, length-set, refl, sym, ap, ◌∙◌, subst, arith}
+use Rattle.std.proofs.Common.{◌≡◌, ℕ, zero, suc, ◌+◌, ◌⊎◌, inl, inr, List, [], ◌∷◌, Bool, true, false, Option, Some, None, length, map, slice_get, get_or, set, length-set, refl, sym, ap, ◌∙◌, subst, arith}
 use Rattle.std.specs.Prelude.{if◌then◌else◌}
 use Rattle.std.specs.List.{enumerate_from}
 use Rattle.std.specs.Option.{option_map}
 use Rattle.std.proofs.lemmas.Bool.{cases_eq, cases_lt}
 use Rattle.std.proofs.lemmas.Option.{slice_get-get_or, slice_get_past}
-use Rattle.lists.proofs.Places.{element_at, slice_get-set_same, slice_get-set_other, set_none}
+use Rattle.lists.proofs.Places.{element_at, slice_get-set_same, slice_get-set_other}
 use Rattle.scan_steps.specs.declared.slot.Slot.{Slot}
 use Rattle.needed_networks.specs.Needs.{IsIdle}
 use Rattle.needed_networks.specs.Slices.{AreAgreed}

@@ -1,5 +1,5 @@
 -- Power and the inputs of boxes, where the slots agree at what a network reads.
-use Rattle.std.proofs.Common.{◌≡◌, ℕ, ◌<◌, ◌↔◌, inl, inr, List, [], ◌∷◌, Bool, Option, Some, None, IsTrue, Contains, MatchOption, refl, sym, ap, ◌∙◌, subst}
+use Rattle.std.proofs.Common.{◌≡◌, ℕ, ◌↔◌, inl, inr, List, [], ◌∷◌, Bool, Option, Some, None, IsTrue, Contains, MatchOption, refl, sym, ap, ◌∙◌, subst}
 use Rattle.std.specs.Option.{option_and_then}
 use Rattle.drawings.specs.declared.place.Place.{Place}
 use Rattle.drawings.specs.declared.drawn_box.DrawnBox.{DrawnBox}
@@ -9,18 +9,15 @@ use Rattle.drawings.specs.declared.drawn_box.Side.TheVariants.{Left}
 use Rattle.network.specs.declared.element.Element.{Element}
 use Rattle.network.specs.declared.element.Element.TheVariants.{Wire, Join, Upright, Contact, Coil, Box}
 use Rattle.network.specs.Links.{Diagram}
-use Rattle.std_blocks.specs.declared.value.Value.{Value}
 use Rattle.std_blocks.specs.declared.block_type.BlockType.{BlockType}
 use Rattle.std_blocks.specs.declared.pins.PinsIn.{PinsIn}
-use Rattle.std_blocks.specs.declared.pin.Field.{Field}
-use Rattle.std_blocks.specs.declared.pin.Field.TheVariants.{Bit, Int, Time}
 use Rattle.std_blocks.specs.Blocks.{bit}
 use Rattle.declared_names.specs.declared.declarations.Declaration.{Declaration}
 use Rattle.scan_steps.specs.declared.slot.Slot.{Slot}
 use Rattle.scan_steps.specs.Values.{is_true, int_or_zero, time_or_zero}
-use Rattle.power_flow.specs.Power.{IsWalk, AllConduct, IsOn, SymbolEndsAt}
+use Rattle.power_flow.specs.Power.{IsWalk, AllConduct}
 use Rattle.power_flow.specs.Values.{value_at, value_of, text_value}
-use Rattle.power_flow.specs.Meaning.{Moment, moment, conducts, IsSource, IsOutputOn, HasPower, IsDrawn, IsInputBit, AreInputs, operand_value}
+use Rattle.power_flow.specs.Meaning.{moment, conducts, IsSource, IsOutputOn, HasPower, IsInputBit, AreInputs, operand_value}
 use Rattle.needed_networks.proofs.Values.{ReadsSame, StepsSame, reads_back, steps_back, value_same, text_same, operand_read, outputs_same, conducts_same}
 
 -- a walk stays one where its source is one

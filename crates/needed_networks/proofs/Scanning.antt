@@ -1,6 +1,5 @@
 -- A scan of the networks that are kept.
-use Rattle.std.proofs.Common.{◌≡◌, ℕ, zero, suc, ◌+◌, ◌-◌, ◌≤◌, List, [], ◌∷◌, ◌++◌, Bool, true, false, length, map, take, drop, min, length-take, length-drop, refl, sym, ap, ◌∙◌, subst, arith}
-use Rattle.std.specs.Prelude.{sum_by}
+use Rattle.std.proofs.Common.{◌≡◌, ℕ, suc, ◌+◌, List, [], ◌∷◌, ◌++◌, Bool, true, false, length, take, drop, length-take, length-drop, refl, sym, ap, ◌∙◌, subst, arith}
 use Rattle.std.specs.List.{enumerate_from}
 use Rattle.std.proofs.lemmas.List.{length-map}
 use Rattle.std.proofs.lemmas.List.Sums.{sum_by-cons}
@@ -11,7 +10,6 @@ use Rattle.declared_names.specs.declared.declarations.Declaration.{Declaration}
 use Rattle.scan_steps.specs.declared.slot.Slot.{Slot}
 use Rattle.power_flow.specs.Meaning.{Moment, moment, NetworkMeaning, next_memory}
 use Rattle.power_flow.specs.Scan.{ScanMeaning}
-use Rattle.needed_networks.specs.Needs.{IsClosed, IsInside}
 use Rattle.needed_networks.specs.Slices.{AreAgreed, Follows, SlicesFollow, kept_memories, kept_networks, memory_count}
 use Rattle.needed_networks.proofs.Keeping.{Keeps, keeps}
 use Rattle.needed_networks.proofs.Leaving.{leaves}

@@ -1,8 +1,8 @@
 -- What is the same of two lists of slots that agree where a network reads.
-use Rattle.std.proofs.Common.{◌≡◌, ℕ, ◌+◌, ◌⊎◌, inl, inr, List, [], ◌∷◌, ◌++◌, Bool, Option, Some, None, ℤ, IsTrue, Contains, MatchOption, length, slice_get, map, refl, sym, ap, ◌∙◌, subst}
-use Rattle.std.specs.Prelude.{Any, true}
+use Rattle.std.proofs.Common.{◌≡◌, ℕ, ◌+◌, List, [], ◌∷◌, ◌++◌, Bool, Option, Some, None, Contains, MatchOption, slice_get, map, refl, sym, ap, ◌∙◌, subst}
+use Rattle.std.specs.Prelude.{true}
 use Rattle.std.specs.List.{before_first, after_first, flat_map, enumerate_from}
-use Rattle.std.specs.Option.{option_and_then, option_map_or, option_map}
+use Rattle.std.specs.Option.{option_and_then, option_map_or}
 use Rattle.lists.proofs.Members.{cons_first, cons_later, contains_at}
 use Rattle.drawings.specs.declared.drawn_box.DrawnBox.{DrawnBox}
 use Rattle.drawings.specs.declared.drawn_box.DrawnPin.{DrawnPin}
@@ -12,8 +12,6 @@ use Rattle.drawings.specs.declared.drawn_box.Side.TheVariants.{Left, Right}
 use Rattle.network.specs.declared.element.Element.{Element}
 use Rattle.network.specs.declared.element.Element.TheVariants.{Wire, Join, Upright, Contact, Coil, Box}
 use Rattle.network.specs.Links.{Diagram}
-use Rattle.std_blocks.specs.declared.value.Value.{Value}
-use Rattle.std_blocks.specs.declared.value.Value.TheVariants.{Bool as BoolValue}
 use Rattle.declared_names.specs.declared.declarations.Declaration.{Declaration}
 use Rattle.declared_names.specs.Names.{place_of, is_dot}
 use Rattle.name_faults.specs.Literals.{literal_value}
@@ -21,8 +19,8 @@ use Rattle.scan_steps.specs.declared.slot.Slot.{Slot}
 use Rattle.scan_steps.specs.Values.{is_true}
 use Rattle.scan_steps.specs.Conducting.{bit_at, contact_conducts, contact_memory}
 use Rattle.power_flow.specs.Values.{value_at, value_of, value_or, text_value, slot_value}
-use Rattle.power_flow.specs.Meaning.{Moment, moment, conducts, element_conducts, next_memory, side_stores, result_stores, coil_stores, store, stores, coil_value}
-use Rattle.needed_networks.specs.Needs.{IsReadAt, PinReads, Reads}
+use Rattle.power_flow.specs.Meaning.{moment, conducts, element_conducts, next_memory, side_stores, result_stores, coil_stores, store, stores}
+use Rattle.needed_networks.specs.Needs.{IsReadAt, Reads}
 
 -- the slots agree at what the network reads
 pub record ReadsSame (ds : List Declaration) (d : Diagram) (xs ys : List Slot) : Type 0 where

@@ -1,7 +1,6 @@
 -- What a network reads and changes, and which networks can be left out.
 use Rattle.std.specs.Prelude.{◌≡◌, ◌⊎◌, ℕ, List, Bool, true, false, Some, IsTrue, Contains, Any, MatchOption, slice_get, slice_index_or}
 use Rattle.std.specs.List.{before_first}
-use Rattle.drawings.specs.declared.drawn_box.DrawnBox.{DrawnBox}
 use Rattle.drawings.specs.declared.drawn_box.DrawnPin.{DrawnPin}
 use Rattle.drawings.specs.declared.drawn_box.Side.TheVariants.{Left, Right}
 use Rattle.network.specs.declared.element.Element.{Element}
