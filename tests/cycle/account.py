@@ -13,7 +13,7 @@ sys.path.insert(0, os.path.join(HERE, "..", "model"))
 from rules.cycle import FIELD, NEIGHBOURS, FieldNode
 from rules.inputs import parts_of
 from rules.journals import Evaluate, evaluate_of, start_of
-from rules.node import Node, Refused, is_silent, refuse_too_long
+from rules.node import Node, Refused, Told, is_silent, refuse_too_long
 from rules.plant_text import find
 
 # In the place of a line: the end of what was written to the field, which is told once.
@@ -58,7 +58,7 @@ class Account:
         self.places = {(0, 0)}
 
     def steps_of(self, origin, lines):
-        """What each line asks for, or the answer that refuses it; without those that have none."""
+        """What each line asks for, or the answer that refuses it whatever the node is; without those that have none."""
         for line in lines:
             try:
                 step = self.model.end_field if line is ENDED else self.model.step_of(origin, line)
@@ -101,7 +101,7 @@ class Account:
         if word == "EVAL" and self.model.cycle:
             return self.evaluated()
         if word == "REFUSED":
-            self.places = {place for origin in self.steps for place in self.behind(origin, lambda step: step == closing)}
+            self.places = {place for origin in self.steps for place in self.behind(origin, lambda step: refusal_now(step) == closing)}
         else:
             origin = ORIGINS.get(word, NEIGHBOURS) if self.has_field else NEIGHBOURS
             step = self.next_of(origin)
@@ -147,6 +147,9 @@ class Account:
         self.left = [self.copied_left()]
         if self.at < len(self.noted) and was_killed:
             self.compare_rest(rest, self.last_noted())
+        elif rest.startswith("SEND") and was_killed:
+            # (a stray message, say, which is answered and not noted)
+            self.compare_rest(rest, self.next_told())
         elif rest.startswith(("SEND", "OVERRUN")) or (rest and not was_killed):
             raise Wrong(f"written, and not noted: {rest!r}")
         self.left.append(self.copied_left())
@@ -166,10 +169,15 @@ class Account:
             raise Wrong(f"noted, and given by no input: {self.noted[self.at]}")
         return step()
 
+    def next_told(self):
+        """What is to be written of the neighbours' next line."""
+        step = self.next_of(NEIGHBOURS)
+        return step() if step else []
+
     def compare_rest(self, rest, expected):
         whole = "".join(f"{line}\n" for line in expected)
         if not whole.startswith(rest):
-            raise Wrong(f"standard output ends with {rest!r}, and noted last is {self.noted[-1]}")
+            raise Wrong(f"standard output ends with {rest!r}, not with a beginning of {whole!r}; noted last is {self.noted[-1]}")
 
     def must_be_answered(self):
         """Each line that was given has its answer."""
@@ -179,6 +187,11 @@ class Account:
     def must_end_by(self, until):
         if self.model.cycle.latest > until:
             raise Wrong(f"an evaluation at {self.model.cycle.latest} ms, and the node ends at {until}")
+
+
+def refusal_now(step):
+    """The answer that refuses a line as the node is by now; else what it does."""
+    return "REFUSED TooHigh" if isinstance(step, Told) and step.is_too_high() else step
 
 
 def has_answer(line):

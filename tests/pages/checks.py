@@ -32,7 +32,7 @@ def hostile_texts():
     yield "one blank", " "
     yield "beyond ASCII", "Ä \u2028\u2029 \ufeff \ufffd \uffff \U0001f600 \U0010ffff e\u0301 \u202e \u0000\n"
     yield "words of the page itself", "{{text}} {{page.js}} </body></html> text plcPage\n"
-    yield "harm within an event", f"REFUSED 1 NoSuchTask\nUNSHOWN <script>{harm}</script>:3 Missing <b>R1</b> 1\nREPLAY equal\n"
+    yield "harm within an event", f"REFUSED 1 NoSuchTask\nUNSHOWN <script>{harm}</script>:3 Missing <b>R1</b> 1\nREPLAY of what is shown equal\n"
     yield "harm within a claim", f"FAILS <img src=x onerror={harm}> is on after 2 scans\nplc eval <script>{harm}</script> A=1\nA=1\n"
     yield "a name that isn't one's own", "__proto__=1 constructor=0\n__proto__=0 constructor=1\n"
     yield "tasks that aren't one's own", "EVAL 1 constructor.__proto__ 1.1 TAKES toString.valueOf=1.1 GIVES hasOwnProperty.x=1\nDELIVER 99999999999999999999 __proto__ taken\n"

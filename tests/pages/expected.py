@@ -157,7 +157,7 @@ class Told:
             if what == "RESTART" or words[2] != "1":
                 self.marks[number] = "restart"
             self.restarts.append(words[1])
-        elif what == "REPLAY" and words[1] == "differs":
+        elif what == "REPLAY" and words[-1] == "differs":
             self.marks[number] = "replay"
         elif what in MARKS:
             self.marks[number] = MARKS[what]

@@ -79,8 +79,8 @@ pub record HasTold (old new : NodeValue) (note : List ℕ) : Type 0 where
   pub told : (front : List ℕ) → note ≡ front ++ note_end → node_text front ≡ front
       → Tells old.core.plant old.core.resource front item
 
--- Where a node answers a line, it notes nothing, or what it does is told.
+-- Where a node answers a line, it notes nothing and is as it was, or what it does is told.
 abbrev pub AnswersAreTold : Raising → Type 0
 AnswersAreTold raising =
     (old new : NodeValue) (line note text : List ℕ) → Answers raising old new line note text
-    → (note ≡ []) ⊎ HasTold old new note
+    → ((note ≡ []) × (new ≡ old)) ⊎ HasTold old new note

@@ -12,7 +12,8 @@ pub fn one_reason()
     ensures { OneReason }
 {}
 
-/// What a node does at a line that it answers and notes is what a line of its journal tells.
+/// What a node does at a line that it answers and notes is what a line of its journal tells; at one that it doesn't note it
+/// does nothing.
 pub fn answers_are_told<K: Keeper>()
     ensures { AnswersAreTold (a_keeper_gives K.last K.raise_gives) }
 {}

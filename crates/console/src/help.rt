@@ -232,8 +232,9 @@ ends the node after MS ms.
 
 With --state DIR the resource counts its incarnations in DIR/NAME.inc, one more at each start and RESTART, and its task K
 keeps what stands in VAR RETAIN in DIR/NAME.K.ret; without it the incarnation is 1: for one life alone. With --journal FILE
-each line is noted at the end of FILE, which is new or a journal, and on the disk, before it is done; plc audit reads these
-files. A second node doesn't use the same DIR or FILE meanwhile.
+each EVAL, each RESTART, each MESSAGE that is taken and each HELLO that is new is noted at the end of FILE, which is new or a
+journal, and on the disk, before it is done; plc audit reads these files. A second node doesn't use the same DIR or FILE
+meanwhile.
 
 Example:
 
@@ -257,7 +258,8 @@ evaluation that made it, and has to be equal to what that gave.
 A line is written for each evaluation that is shown, in an order in which each one takes what was made before it; then
 UNSHOWN with FILE:LINE and the reason for each resource whose journal can't be followed further, and for each file without
 a START, and NOJOURNAL for each resource without a journal; at last whether a run of these evaluations in one thread makes
-the same ones again. plc explain tells more of each reason.
+the same ones again: REPLAY equal where all is shown, else REPLAY of what is shown equal. plc explain tells more of each
+reason.
 
 Example:
 

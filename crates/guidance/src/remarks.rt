@@ -162,7 +162,7 @@ const STATES: [Remark; 3] = [
     },
 ];
 
-const NODES: [Remark; 10] = [
+const NODES: [Remark; 11] = [
     Remark {
         kind: "Syntax",
         sentence: "It is no EVAL, MESSAGE, HELLO, RESTART or, with --field, INPUT with its words. A MESSAGE is read only as a node of the same plant writes it behind SEND.",
@@ -198,6 +198,10 @@ const NODES: [Remark; 10] = [
     Remark {
         kind: "NumbersSpent",
         sentence: "The task has made 4294967295 evaluations in this incarnation. RESTART begins anew.",
+    },
+    Remark {
+        kind: "TooHigh",
+        sentence: "The incarnation told is more than 1,000,000 above what was heard and is held of that resource. The line is forged, or the resource has risen so far, by a file of its folder of state or by as many restarts.",
     },
     Remark {
         kind: "Keeper",
@@ -236,6 +240,6 @@ const AUDITS: [Remark; 8] = [
     },
     Remark {
         kind: "Missing",
-        sentence: "What the line needs stands in no journal that was given: one was cut off or isn't given. It can't be shown, either way.",
+        sentence: "What the line needs stands in no journal that was given: one was cut off or isn't given, or the line is forged. It can't be shown, either way.",
     },
 ];

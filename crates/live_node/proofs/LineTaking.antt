@@ -10,7 +10,8 @@ use Rattle.text_lines.specs.declared.lines.Given.{Given}
 use Rattle.text_lines.specs.declared.lines.Given.TheVariants as gave
 use Rattle.live_node.specs.declared.live_lines.TakenLine.{TakenLine}
 use Rattle.live_node.specs.declared.live_lines.TakenLine.TheVariants.{Line, TooLong, End}
-use Rattle.live_node.specs.Steps.LineTaking.{TakesToEnd, TakesLine, Takes, TakesRest, TakesWithin, IsTaken, HasPut}
+use Rattle.live_node.specs.Steps.LineTaking.{TakesRest, IsTaken, HasPut}
+use Rattle.live_node.specs.TakenLines.{TakesToEnd, TakesLine, Takes, TakesWithin}
 
 -- no line feed is among the bytes of two texts
 pub plain_both : (a b : List ℕ) → HasNoFeed a → HasNoFeed b → HasNoFeed (a ++ b)

@@ -1,30 +1,42 @@
 -- One line of a source is answered.
-use Rattle.std.proofs.Common.{◌≡◌, Result, inl, inr, ℕ, ◌+◌, ◌≤◌, true, false, Bool, List, [], Option, Some, None, refl, ap, subst, arith}
+use Rattle.std.proofs.Common.{◌≡◌, inl, inr, ℕ, ◌+◌, ◌≤◌, true, false, Bool, List, [], Option, Some, None, refl, ap, subst, arith}
 use Rattle.std.specs.Io.KnownBytes.{Appends}
 use Rattle.std.proofs.KnownBytes.{Appends-nil, Keeps-refl}
-use Rattle.keepers.specs.declared.keeper_fault.KeeperFault.{KeeperFault}
-use Rattle.live_node.specs.declared.line_refusal.LineRefusal.{LineRefusal}
+use Rattle.evaluation.specs.Messages.{MessageValue}
+use Rattle.exchange_core.specs.declared.accepted.Accepted.{Accepted}
+use Rattle.exchange_core.specs.declared.accepted.Accepted.TheVariants.{Taken, Old, Unused, Stray}
 use Rattle.live_node.specs.declared.node_line.NodeLine.{NodeLine}
 use Rattle.live_node.specs.declared.node_line.NodeLine.TheVariants.{Idle, Evaluate, Take, Hello, Restart}
 use Rattle.live_node.specs.Answers.{refused_line}
 use Rattle.live_node.specs.declared.line_refusal.LineRefusal.TheVariants as refusal
 use Rattle.live_node.specs.NodeValue.{NodeValue}
 use Rattle.live_node.specs.declared.live_lines.TakenLine.TheVariants.{Line, TooLong, End}
-use Rattle.live_node.specs.Steps.LineTaking.{Takes}
-use Rattle.live_node.specs.NodeAnswers.{Raising, keeper_gives, a_keeper_gives, IsRestartRefusal, AnswersAsked, IsAnswered}
+use Rattle.live_node.specs.TakenLines.{Takes}
+use Rattle.live_node.specs.NodeAnswers.{Raising, AnswersAsked, DoesHello, DoesMessage, IsAnswered}
 use Rattle.live_node.specs.Steps.Answering.{AnswersTaken, HasAnsweredNext}
 
 same_lines : (old new : NodeValue) → new ≡ old → new.lines ≤ old.lines + 1
 same_lines old new e = let k : new.lines ≡ old.lines = ap (λ (s : NodeValue). s.lines) e in omega (arith, k)
+
+lines_message : (old new : NodeValue) (line : List ℕ) (m : MessageValue) (note : List ℕ) (answer : Accepted) → DoesMessage old new line m note answer → new.lines ≤ old.lines + 1
+lines_message old new line m note Taken h = omega (arith, h.0.counted.lines_are)
+lines_message old new line m note Old h = same_lines old new h.same
+lines_message old new line m note Unused h = same_lines old new h.same
+lines_message old new line m note Stray h = same_lines old new h.same
+
+lines_hello : (old new : NodeValue) (line : List ℕ) (of incarnation : ℕ) (note : List ℕ) (newer : Bool) → DoesHello old new line of incarnation note newer → new.lines ≤ old.lines + 1
+lines_hello old new line of incarnation note true h = omega (arith, h.0.counted.lines_are)
+lines_hello old new line of incarnation note false h = same_lines old new h.1
 
 lines_asked : (raising : Raising) (old new : NodeValue) (line : List ℕ) (asked : Option NodeLine) (note text : List ℕ) → AnswersAsked raising old new line asked note text → new.lines ≤ old.lines + 1
 lines_asked raising old new line None note text h = same_lines old new h.same
 lines_asked raising old new line (Some Idle) note text h = same_lines old new h.0
 lines_asked raising old new line (Some (Evaluate t dt inputs)) note text (inl h) = omega (arith, h.made.counted.lines_are)
 lines_asked raising old new line (Some (Evaluate t dt inputs)) note text (inr h) = same_lines old new h.2.same
-lines_asked raising old new line (Some (Take m)) note text h = omega (arith, h.taken.counted.lines_are)
-lines_asked raising old new line (Some (Hello of incarnation)) note text (inl h) = omega (arith, h.heard.counted.lines_are)
-lines_asked raising old new line (Some (Hello of incarnation)) note text (inr h) = same_lines old new h.1.same
+lines_asked raising old new line (Some (Take m)) note text (inl h) = lines_message old new line m note h.answer h.done
+lines_asked raising old new line (Some (Take m)) note text (inr h) = same_lines old new h.1.same
+lines_asked raising old new line (Some (Hello of incarnation)) note text (inl h) = lines_hello old new line of incarnation note h.newer h.done
+lines_asked raising old new line (Some (Hello of incarnation)) note text (inr h) = same_lines old new h.2.same
 lines_asked raising old new line (Some (Restart n)) note text (inl h) = omega (arith, h.risen.counted.lines_are)
 lines_asked raising old new line (Some (Restart n)) note text (inr h) = same_lines old new h.2.same
 
@@ -53,37 +65,6 @@ next_answered raising old new given left noted_old noted_new from to line text f
       noted = h.noted;
       written = subst (Appends from to) h.written w;
     })
-
--- what this keeper may answer, one may that was raised to the incarnation
-asked_by_one : {K : Type 0} (last : K → ℕ) (gives : K → Result ℕ KeeperFault → Type 0) (keeper : K) (old new : NodeValue) (line : List ℕ) (a : Option NodeLine) (note text : List ℕ) → last keeper ≡ old.core.incarnation
-    → AnswersAsked (keeper_gives gives keeper) old new line a note text → AnswersAsked (a_keeper_gives last gives) old new line a note text
-asked_by_one last gives keeper old new line None note text held h = h
-asked_by_one last gives keeper old new line (Some Idle) note text held h = h
-asked_by_one last gives keeper old new line (Some (Evaluate t dt inputs)) note text held h = h
-asked_by_one last gives keeper old new line (Some (Take m)) note text held h = h
-asked_by_one last gives keeper old new line (Some (Hello of incarnation)) note text held h = h
-asked_by_one last gives keeper old new line (Some (Restart n)) note text held (inl h) =
-    inl (record { incarnation = h.incarnation; here = h.here; given = (keeper, held, h.given); above = h.above; risen = h.risen; note_is = h.note_is; text_is = h.text_is })
-asked_by_one last gives keeper old new line (Some (Restart n)) note text held (inr (told, why, refused)) = inr (told, by told why, refused)
-  where
-    by : (r : LineRefusal) → IsRestartRefusal (keeper_gives gives keeper) old.core n r → IsRestartRefusal (a_keeper_gives last gives) old.core n r
-    by refusal.Syntax w = w
-    by refusal.TooLong w = w
-    by refusal.NoSuchResource w = w
-    by refusal.NotHere w = w
-    by refusal.NoSuchTask w = w
-    by refusal.NumbersSpent w = w
-    by refusal.Keeper w = (w.0, record { fault = w.1.fault; not_memory = w.1.not_memory; given = (keeper, held, w.1.given) })
-
-pub answered_by_one : {K : Type 0} (last : K → ℕ) (gives : K → Result ℕ KeeperFault → Type 0) (keeper : K) (old new : NodeValue) (line : List ℕ) (noted_old noted_new : Option (List ℕ)) (out_old out_new : List ℕ) → last keeper ≡ old.core.incarnation
-    → IsAnswered (keeper_gives gives keeper) old new line noted_old noted_new out_old out_new → IsAnswered (a_keeper_gives last gives) old new line noted_old noted_new out_old out_new
-answered_by_one last gives keeper old new line noted_old noted_new out_old out_new held h = record {
-  note = h.note;
-  text = h.text;
-  answers = record { asked = h.answers.asked; read = h.answers.read; answered = asked_by_one last gives keeper old new line h.answers.asked h.note h.text held h.answers.answered };
-  noted = h.noted;
-  written = h.written;
-}
 
 -- a line that is too long was taken, and its refusal handed on
 pub next_too_long : (raising : Raising) (s : NodeValue) (given left noted from to : Option (List ℕ)) (line text : List ℕ) (fed : Bool) → Takes given left line (TooLong fed) → text ≡ refused_line refusal.TooLong → Appends from to text

@@ -8,7 +8,6 @@ use Rattle.std_blocks.specs.declared.value.Value.{Value}
 use Rattle.task_codes.specs.declared.task_ref.TaskRef.{TaskRef}
 use Rattle.plant.specs.PlantValue.{PlantValue}
 use Rattle.evaluation.specs.declared.field_input.FieldInput.{FieldInput}
-use Rattle.evaluation.specs.Messages.{MessageValue}
 use Rattle.exchange_core.specs.MessageCoreValue.{MessageCoreValue}
 use Rattle.exchange_core.specs.Openings.{AreOpeningOf}
 use Rattle.keepers.specs.Keepers.{Telling, TellsNoMore}
@@ -22,7 +21,7 @@ use Rattle.text_lines.specs.declared.read_fault.ReadFault.{ReadFault}
 use Rattle.text_lines.specs.declared.read_fault.ReadFault.TheVariants as reading
 use Rattle.world.proofs.LinesRead.{fed}
 use Rattle.live_node.specs.declared.node_line.NodeLine.{NodeLine}
-use Rattle.live_node.specs.declared.node_line.NodeLine.TheVariants.{Evaluate, Take, Restart}
+use Rattle.live_node.specs.declared.node_line.NodeLine.TheVariants.{Evaluate, Restart}
 use Rattle.live_node.specs.Answers.{refused_line}
 use Rattle.live_node.specs.NodeJournal.{line_note, start_note, restart_note}
 use Rattle.live_node.specs.NodeLines.{Spells}
@@ -34,19 +33,16 @@ use Rattle.live_node.specs.declared.live_stop.LiveStop.{LiveStop}
 use Rattle.live_node.specs.declared.live_stop.LiveStop.TheVariants.{Node, Read, Write, Memory}
 use Rattle.live_node.specs.declared.node_stop.NodeStop.{NodeStop}
 use Rattle.live_node.specs.declared.node_stop.NodeStop.TheVariants as ends
-use Rattle.live_node.specs.NodeAnswers.{Raising, keeper_gives, a_keeper_gives, IsAnswered}
+use Rattle.live_node.specs.NodeAnswers.{Raising, IsAnswered}
 use Rattle.live_node.specs.Stops.{IsNotedAsked, NotesPart, NotesStart, NotesUnanswered, ReadsWhole, StopsBeginning, StopsWithin, StopsNode}
 use Rattle.live_node.specs.Steps.Answering.{IsNotKeepers, NotesRestartPart, NotesUndone, NotesUnevaluated, NotesUnrisen, TellsNothing, stop_for, stop_of}
-use Rattle.live_node.specs.Steps.LineTaking.{Takes, TakesLine, TakesWithin}
+use Rattle.live_node.specs.Steps.Sent.{all_sent}
+use Rattle.live_node.specs.TakenLines.{Takes, TakesLine, TakesWithin}
 use Rattle.live_node.proofs.Standing.{Stands}
 
 -- nothing is a beginning
 pub none_sent : (text : List ℕ) (old : Option (List ℕ)) → SendsPart text old old
 none_sent text old = begins text [] text old old refl (Appends-nil old)
-
--- and so is all
-pub all_sent : (text : List ℕ) (old new : Option (List ℕ)) → Appends old new text → SendsPart text old new
-all_sent text old new h = begins text text [] old new (append-nil text) h
 
 -- a line that asks what can be done was noted in part
 line_part : (raising : Raising) (s : NodeValue) (asked : NodeLine) (line : List ℕ) (old new : Option (List ℕ)) → Spells s.core.plant asked line → IsNotedAsked s asked → SendsPart (line_note line) old new → NotesPart raising s line old new
@@ -90,17 +86,6 @@ pub start_unmade : {T : Type 0} (r : Result T NodeStop) (raises : Result ℕ Kee
 start_unmade r raises tells now plant n above i opening note old new is raised risen opens stays told noted appended =
     kept_fault ends.Memory (λ why. StopsBeginning raises tells plant n above why old new) r is
     (inr (start_part raises tells now plant n above i opening note old new raised risen opens stays told noted (all_sent note old new appended)))
-
--- a message isn't answered
-message_part : (raising : Raising) (s : NodeValue) (line : List ℕ) (why : NodeStop) (old new : Option (List ℕ)) → IsNotKeepers why → NotesPart raising s line old new → NotesUnanswered raising s line why old new
-message_part raising s line (ends.Keeper f) old new own part = absurd own
-message_part raising s line ends.Note old new own part = part
-message_part raising s line ends.Memory old new own part = inr part
-
-pub message_unanswered : {T : Type 0} (r : Result T NodeStop) (raising : Raising) (s : NodeValue) (m : MessageValue) (line : List ℕ) (old new : Option (List ℕ)) → Spells s.core.plant (Take m) line → IfErr r IsNotKeepers → OnErr r (SendsPart (line_note line) old new)
-    → IfErr r (λ why. NotesUnanswered raising s line why old new)
-message_unanswered (Ok x) raising s m line old new read own part = tt
-message_unanswered (Err why) raising s m line old new read own part = message_part raising s line why old new own (line_part raising s (Take m) line old new read tt part)
 
 -- a restart isn't answered
 by_restart : (raising : Raising) (s : NodeValue) (resource : ℕ) (line : List ℕ) (why : NodeStop) (old new : Option (List ℕ)) → Spells s.core.plant (Restart resource) line → NotesUnrisen raising s resource why old new → NotesUnanswered raising s line why old new
@@ -195,20 +180,6 @@ unkept why r core t line old new is (inl same) unrefused noted =
     kept_fault why (λ found. NotesUnevaluated core t line found old new) r is (subst (λ found. NotesUnevaluated core t line found old new) (sym same) (refl, unrefused, noted))
 unkept why r core t line old new is (inr same) unrefused noted =
     kept_fault why (λ found. NotesUnevaluated core t line found old new) r is (subst (λ found. NotesUnevaluated core t line found old new) (sym same) (inr (unrefused, all_sent (line_note line) old new noted)))
-
--- what this keeper may answer, one may that was raised to the incarnation
-part_by_one : {K : Type 0} (last : K → ℕ) (gives : K → Result ℕ KeeperFault → Type 0) (keeper : K) (s : NodeValue) (line : List ℕ) (old new : Option (List ℕ)) → last keeper ≡ s.core.incarnation
-    → NotesPart (keeper_gives gives keeper) s line old new → NotesPart (a_keeper_gives last gives) s line old new
-part_by_one last gives keeper s line old new held (note, inl h, sent) = (note, inl h, sent)
-part_by_one last gives keeper s line old new held (note, inr h, sent) =
-    (note, inr (record { resource = h.resource; asked = h.asked; here = h.here; incarnation = h.incarnation; raised = (keeper, held, h.raised); above = h.above; note_is = h.note_is }), sent)
-
-pub unanswered_by_one : {K : Type 0} (last : K → ℕ) (gives : K → Result ℕ KeeperFault → Type 0) (keeper : K) (s : NodeValue) (line : List ℕ) (why : NodeStop) (old new : Option (List ℕ)) → last keeper ≡ s.core.incarnation
-    → NotesUnanswered (keeper_gives gives keeper) s line why old new → NotesUnanswered (a_keeper_gives last gives) s line why old new
-unanswered_by_one last gives keeper s line (ends.Keeper f) old new held h = h
-unanswered_by_one last gives keeper s line ends.Note old new held h = part_by_one last gives keeper s line old new held h
-unanswered_by_one last gives keeper s line ends.Memory old new held (inl h) = inl h
-unanswered_by_one last gives keeper s line ends.Memory old new held (inr h) = inr (part_by_one last gives keeper s line old new held h)
 
 -- a whole line was read
 whole_read : (given left : Option (List ℕ)) (line : List ℕ) (fed : Bool) → TakesLine given left line fed → ReadsWhole line given left

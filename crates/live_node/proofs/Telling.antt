@@ -1,6 +1,6 @@
 -- What a node answers, put together.
-use Rattle.std.proofs.Common.{◌≡◌, ◌≢◌, Result, Ok, Err, OnOk, inl, inr, ℕ, ◌+◌, ◌++◌, ◌<◌, true, List, [], Option, Some, length, refl, sym, ap, ◌∙◌, subst, append_assoc}
-use Rattle.std.specs.Prelude.{codes}
+use Rattle.std.proofs.Common.{◌≡◌, ◌≢◌, Result, Ok, Err, OnOk, inl, inr, ℕ, ◌+◌, ◌++◌, ◌<◌, Bool, true, false, List, [], Option, Some, length, refl, sym, ap, ◌∙◌, subst, append_assoc}
+use Rattle.std.specs.Prelude.{codes, slice_set}
 use Rattle.std.specs.Io.KnownBytes.{Appends}
 use Rattle.std.proofs.KnownBytes.{Appends-nil}
 use Rattle.std_blocks.specs.declared.value.Value.{Value}
@@ -12,23 +12,26 @@ use Rattle.task_codes.specs.declared.task_ref.TaskRef.{TaskRef}
 use Rattle.plant.specs.PlantValue.{PlantValue}
 use Rattle.evaluation.specs.declared.field_input.FieldInput.{FieldInput}
 use Rattle.evaluation.specs.Meaning.{Evaluated}
-use Rattle.evaluation.specs.Messages.{message_of}
-use Rattle.exchange_core.specs.MessageCoreValue.{MessageCoreValue}
+use Rattle.evaluation.specs.Messages.{MessageValue, message_of}
+use Rattle.exchange_core.specs.declared.accepted.Accepted.{Accepted}
+use Rattle.exchange_core.specs.declared.accepted.Accepted.TheVariants.{Taken, Old, Unused, Stray}
+use Rattle.exchange_core.specs.MessageCoreValue.{MessageCoreValue, IsAnswer, is_news}
 use Rattle.text_lines.specs.MessageLines.{HasForm}
 use Rattle.world.specs.RunLines.{evaluation_line}
 use Rattle.live_node.specs.declared.node_line.NodeLine.{NodeLine}
-use Rattle.live_node.specs.declared.node_line.NodeLine.TheVariants.{Idle, Evaluate, Restart}
+use Rattle.live_node.specs.declared.node_line.NodeLine.TheVariants.{Idle, Evaluate, Take, Hello, Restart}
 use Rattle.live_node.specs.Sends.{greetings, message_sends}
-use Rattle.live_node.specs.Answers.{refused_line, risen_line}
+use Rattle.live_node.specs.Answers.{refused_line, message_answer, hello_answer, risen_line}
 use Rattle.live_node.specs.NodeJournal.{line_note, restart_note, start_note}
 use Rattle.live_node.specs.declared.line_refusal.LineRefusal.{LineRefusal}
-use Rattle.live_node.specs.declared.line_refusal.LineRefusal.TheVariants.{Syntax, TooLong, NoSuchResource, NotHere, NoSuchTask, NumbersSpent, Keeper}
+use Rattle.live_node.specs.declared.line_refusal.LineRefusal.TheVariants.{Syntax, TooLong, NoSuchResource, NotHere, NoSuchTask, NumbersSpent, TooHigh, Keeper}
 use Rattle.live_node.specs.NodeValue.{NodeValue, IsStarted}
-use Rattle.live_node.specs.NodeSteps.{HasMade, IsPlaceRefusal, IsTaskRefusal}
+use Rattle.live_node.specs.NodeSteps.{CanBeHeard, HasHeardOf, HasMade, HasTaken, IsHelloRefusal, IsPlaceRefusal, IsTaskRefusal}
+use Rattle.live_node.specs.TooHigh.{is_too_high}
 use Rattle.std.proofs.lemmas.List.{append-nil}
 use Rattle.world.specs.ScheduleText.{is_idle}
 use Rattle.live_node.specs.NodeLines.{Spells, node_words}
-use Rattle.live_node.specs.NodeAnswers.{Raising, HasBegun, start_text, IsAnswered, IsRestartRefusal}
+use Rattle.live_node.specs.NodeAnswers.{Raising, HasBegun, start_text, IsAnswered, IsRestartRefusal, DoesMessage, news_hello, stray_hello}
 use Rattle.live_node.specs.Steps.Answering.{HasRisenTo, IsAnsweredBy}
 
 -- an evaluation's message has the form of the plant's
@@ -88,6 +91,7 @@ restart_place raising core n NoSuchResource why = why
 restart_place raising core n NotHere why = why
 restart_place raising core n NoSuchTask why = why
 restart_place raising core n NumbersSpent why = why
+restart_place raising core n TooHigh why = why
 restart_place raising core n Keeper why = absurd why
 
 pub refused_place : (raising : Raising) (s : NodeValue) (line : List ℕ) (n : ℕ) (r : LineRefusal) (noted : Option (List ℕ)) (out_old out_new : List ℕ) → IsPlaceRefusal s.core n r → out_new ≡ out_old ++ refused_line r → IsAnsweredBy raising s s line (Some (Restart n)) noted noted out_old out_new
@@ -116,6 +120,100 @@ risen_restart raising old new line n incarnation noted_old noted_new out_old out
       noted = h.noted;
       written = h.written;
     })
+
+-- a message whose incarnation is too high
+pub refused_message : (raising : Raising) (s : NodeValue) (line : List ℕ) (m : MessageValue) (noted : Option (List ℕ)) (out_old out_new : List ℕ) → is_too_high s.core m.name.task.resource m.name.incarnation ≡ true → out_new ≡ out_old ++ refused_line TooHigh
+    → IsAnsweredBy raising s s line (Some (Take m)) noted noted out_old out_new
+refused_message raising s line m noted out_old out_new high is = record {
+  note = [];
+  text = refused_line TooHigh;
+  answered = inr (high, record { same = refl; unnoted = refl; text_is = refl });
+  noted = Appends-nil noted;
+  written = is;
+}
+
+-- one that isn't taken
+passed_over : (s : NodeValue) (line : List ℕ) (m : MessageValue) (answer : Accepted) → answer ≢ Taken → IsAnswer s.core m answer → DoesMessage s s line m [] answer
+passed_over s line m Taken other is = absurd (other refl)
+passed_over s line m Old other is = record { answer_is = is; same = refl; unnoted = refl }
+passed_over s line m Unused other is = record { answer_is = is; same = refl; unnoted = refl }
+passed_over s line m Stray other is = record { answer_is = is; same = refl; unnoted = refl }
+
+pub passed_message : (raising : Raising) (s : NodeValue) (line : List ℕ) (m : MessageValue) (answer : Accepted) (noted : Option (List ℕ)) (out_old out_new : List ℕ) → is_too_high s.core m.name.task.resource m.name.incarnation ≡ false → answer ≢ Taken → IsAnswer s.core m answer
+    → out_new ≡ out_old ++ (stray_hello s.core m answer ++ message_answer s.core.plant m.name answer) → IsAnsweredBy raising s s line (Some (Take m)) noted noted out_old out_new
+passed_message raising s line m answer noted out_old out_new low other answer_is is = record {
+  note = [];
+  text = stray_hello s.core m answer ++ message_answer s.core.plant m.name answer;
+  answered = inl (record { low = low; answer = answer; done = passed_over s line m answer other answer_is; text_is = refl });
+  noted = Appends-nil noted;
+  written = is;
+}
+
+-- what would be taken is taken
+only_taken : (old new : NodeValue) (m : MessageValue) (answer : Accepted) → IsAnswer old.core m Taken → HasTaken old new m answer → answer ≡ Taken
+only_taken old new m Taken would taken = refl
+only_taken old new m Old would taken = let a = would.2 in let b = taken.accepted.answer_is.2 in absurd cc
+only_taken old new m Unused would taken = absurd (taken.accepted.answer_is would.0)
+only_taken old new m Stray would taken = let a = would.1 in let b = taken.accepted.answer_is.1 in absurd cc
+
+pub taken_message : (raising : Raising) (s state new : NodeValue) (line : List ℕ) (m : MessageValue) (answer : Accepted) (noted_old noted_new : Option (List ℕ)) (out_old out_new : List ℕ) → is_too_high s.core m.name.task.resource m.name.incarnation ≡ false → IsAnswer s.core m Taken → state ≡ s
+    → HasTaken state new m answer → Appends noted_old noted_new (line_note line) → out_new ≡ out_old ++ message_answer new.core.plant m.name answer → IsAnsweredBy raising s new line (Some (Take m)) noted_old noted_new out_old out_new
+taken_message raising s state new line m answer noted_old noted_new out_old out_new low would same taken noted is =
+    let here : HasTaken s new m answer = subst (λ (x : NodeValue). HasTaken x new m answer) same taken in
+    let only : answer ≡ Taken = only_taken s new m answer would here in
+    let done : HasTaken s new m Taken = subst (HasTaken s new m) only here in
+    let plant : new.core.plant ≡ s.core.plant = ap (λ (c : MessageCoreValue). c.plant) done.accepted.after in
+    record {
+      note = line_note line;
+      text = message_answer s.core.plant m.name Taken;
+      answered = inl (record { low = low; answer = Taken; done = (done, refl); text_is = refl });
+      noted = noted;
+      written = is ∙ ap (λ p. out_old ++ message_answer p m.name answer) plant ∙ ap (λ a. out_old ++ message_answer s.core.plant m.name a) only;
+    }
+
+-- a hello that isn't heard
+pub refused_hello : (raising : Raising) (s : NodeValue) (line : List ℕ) (of incarnation : ℕ) (r : LineRefusal) (noted : Option (List ℕ)) (out_old out_new : List ℕ) → IsHelloRefusal s.core of incarnation r → out_new ≡ out_old ++ refused_line r
+    → IsAnsweredBy raising s s line (Some (Hello of incarnation)) noted noted out_old out_new
+refused_hello raising s line of incarnation r noted out_old out_new why is = record {
+  note = [];
+  text = refused_line r;
+  answered = inr (r, why, record { same = refl; unnoted = refl; text_is = refl });
+  noted = Appends-nil noted;
+  written = is;
+}
+
+-- one that is no news
+pub old_hello : (raising : Raising) (s : NodeValue) (line : List ℕ) (of incarnation : ℕ) (noted : Option (List ℕ)) (out_old out_new : List ℕ) → CanBeHeard s.core of incarnation → is_news s.core of incarnation ≡ false → out_new ≡ out_old ++ hello_answer s.core.plant of incarnation false
+    → IsAnsweredBy raising s s line (Some (Hello of incarnation)) noted noted out_old out_new
+old_hello raising s line of incarnation noted out_old out_new heard known is = record {
+  note = [];
+  text = hello_answer s.core.plant of incarnation false;
+  answered = inl (record { unrefused = heard; newer = false; done = (known, refl, refl); text_is = refl });
+  noted = Appends-nil noted;
+  written = is;
+}
+
+-- one that is news
+pub heard_hello : (raising : Raising) (s state new : NodeValue) (line : List ℕ) (of incarnation : ℕ) (newer : Bool) (noted_old noted_new : Option (List ℕ)) (out_old mid out_new : List ℕ) → CanBeHeard s.core of incarnation → is_news s.core of incarnation ≡ true → state ≡ s
+    → HasHeardOf state new of incarnation newer → Appends noted_old noted_new (line_note line) → mid ≡ out_old ++ news_hello new.core of newer → out_new ≡ mid ++ hello_answer new.core.plant of incarnation newer
+    → IsAnsweredBy raising s new line (Some (Hello of incarnation)) noted_old noted_new out_old out_new
+heard_hello raising s state new line of incarnation newer noted_old noted_new out_old mid out_new unrefused news same heard noted first last =
+    let here : HasHeardOf s new of incarnation newer = subst (λ (x : NodeValue). HasHeardOf x new of incarnation newer) same heard in
+    let only : newer ≡ true = here.heard.answer_is ∙ news in
+    let done : HasHeardOf s new of incarnation true = subst (HasHeardOf s new of incarnation) only here in
+    let after : new.core ≡ record s.core { heard = slice_set s.core.heard of incarnation } = done.heard.after in
+    record {
+      note = line_note line;
+      text = news_hello s.core of true ++ hello_answer s.core.plant of incarnation true;
+      answered = inl (record { unrefused = unrefused; newer = true; done = (done, refl); text_is = refl });
+      noted = noted;
+      written =
+          last
+          ∙ ap (λ l. l ++ hello_answer new.core.plant of incarnation newer) first
+          ∙ append_assoc out_old (news_hello new.core of newer) (hello_answer new.core.plant of incarnation newer)
+          ∙ ap (λ b. out_old ++ (news_hello new.core of b ++ hello_answer new.core.plant of incarnation b)) only
+          ∙ ap (λ (c : MessageCoreValue). out_old ++ (news_hello c of true ++ hello_answer c.plant of incarnation true)) after;
+    }
 
 -- a blank line or a comment
 pub idle_answer : (raising : Raising) (s : NodeValue) (line : List ℕ) (noted : Option (List ℕ)) (out : List ℕ) → is_idle (node_words line) ≡ true → IsAnswered raising s s line noted noted out out

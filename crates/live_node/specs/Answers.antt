@@ -9,7 +9,7 @@ use Rattle.text_lines.specs.MessageLines.{name_text}
 use Rattle.world.specs.RunText.{accepted_text, hearing_text}
 use Rattle.live_node.specs.Sends.{hello_text}
 use Rattle.live_node.specs.declared.line_refusal.LineRefusal.{LineRefusal}
-use Rattle.live_node.specs.declared.line_refusal.LineRefusal.TheVariants.{Syntax, TooLong, NoSuchResource, NotHere, NoSuchTask, NumbersSpent, Keeper}
+use Rattle.live_node.specs.declared.line_refusal.LineRefusal.TheVariants.{Syntax, TooLong, NoSuchResource, NotHere, NoSuchTask, NumbersSpent, TooHigh, Keeper}
 
 -- why a line isn't done
 abbrev pub refusal_text : LineRefusal → List ℕ
@@ -19,6 +19,7 @@ refusal_text NoSuchResource = codes "NoSuchResource"
 refusal_text NotHere = codes "NotHere"
 refusal_text NoSuchTask = codes "NoSuchTask"
 refusal_text NumbersSpent = codes "NumbersSpent"
+refusal_text TooHigh = codes "TooHigh"
 refusal_text Keeper = codes "Keeper"
 
 -- `REFUSED Kind`

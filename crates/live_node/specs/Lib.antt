@@ -6,6 +6,8 @@ pub mod NodeJournal
 pub mod NodeLines
 pub mod Partners
 pub mod Sends
+pub mod TooHigh
+pub mod TakenLines
 pub mod LiveNode
 pub mod NodeAnswers
 pub mod Stops

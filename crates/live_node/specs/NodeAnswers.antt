@@ -1,5 +1,5 @@
 -- What a node answers to a line, what it notes for it, and what it is then.
-use Rattle.std.specs.Prelude.{◌≡◌, ◌≢◌, ℕ, ◌+◌, ◌<◌, ◌≤◌, ◌++◌, ◌⊎◌, ◌&&◌, Bool, false, List, [], Option, Some, None, Result, Ok, Err, MatchOption, codes, length, if◌then◌else◌}
+use Rattle.std.specs.Prelude.{◌≡◌, ◌≢◌, ℕ, ◌+◌, ◌<◌, ◌≤◌, ◌++◌, ◌⊎◌, ◌&&◌, Bool, true, false, List, [], Option, Some, None, Result, Ok, Err, MatchOption, codes, length, if◌then◌else◌}
 use Rattle.std.specs.Io.KnownBytes.{Appends}
 use Rattle.std_blocks.specs.declared.value.Value.{Value}
 use Rattle.task_codes.specs.declared.task_ref.TaskRef.{TaskRef}
@@ -13,19 +13,20 @@ use Rattle.evaluation.specs.Meaning.{Evaluated}
 use Rattle.evaluation.specs.Messages.{MessageValue, message_of}
 use Rattle.exchange_core.specs.declared.accepted.Accepted.{Accepted}
 use Rattle.exchange_core.specs.declared.accepted.Accepted.TheVariants.{Taken, Old, Unused, Stray}
-use Rattle.exchange_core.specs.MessageCoreValue.{MessageCoreValue}
+use Rattle.exchange_core.specs.MessageCoreValue.{MessageCoreValue, IsAnswer, is_news}
 use Rattle.world.specs.RunLines.{evaluation_line}
 use Rattle.live_node.specs.declared.node_line.NodeLine.{NodeLine}
 use Rattle.live_node.specs.declared.node_line.NodeLine.TheVariants.{Idle, Evaluate, Take, Hello, Restart}
 use Rattle.live_node.specs.declared.line_refusal.LineRefusal.{LineRefusal}
-use Rattle.live_node.specs.declared.line_refusal.LineRefusal.TheVariants.{Syntax, TooLong, NoSuchResource, NotHere, NoSuchTask, NumbersSpent, Keeper}
+use Rattle.live_node.specs.declared.line_refusal.LineRefusal.TheVariants.{Syntax, TooLong, NoSuchResource, NotHere, NoSuchTask, NumbersSpent, TooHigh, Keeper}
 use Rattle.live_node.specs.NodeLines.{Spells, SpellsNothing}
 use Rattle.live_node.specs.Partners.{takes_from_resource}
 use Rattle.live_node.specs.Sends.{greetings, hello_to, message_sends}
 use Rattle.live_node.specs.Answers.{refused_line, message_answer, hello_answer, risen_line}
 use Rattle.live_node.specs.NodeJournal.{line_note, start_note, restart_note}
 use Rattle.live_node.specs.NodeValue.{NodeValue, IsStarted}
-use Rattle.live_node.specs.NodeSteps.{HasMade, HasTaken, HasHeardOf, HasRisen, IsTaskRefusal, is_behind}
+use Rattle.live_node.specs.NodeSteps.{CanBeHeard, HasMade, HasTaken, HasHeardOf, HasRisen, IsHelloRefusal, IsTaskRefusal, is_behind}
+use Rattle.live_node.specs.TooHigh.{is_too_high}
 
 -- a line isn't done: nothing changes, nothing is noted, and its answer is the refusal
 pub record IsRefused (old new : NodeValue) (note text : List ℕ) (refusal : LineRefusal) : Type 0 where
@@ -59,6 +60,7 @@ IsRestartRefusal raising core n NoSuchResource = length core.plant.resources ≤
 IsRestartRefusal raising core n NotHere = (n < length core.plant.resources) × (n ≢ core.resource)
 IsRestartRefusal raising core n NoSuchTask = ⊥
 IsRestartRefusal raising core n NumbersSpent = ⊥
+IsRestartRefusal raising core n TooHigh = ⊥
 IsRestartRefusal raising core n Keeper = (n ≡ core.resource) × IsUnraised raising core.incarnation
 
 -- the node's own hello, to this resource
@@ -93,19 +95,38 @@ pub record AnswersEvaluate (old new : NodeValue) (line : List ℕ) (t : TaskRef)
   pub text_is : text
       ≡ message_sends old.core.plant (message_of evaluated) ++ evaluation_line old.core.plant (old.made + 1) evaluated
 
--- A message was answered: the line is noted.
+-- a message that isn't taken changes nothing, and isn't noted
+pub record PassesOver (old new : NodeValue) (m : MessageValue) (note : List ℕ) (answer : Accepted) : Type 0 where
+  pub answer_is : IsAnswer old.core m answer
+  pub same : new ≡ old
+  pub unnoted : note ≡ []
+
+-- what is done of a message, by its answer: one that is taken is noted and held, any other passed over
+abbrev pub DoesMessage : NodeValue → NodeValue → List ℕ → MessageValue → List ℕ → Accepted → Type 0
+DoesMessage old new line m note Taken = HasTaken old new m Taken × (note ≡ line_note line)
+DoesMessage old new line m note Old = PassesOver old new m note Old
+DoesMessage old new line m note Unused = PassesOver old new m note Unused
+DoesMessage old new line m note Stray = PassesOver old new m note Stray
+
+-- A message was answered whose incarnation isn't too high.
 pub record AnswersMessage (old new : NodeValue) (line : List ℕ) (m : MessageValue) (note text : List ℕ) : Type 0 where
+  pub low : is_too_high old.core m.name.task.resource m.name.incarnation ≡ false
   pub answer : Accepted
-  pub taken : HasTaken old new m answer
-  pub note_is : note ≡ line_note line
+  pub done : DoesMessage old new line m note answer
   pub text_is : text ≡ stray_hello old.core m answer ++ message_answer old.core.plant m.name answer
 
--- A hello of a resource of the plant was answered: the line is noted.
+-- what is done of a hello: one that is news is noted and heard; any other changes nothing, and isn't noted
+abbrev pub DoesHello : NodeValue → NodeValue → List ℕ → ℕ → ℕ → List ℕ → Bool → Type 0
+DoesHello old new line of incarnation note true =
+    HasHeardOf old new of incarnation true × (note ≡ line_note line)
+DoesHello old new line of incarnation note false =
+    (is_news old.core of incarnation ≡ false) × (new ≡ old) × (note ≡ [])
+
+-- A hello of a resource of the plant was answered whose incarnation isn't too high.
 pub record AnswersHello (old new : NodeValue) (line : List ℕ) (of incarnation : ℕ) (note text : List ℕ) : Type 0 where
-  pub exists : of < length old.core.plant.resources
+  pub unrefused : CanBeHeard old.core of incarnation
   pub newer : Bool
-  pub heard : HasHeardOf old new of incarnation newer
-  pub note_is : note ≡ line_note line
+  pub done : DoesHello old new line of incarnation note newer
   pub text_is : text ≡ news_hello old.core of newer ++ hello_answer old.core.plant of incarnation newer
 
 -- The resource was restarted in a greater incarnation, to which its keeper was raised, and which is noted; hellos go to
@@ -127,10 +148,12 @@ AnswersAsked raising old new line (Some Idle) note text = (new ≡ old) × (note
 AnswersAsked raising old new line (Some (Evaluate t dt inputs)) note text =
     AnswersEvaluate old new line t dt inputs note text
     ⊎ ((refusal : LineRefusal) × IsTaskRefusal old.core t refusal × IsRefused old new note text refusal)
-AnswersAsked raising old new line (Some (Take m)) note text = AnswersMessage old new line m note text
+AnswersAsked raising old new line (Some (Take m)) note text =
+    AnswersMessage old new line m note text
+    ⊎ ((is_too_high old.core m.name.task.resource m.name.incarnation ≡ true) × IsRefused old new note text TooHigh)
 AnswersAsked raising old new line (Some (Hello of incarnation)) note text =
     AnswersHello old new line of incarnation note text
-    ⊎ ((length old.core.plant.resources ≤ of) × IsRefused old new note text NoSuchResource)
+    ⊎ ((refusal : LineRefusal) × IsHelloRefusal old.core of incarnation refusal × IsRefused old new note text refusal)
 AnswersAsked raising old new line (Some (Restart n)) note text =
     AnswersRestart raising old new n note text
     ⊎ ((refusal : LineRefusal) × IsRestartRefusal raising old.core n refusal × IsRefused old new note text refusal)

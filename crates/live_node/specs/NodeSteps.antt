@@ -1,5 +1,5 @@
 -- What one line does to a node, and why a line isn't done.
-use Rattle.std.specs.Prelude.{◌≡◌, ◌≢◌, ℕ, ◌+◌, ◌<◌, ◌≤◌, Bool, false, nat_lt, List, Option, Some, None, length, slice_get}
+use Rattle.std.specs.Prelude.{◌≡◌, ◌≢◌, ℕ, ◌+◌, ◌<◌, ◌≤◌, Bool, true, false, nat_lt, List, Option, Some, None, length, slice_get}
 use Rattle.task_codes.specs.declared.task_ref.TaskRef.{TaskRef}
 use Rattle.plant.specs.PlantValue.{code_at}
 use Rattle.evaluation.specs.declared.field_input.FieldInput.{FieldInput}
@@ -10,8 +10,9 @@ use Rattle.exchange_core.specs.declared.accepted.Accepted.{Accepted}
 use Rattle.exchange_core.specs.declared.last.Last.TheVariants.{Told}
 use Rattle.exchange_core.specs.MessageCoreValue.{MessageCoreValue, HasHeard, HasOwnTask, IsAccepted, IsDue, IsNext, IsRestartOf, own_last}
 use Rattle.live_node.specs.declared.line_refusal.LineRefusal.{LineRefusal}
-use Rattle.live_node.specs.declared.line_refusal.LineRefusal.TheVariants.{Syntax, TooLong, NoSuchResource, NotHere, NoSuchTask, NumbersSpent, Keeper}
+use Rattle.live_node.specs.declared.line_refusal.LineRefusal.TheVariants.{Syntax, TooLong, NoSuchResource, NotHere, NoSuchTask, NumbersSpent, TooHigh, Keeper}
 use Rattle.live_node.specs.NodeValue.{NodeValue, HasCounted}
+use Rattle.live_node.specs.TooHigh.{is_too_high}
 
 -- why a line about a resource isn't done: there is no such resource, or it isn't this one
 abbrev pub IsPlaceRefusal : MessageCoreValue → ℕ → LineRefusal → Type 0
@@ -21,6 +22,7 @@ IsPlaceRefusal core n NoSuchResource = length core.plant.resources ≤ n
 IsPlaceRefusal core n NotHere = (n < length core.plant.resources) × (n ≢ core.resource)
 IsPlaceRefusal core n NoSuchTask = ⊥
 IsPlaceRefusal core n NumbersSpent = ⊥
+IsPlaceRefusal core n TooHigh = ⊥
 IsPlaceRefusal core n Keeper = ⊥
 
 -- why a task isn't evaluated: one of those, or the resource has no such task, or the task's numbers are spent
@@ -32,7 +34,25 @@ IsTaskRefusal core t NotHere = (t.resource < length core.plant.resources) × (t.
 IsTaskRefusal core t NoSuchTask = (t.resource ≡ core.resource) × (code_at core.plant t ≡ None)
 IsTaskRefusal core t NumbersSpent =
     (t.resource ≡ core.resource) × HasOwnTask core t.task × (core.max_number ≤ last_number (own_last core t.task))
+IsTaskRefusal core t TooHigh = ⊥
 IsTaskRefusal core t Keeper = ⊥
+
+-- why a hello isn't heard: there is no such resource, or its incarnation is too high
+abbrev pub IsHelloRefusal : MessageCoreValue → ℕ → ℕ → LineRefusal → Type 0
+IsHelloRefusal core of incarnation Syntax = ⊥
+IsHelloRefusal core of incarnation TooLong = ⊥
+IsHelloRefusal core of incarnation NoSuchResource = length core.plant.resources ≤ of
+IsHelloRefusal core of incarnation NotHere = ⊥
+IsHelloRefusal core of incarnation NoSuchTask = ⊥
+IsHelloRefusal core of incarnation NumbersSpent = ⊥
+IsHelloRefusal core of incarnation TooHigh =
+    (of < length core.plant.resources) × (is_too_high core of incarnation ≡ true)
+IsHelloRefusal core of incarnation Keeper = ⊥
+
+-- a hello of a resource of the plant isn't too high
+abbrev pub CanBeHeard : MessageCoreValue → ℕ → ℕ → Type 0
+CanBeHeard core of incarnation =
+    (of < length core.plant.resources) × (is_too_high core of incarnation ≡ false)
 
 -- a task can be evaluated
 abbrev pub IsNotRefused : MessageCoreValue → TaskRef → Type 0

@@ -1,5 +1,5 @@
 -- What a node leaves that stops before the end of its lines.
-use Rattle.std.specs.Prelude.{◌≡◌, ◌≢◌, ℕ, ◌<◌, ◌≤◌, ◌++◌, ◌⊎◌, List, [], ◌∷◌, Option, Some, Result, Ok, Err, length, reverse}
+use Rattle.std.specs.Prelude.{◌≡◌, ◌≢◌, ℕ, ◌<◌, ◌≤◌, ◌++◌, ◌⊎◌, true, false, List, [], ◌∷◌, Option, Some, Result, Ok, Err, length, reverse}
 use Rattle.std.specs.List.{AllByRecursion, flat_map}
 use Rattle.std.specs.Io.KnownBytes.{Appends, Consumes, IsAtEnd, Keeps}
 use Rattle.std_blocks.specs.declared.value.Value.{Value}
@@ -11,6 +11,8 @@ use Rattle.keepers.specs.Keepers.{Telling}
 use Rattle.keepers.specs.Openings.{TellsOpening}
 use Rattle.keepers.specs.declared.keeper_fault.KeeperFault.{KeeperFault}
 use Rattle.keepers.specs.declared.keeper_fault.KeeperFault.TheVariants as keeping
+use Rattle.exchange_core.specs.declared.accepted.Accepted.TheVariants.{Taken}
+use Rattle.exchange_core.specs.MessageCoreValue.{IsAnswer, is_news}
 use Rattle.exchange_core.specs.Openings.{AreOpeningOf}
 use Rattle.text_lines.specs.Sending.{SendsPart}
 use Rattle.text_lines.specs.Lines.{HasNoFeed}
@@ -19,7 +21,8 @@ use Rattle.live_node.specs.declared.node_line.NodeLine.TheVariants.{Idle, Evalua
 use Rattle.live_node.specs.NodeLines.{Spells}
 use Rattle.live_node.specs.NodeJournal.{line_note, start_note, restart_note}
 use Rattle.live_node.specs.NodeValue.{NodeValue}
-use Rattle.live_node.specs.NodeSteps.{IsNotRefused}
+use Rattle.live_node.specs.NodeSteps.{CanBeHeard, IsNotRefused}
+use Rattle.live_node.specs.TooHigh.{is_too_high}
 use Rattle.live_node.specs.declared.node_stop.NodeStop.{NodeStop}
 use Rattle.live_node.specs.declared.node_stop.NodeStop.TheVariants as ends
 use Rattle.live_node.specs.declared.live_stop.LiveStop.{LiveStop}
@@ -27,13 +30,15 @@ use Rattle.live_node.specs.declared.live_stop.LiveStop.TheVariants.{Node, Read, 
 use Rattle.live_node.specs.NodeAnswers.{Raising}
 use Rattle.live_node.specs.LiveNode.{AnswersLine, HaveAnswered}
 
--- what is asked can be done, and its line is noted as it was read: an evaluation that isn't refused, a message, or a hello
--- of a resource of the plant
+-- what is asked can be done, and its line is noted as it was read: an evaluation that isn't refused; a message that is
+-- taken, or a hello that is news, of an incarnation that isn't too high
 abbrev pub IsNotedAsked : NodeValue → NodeLine → Type 0
 IsNotedAsked s Idle = ⊥
 IsNotedAsked s (Evaluate task dt inputs) = IsNotRefused s.core task
-IsNotedAsked s (Take m) = Unit {0}
-IsNotedAsked s (Hello of incarnation) = of < length s.core.plant.resources
+IsNotedAsked s (Take m) =
+    IsAnswer s.core m Taken × (is_too_high s.core m.name.task.resource m.name.incarnation ≡ false)
+IsNotedAsked s (Hello of incarnation) =
+    CanBeHeard s.core of incarnation × (is_news s.core of incarnation ≡ true)
 IsNotedAsked s (Restart resource) = ⊥
 
 -- a line that asks what can be done is noted as it was read

@@ -25,6 +25,7 @@ fn push_refusal(out: &mut String, refusal: LineRefusal) -> Result<(), AllocError
         LineRefusal::NotHere => out.push_str("NotHere"),
         LineRefusal::NoSuchTask => out.push_str("NoSuchTask"),
         LineRefusal::NumbersSpent => out.push_str("NumbersSpent"),
+        LineRefusal::TooHigh => out.push_str("TooHigh"),
         LineRefusal::Keeper => out.push_str("Keeper"),
     }
 }

@@ -23,6 +23,7 @@ pub use answering::live;
 pub use file_notes::{FileNotes, JournalFault};
 pub use journal_lines::{note_of_restart, note_of_start};
 pub use line_refusal::LineRefusal;
+pub use live_lines::{TakenLine, take_line};
 pub use live_stop::LiveStop;
 pub use no_notes::NoNotes;
 pub use node::Node;

@@ -13,6 +13,8 @@ pub enum LineRefusal {
     NoSuchTask,
     /// The task's last evaluation in this incarnation has the number 4,294,967,295.
     NumbersSpent,
+    /// The incarnation that it tells is above what is known of its resource by more than 1,000,000.
+    TooHigh,
     /// The keeper doesn't raise the incarnation.
     Keeper,
 }

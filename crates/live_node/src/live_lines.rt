@@ -3,7 +3,8 @@
 ghost use Rattle.std.specs.Prelude.{◌≡◌, ℕ, ◌≤◌, IfOk, IfErr, List, Option, length};
 ghost use Rattle.text_lines.specs.Lines.{TakesSome};
 ghost use Rattle.text_lines.specs.declared.read_fault.ReadFault.TheVariants as reading;
-ghost use Rattle.live_node.specs.Steps.LineTaking.{IsTaken, Takes, TakesRest, TakesWithin, HasPut};
+ghost use Rattle.live_node.specs.Steps.LineTaking.{IsTaken, TakesRest, HasPut};
+ghost use Rattle.live_node.specs.TakenLines.{Takes, TakesWithin};
 
 use std::io::Write;
 use text_lines::{Given, ReadFault};
@@ -14,7 +15,7 @@ pub(crate) const LONGEST: usize = 16_777_216;
 
 /// What was taken.
 #[derive(Clone, Copy)]
-pub(crate) enum TakenLine {
+pub enum TakenLine {
     /// A line; whether a line feed ended it.
     Line { fed: bool },
     /// A line that is too long; whether a line feed ended it.
@@ -72,10 +73,11 @@ fn take_rest<L: LineSource, W: Write>(
     Err(ReadFault::Read)
 }
 
-/// Takes the next line, without its line feed, in the place of what was in `line`; `piece` is room for a part of a long
-/// one.
+/// Takes the next line, without its line feed, in the place of what was in `line`; one of more than 16,777,216 bytes is
+/// taken to its end, and told as too long. `piece` is room for a part of a long one; `out` is what was written to. After a
+/// fault some of the line may be gone; its line feed only where memory is wanting behind 1,000,000 bytes.
 #[tactic(auto, using(crate::proofs::LineTaking::takes_line, crate::proofs::LineTaking::takes_last, crate::proofs::LineTaking::takes_whole, crate::proofs::LineTaking::begins_more, crate::proofs::LineTaking::begins_none))]
-pub(crate) fn take_line<L: LineSource, W: Write>(
+pub fn take_line<L: LineSource, W: Write>(
     source: &mut L,
     line: &mut Vec<u8>,
     piece: &mut Vec<u8>,

@@ -1,8 +1,10 @@
 //! A node answers lines.
 
-ghost use Rattle.std.specs.Prelude.{◌≡◌, ◌≢◌, ◌<◌, ◌⊎◌, IfOk, IfErr, OnOk, OnErr, Some, [], length, string_bytes, if◌then◌else◌};
+ghost use Rattle.std.specs.Prelude.{◌≡◌, ◌≢◌, ◌<◌, ◌++◌, ◌⊎◌, true, false, IfOk, IfErr, OnOk, OnErr, Some, [], length, string_bytes, if◌then◌else◌};
 ghost use Rattle.std.specs.Io.KnownBytes.{Appends};
 ghost use Rattle.evaluation.specs.Messages.{message_of};
+ghost use Rattle.exchange_core.specs.declared.accepted.Accepted.TheVariants.{Taken};
+ghost use Rattle.exchange_core.specs.MessageCoreValue.{IsAnswer, is_news};
 ghost use Rattle.exchange_core.specs.Openings.{AreOpeningOf};
 ghost use Rattle.text_lines.specs.MessageLines.{IsMessageOf};
 ghost use Rattle.keepers.specs.Keepers.{KeepsOthers, TellsNoMore};
@@ -10,15 +12,17 @@ ghost use Rattle.keepers.specs.Openings.{TellsOpening};
 ghost use Rattle.keepers.specs.LeftValues.{TellsLeft};
 ghost use Rattle.keepers.specs.declared.keeper_fault.KeeperFault.TheVariants as keeping;
 ghost use Rattle.live_node.specs.declared.line_refusal.LineRefusal.TheVariants as refusal;
-ghost use Rattle.live_node.specs.Answers.{refused_line};
+ghost use Rattle.live_node.specs.Answers.{message_answer, refused_line};
 ghost use Rattle.live_node.specs.Keeping.{KeepsAllButOne, KeepsCore, OutliveAlike};
 ghost use Rattle.live_node.specs.Steps.Keeping.{LeavesEither};
 ghost use Rattle.live_node.specs.declared.node_line.NodeLine.TheVariants as asked;
-ghost use Rattle.live_node.specs.NodeAnswers.{is_told, keeper_gives, own_hello, IsAnswered, HasBegun};
+ghost use Rattle.live_node.specs.NodeAnswers.{is_told, keeper_gives, own_hello, stray_hello, IsAnswered, HasBegun};
 ghost use Rattle.live_node.specs.declared.node_stop.NodeStop.TheVariants as ends;
 ghost use Rattle.live_node.specs.Stops.{NotesUnanswered, StopsBeginning};
 ghost use Rattle.live_node.specs.Steps.Answering.{HasRisenTo, IsAnsweredBy, IsNotKeepers, NotesUndone, NotesUnevaluated, NotesUnrisen, TellsNothing, stop_for};
 ghost use Rattle.live_node.specs.NodeJournal.{line_note, restart_note};
+ghost use Rattle.live_node.specs.NodeSteps.{CanBeHeard};
+ghost use Rattle.live_node.specs.TooHigh.{is_too_high};
 ghost use Rattle.text_lines.specs.Growing.{GrowsBy};
 ghost use Rattle.text_lines.specs.Sending.{SendsPart};
 
@@ -236,8 +240,47 @@ impl<K: Keeper, N: Notes> Node<K, N> {
         Ok(())
     }
 
-    /// Answers a line `MESSAGE`.
+    /// Notes a message that is taken, takes it in, and answers it.
     #[tactic(auto, using(crate::proofs::Outliving::message_keeps))]
+    fn take_message(
+        &mut self,
+        line: &[u8],
+        message: Message,
+        out: &mut String,
+    ) -> Result<(), NodeStop>
+        requires few { self.old.state.lines < 18446744073709551615 }
+        requires low { is_too_high self.old.state.core message.name.task.resource message.name.incarnation ≡ false }
+        requires taken { IsAnswer self.old.state.core message Taken }
+        ensures answered { OnOk result (IsAnsweredBy (keeper_gives K.raise_gives self.old.keeper) self.old.state self.new.state line.now (Some (asked.Take message))
+            (N.noted self.old.notes) (N.noted self.new.notes) (string_bytes out.old) (string_bytes out.new)) }
+        ensures stopped { IfErr result (λ why. NotesUndone self.old.state (asked.Take message) line.now why (N.noted self.old.notes) (N.noted self.new.notes)) }
+        ensures kept { self.new.keeper ≡ self.old.keeper }
+        ensures keeps { KeepsCore (K.kept_gives self.old.keeper) self.old.state.core → KeepsCore (K.kept_gives self.new.keeper) self.new.state.core }
+    {
+        self.note_line(line)?;
+        let name = message.name();
+        let answer = self.state.accept(message);
+        push_message_answer(out, self.state.plant(), name, answer)?;
+        Ok(())
+    }
+
+    /// Answers a message that isn't taken; a stray one for an earlier incarnation by a hello to its maker, too.
+    fn pass_over(
+        &self,
+        message: &Message,
+        answer: Accepted,
+        out: &mut String,
+    ) -> Result<(), AllocError>
+        ensures { OnOk result (GrowsBy out.old out.new (stray_hello self.now.state.core message.now answer ++ message_answer self.now.state.core.plant message.now.name answer)) }
+    {
+        let name = message.name();
+        let is_wanted = is_told(answer, self.state.is_behind(message));
+        self.push_own_hello_if(is_wanted, name.task.resource, out)?;
+        push_message_answer(out, self.state.plant(), name, answer)
+    }
+
+    /// Answers a line `MESSAGE`. Only one that is taken is noted, and changes anything.
+    #[tactic(auto, using(crate::proofs::Telling::refused_message, crate::proofs::Telling::passed_message))]
     fn answer_message(
         &mut self,
         line: &[u8],
@@ -247,18 +290,19 @@ impl<K: Keeper, N: Notes> Node<K, N> {
         requires few { self.old.state.lines < 18446744073709551615 }
         ensures answered { OnOk result (IsAnsweredBy (keeper_gives K.raise_gives self.old.keeper) self.old.state self.new.state line.now (Some (asked.Take message))
             (N.noted self.old.notes) (N.noted self.new.notes) (string_bytes out.old) (string_bytes out.new)) }
-        ensures part { OnErr result (SendsPart (line_note line.now) (N.noted self.old.notes) (N.noted self.new.notes)) }
-        ensures stopped { IfErr result IsNotKeepers }
+        ensures stopped { IfErr result (λ why. NotesUndone self.old.state (asked.Take message) line.now why (N.noted self.old.notes) (N.noted self.new.notes)) }
         ensures kept { self.new.keeper ≡ self.old.keeper }
         ensures keeps { KeepsCore (K.kept_gives self.old.keeper) self.old.state.core → KeepsCore (K.kept_gives self.new.keeper) self.new.state.core }
     {
-        self.note_line(line)?;
         let name = message.name();
-        let is_behind = self.state.is_behind(&message);
-        let answer = self.state.accept(message);
-        self.push_own_hello_if(is_told(answer, is_behind), name.task.resource, out)?;
-        push_message_answer(out, self.state.plant(), name, answer)?;
-        Ok(())
+        if self.state.is_too_high(name.task.resource, name.incarnation) {
+            push_refused(out, LineRefusal::TooHigh)?;
+            return Ok(());
+        }
+        match self.state.would_accept(&message) {
+            Accepted::Taken => self.take_message(line, message, out),
+            answer => Ok(self.pass_over(&message, answer, out)?),
+        }
     }
 
     /// Writes the node's own hello to a resource.
@@ -286,7 +330,33 @@ impl<K: Keeper, N: Notes> Node<K, N> {
         Ok(())
     }
 
-    /// Answers a line `HELLO`.
+    /// Notes a hello that is news, hears it, and answers it.
+    fn hear_news(
+        &mut self,
+        line: &[u8],
+        of: usize,
+        incarnation: u32,
+        out: &mut String,
+    ) -> Result<(), NodeStop>
+        requires few { self.old.state.lines < 18446744073709551615 }
+        requires unrefused { CanBeHeard self.old.state.core of incarnation }
+        requires news { is_news self.old.state.core of incarnation ≡ true }
+        ensures answered { OnOk result (IsAnsweredBy (keeper_gives K.raise_gives self.old.keeper) self.old.state self.new.state line.now (Some (asked.Hello of incarnation))
+            (N.noted self.old.notes) (N.noted self.new.notes) (string_bytes out.old) (string_bytes out.new)) }
+        ensures stopped { IfErr result (λ why. NotesUndone self.old.state (asked.Hello of incarnation) line.now why (N.noted self.old.notes) (N.noted self.new.notes)) }
+        ensures kept { self.new.keeper ≡ self.old.keeper }
+        ensures keeps { KeepsCore (K.kept_gives self.old.keeper) self.old.state.core → KeepsCore (K.kept_gives self.new.keeper) self.new.state.core }
+    {
+        self.note_line(line)?;
+        let newer = self.state.hear(of, incarnation);
+        let takes = takes_from_resource(self.state.plant(), self.state.resource(), of);
+        self.push_own_hello_if(newer && takes, of, out)?;
+        push_hello_answer(out, self.state.plant(), of, incarnation, newer)?;
+        Ok(())
+    }
+
+    /// Answers a line `HELLO`. Only one that is news is noted, and changes anything.
+    #[tactic(auto, using(crate::proofs::Telling::refused_hello, crate::proofs::Telling::old_hello))]
     fn answer_hello(
         &mut self,
         line: &[u8],
@@ -301,16 +371,15 @@ impl<K: Keeper, N: Notes> Node<K, N> {
         ensures kept { self.new.keeper ≡ self.old.keeper }
         ensures keeps { KeepsCore (K.kept_gives self.old.keeper) self.old.state.core → KeepsCore (K.kept_gives self.new.keeper) self.new.state.core }
     {
-        if of >= self.state.plant().resources() {
-            push_refused(out, LineRefusal::NoSuchResource)?;
+        if let Some(refusal) = self.state.refusal_of_hello(of, incarnation) {
+            push_refused(out, refusal)?;
             return Ok(());
         }
-        self.note_line(line)?;
-        let newer = self.state.hear(of, incarnation);
-        let takes = takes_from_resource(self.state.plant(), self.state.resource(), of);
-        self.push_own_hello_if(newer && takes, of, out)?;
-        push_hello_answer(out, self.state.plant(), of, incarnation, newer)?;
-        Ok(())
+        if !self.state.would_hear(of, incarnation) {
+            push_hello_answer(out, self.state.plant(), of, incarnation, false)?;
+            return Ok(());
+        }
+        self.hear_news(line, of, incarnation, out)
     }
 
     /// Answers a line `RESTART`.
@@ -361,7 +430,7 @@ impl<K: Keeper, N: Notes> Node<K, N> {
         Ok(())
     }
 
-    /// Answers a line, without its line feed: notes it, does it, keeps what it left, and writes its answer behind what is there. A line that is refused, a blank one and a comment change nothing, and aren't noted. After a stop there is no answer, and the node is at its end: a line `EVAL` is noted whole, where the keeper can't keep what it left, else no more than a beginning of the line's note.
+    /// Answers a line, without its line feed: notes it, does it, keeps what it left, and writes its answer behind what is there. A line that is refused, a message that isn't taken, a hello that is no news, a blank line and a comment change nothing, and aren't noted. After a stop there is no answer, and the node is at its end: a line `EVAL` is noted whole, where the keeper can't keep what it left, else no more than a beginning of the line's note.
     #[tactic(auto, using(crate::proofs::Telling::idle_answer, crate::proofs::Telling::line_answered))]
     pub fn answer(&mut self, line: &[u8], out: &mut String) -> Result<(), NodeStop>
         requires few { self.old.state.lines < 18446744073709551615 }

@@ -28,18 +28,29 @@ impl Model for NodeCore {
     ghost invariant = { λ s. IsNodeOf s.plant.value s.resource (node_of s.core s.lines s.made) };
 }
 
-ghost use Rattle.std.specs.Prelude.{◌≡◌, ◌<◌, IfOk, IfErr, OnOk, OnErr, MatchOption, length, replicate};
-ghost use Rattle.exchange_core.specs.MessageCoreValue.{IsEvalFault};
+ghost use Rattle.std.specs.Prelude.{◌≡◌, ◌<◌, IfOk, IfErr, OnOk, OnErr, MatchOption, length, replicate, slice_index};
+ghost use Rattle.exchange_core.specs.MessageCoreValue.{held_of, is_news, IsAnswer, IsEvalFault};
 ghost use Rattle.exchange_core.specs.Openings.{AreOpeningOf};
 ghost use Rattle.live_node.specs.Keeping.{OutlivesMade, OutliveAlike};
 ghost use Rattle.live_node.specs.NodeValue.{IsStarted};
-ghost use Rattle.live_node.specs.NodeSteps.{HasTaken, HasHeardOf, HasRisen, HasMade, IsTaskRefusal, IsNotRefused, IsPlaceRefusal, is_behind};
+ghost use Rattle.live_node.specs.NodeSteps.{CanBeHeard, HasTaken, HasHeardOf, HasRisen, HasMade, IsHelloRefusal, IsTaskRefusal, IsNotRefused, IsPlaceRefusal, is_behind};
+ghost use Rattle.live_node.specs.TooHigh.{is_far, is_far_from_held, is_far_held, is_too_high};
 
 /// The incarnations in which all begin: 0 for each resource.
 fn zeros(alloc: Global, resources: usize) -> Result<Vec<u32>, AllocError>
     ensures { IfOk result (λ first. first.items ≡ replicate resources 0) }
 {
     vec![in alloc; 0u32; resources]
+}
+
+/// By how much an incarnation that is told may be above what is known of its resource.
+const MOST_ABOVE: u64 = 1_000_000;
+
+/// Whether an incarnation is above a known one by more than that.
+fn is_far(incarnation: u32, known: u32) -> bool
+    ensures { result ≡ is_far incarnation known }
+{
+    u64::from(known) + MOST_ABOVE < u64::from(incarnation)
 }
 
 impl NodeCore {
@@ -154,6 +165,59 @@ impl NodeCore {
         Ok(frame)
     }
 
+    /// The incarnation heard of a resource; 0 before the first hello.
+    fn heard_of(&self, of: usize) -> u32
+        ensures { result ≡ slice_index self.now.core.heard of }
+    {
+        self.core.heard().get(of).copied().unwrap_or(0)
+    }
+
+    /// Whether an incarnation is above that of the message held of a task by more than 1,000,000, if one is held.
+    fn is_far_held(&self, task: TaskRef, incarnation: u32) -> bool
+        ensures { result ≡ is_far_held incarnation (held_of self.now.core task) }
+    {
+        match self.core.held(task) {
+            Some(message) => is_far(incarnation, message.name().incarnation),
+            None => true,
+        }
+    }
+
+    /// Whether an incarnation of a resource is above that of each message held from it by more than 1,000,000.
+    fn is_far_from_held(&self, of: usize, incarnation: u32) -> bool
+        ensures { result ≡ is_far_from_held self.now.core of incarnation }
+    {
+        let tasks = self.plant().tasks(of).len();
+        (0..tasks).all(|task| self.is_far_held(TaskRef { resource: of, task }, incarnation))
+    }
+
+    /// Whether an incarnation of a resource is above all that is known of it by more than 1,000,000: above what was heard,
+    /// and above each message held from it.
+    pub fn is_too_high(&self, of: usize, incarnation: u32) -> bool
+        ensures { result ≡ is_too_high self.now.core of incarnation }
+    {
+        is_far(incarnation, self.heard_of(of)) && self.is_far_from_held(of, incarnation)
+    }
+
+    /// Why a hello isn't heard, the first cause.
+    pub fn refusal_of_hello(&self, of: usize, incarnation: u32) -> Option<LineRefusal>
+        ensures { MatchOption result (CanBeHeard self.now.core of incarnation) (IsHelloRefusal self.now.core of incarnation) }
+    {
+        if of >= self.plant.resources() {
+            return Some(LineRefusal::NoSuchResource);
+        }
+        if self.is_too_high(of, incarnation) {
+            return Some(LineRefusal::TooHigh);
+        }
+        None
+    }
+
+    /// What would be answered to a message.
+    pub fn would_accept(&self, message: &Message) -> Accepted
+        ensures { IsAnswer self.now.core message.now result }
+    {
+        self.core.would_accept(message)
+    }
+
     /// Takes in a message, if it is to be taken.
     pub fn accept(&mut self, message: Message) -> Accepted
         requires { self.old.lines < 18446744073709551615 }
@@ -171,6 +235,13 @@ impl NodeCore {
             Some(heard) => *heard < self.incarnation(),
             None => false,
         }
+    }
+
+    /// Whether an incarnation that is heard would be news.
+    pub fn would_hear(&self, of: usize, incarnation: u32) -> bool
+        ensures { result ≡ is_news self.now.core of incarnation }
+    {
+        self.core.would_hear(of, incarnation)
     }
 
     /// Hears that a resource is in an incarnation; whether that is news.

@@ -1,3 +1,2 @@
 mod ByOne
-mod LineTaking
 mod Turning

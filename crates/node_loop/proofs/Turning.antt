@@ -1,8 +1,6 @@
 -- Turns, one after the other.
-use Rattle.std.proofs.Common.{◌≡◌, ℕ, ◌++◌, ◌≤◌, Bool, true, false, List, [], ◌∷◌, Option, inl, inr, refl, sym, ◌∙◌, subst, append-nil}
+use Rattle.std.proofs.Common.{◌≡◌, ℕ, ◌++◌, ◌≤◌, Bool, true, false, List, [], ◌∷◌, Option, inl, inr, refl, sym, ◌∙◌, subst}
 use Rattle.std.specs.Io.KnownBytes.{Appends}
-use Rattle.text_lines.specs.Sending.{SendsPart}
-use Rattle.text_lines.proofs.Sending.{begins}
 use Rattle.live_node.specs.NodeAnswers.{Raising}
 use Rattle.live_node.specs.declared.live_stop.LiveStop.TheVariants.{Node, Read, Write, Memory}
 use Rattle.field_node.specs.declared.field_node.FieldNode.{FieldNode}
@@ -15,10 +13,6 @@ use Rattle.node_loop.specs.Turns.{Setting, Standing, IsBefore, HaveTurned, is_go
 use Rattle.node_loop.specs.Stops.{StopsBehind}
 use Rattle.node_loop.specs.Loops.{setting_of, condition_of, stands, RunsLoop, StopsLoop}
 use Rattle.node_loop.specs.Steps.Following.{Follows, Ends, HasTurned, MadeOf, NotMadeOf, Stops, IsUnwritten}
-
--- what was written whole was begun
-pub all_sent : (text : List ℕ) (old new : Option (List ℕ)) → Appends old new text → SendsPart text old new
-all_sent text old new h = begins text text [] old new (append-nil text) h
 
 -- some turns behind others
 turned_behind : (raising : Raising) (set : Setting) (ending : Ending) (first mid last : Standing) (before turns : List Turn)

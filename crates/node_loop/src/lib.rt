@@ -9,7 +9,6 @@ mod loop_stop;
 mod looping;
 mod reader;
 mod running;
-mod taken_line;
 mod told;
 mod turn_source;
 

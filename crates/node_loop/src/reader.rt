@@ -1,8 +1,8 @@
 //! What the threads of the inputs do.
 
 use crate::channels::ReaderEnd;
-use crate::taken_line::{TakenLine, take_line};
 use crate::told::Told;
+use live_node::{TakenLine, take_line};
 use std::alloc::Global;
 use std::fs::OpenFile;
 use std::io::{BufReader, Read};
@@ -42,7 +42,7 @@ fn hand_on_next<R: Wait, I: Read>(
     to: &ReaderEnd,
 ) -> Result<HandedOn, ReadFault> {
     let mut line = Vec::new(alloc);
-    let taken = take_line(input, &mut line, piece)?;
+    let taken = take_line(input, &mut line, piece, &io::sink())?;
     match told_of(taken, line) {
         (Told::End, _) => Ok(HandedOn::Nothing),
         (told, more) => Ok(if to.hand_on(rt, told) && more {

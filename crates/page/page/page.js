@@ -53,7 +53,8 @@ const EVENT_FORMS = {
   FAULT: [[/^FAULT (\w+) (\d+) (\w+)$/, (f) => ({ kind: "fault", lane: f[1], ticket: f[2], cause: f[3] })]],
   UNSHOWN: [[/^UNSHOWN (.+:(?:\d+) \w+(?: .*)?)$/, (f) => ({ kind: "unshown", told: f[1] })]],
   NOJOURNAL: [[/^NOJOURNAL (\w+)$/, (f) => ({ kind: "unshown", lane: f[1], told: "no journal" })]],
-  REPLAY: [[/^REPLAY (equal|differs)$/, (f) => ({ kind: "replay", answer: f[1] })]],
+  // Where only what is shown is equal, that is neither bad nor good.
+  REPLAY: [[/^REPLAY (of what is shown )?(equal|differs)$/, (f) => ({ kind: "replay", answer: f[1] && f[2] === "equal" ? "shown" : f[2], told: f[0] })]],
 };
 
 /** The event that a line tells, or undefined. */
@@ -1134,7 +1135,7 @@ class LanesView {
   summary() {
     const tally = new Map();
     for (const event of this.run.events) {
-      const word = event.kind === "delivery" ? `delivery ${event.answer}`.trim() : event.kind === "replay" ? `REPLAY ${event.answer}` : event.kind;
+      const word = event.kind === "delivery" ? `delivery ${event.answer}`.trim() : event.kind === "replay" ? event.told : event.kind;
       const found = tally.get(word) ?? { number: 0, first: event };
       found.number += 1;
       tally.set(word, found);
@@ -1623,7 +1624,7 @@ const LABELS = {
   unanswered: (event) => `UNANSWERED ${event.ticket}`,
   fault: (event) => `FAULT ${event.ticket} ${event.cause}`,
   unshown: (event) => (event.lane ? `NOJOURNAL ${event.lane}` : `UNSHOWN ${event.told}`),
-  replay: (event) => `REPLAY ${event.answer}`,
+  replay: (event) => event.told,
 };
 
 const ANSWER_MEANINGS = {

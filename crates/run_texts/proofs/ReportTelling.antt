@@ -10,6 +10,7 @@ use Rattle.text_lines.specs.declared.send_fault.SendFault.{SendFault}
 use Rattle.text_lines.specs.declared.send_fault.SendFault.TheVariants.{Write, Memory}
 use Rattle.text_lines.specs.Sending.{SendsPart, SendsLess}
 use Rattle.text_lines.proofs.Sending.{begins}
+use Rattle.run_texts.specs.AuditText.{last_line}
 use Rattle.run_texts.specs.ReportText.{replay_line, TellsBeginning}
 
 -- a beginning was written, and something is left
@@ -18,31 +19,37 @@ less_than_all whole sent rest old new is some appended =
     let long : length sent + length rest ≡ length whole = sym (length-append sent rest) ∙ ap length is in
     (length sent, omega arith, subst (Appends old new) (sym (ap (take (length sent)) (sym is) ∙ take-append_seam sent rest)) appended)
 
+-- the last line is never empty
+pub some_replay : 0 < length (replay_line true)
+some_replay = let long : length (replay_line true) ≡ 13 = refl in omega arith
+
+pub some_last : (shown : Bool) → 0 < length (last_line shown true)
+some_last true = some_replay
+some_last false = let long : length (last_line false true) ≡ 30 = refl in omega arith
+
 -- the lines were written in part
-pub lines_partly : (lines : List ℕ) (old new : Option (List ℕ)) (found : SendFault) → SendsPart lines old new → TellsBeginning lines old new found
-lines_partly lines old new Write part =
-    let whole : take part.0 lines ++ (drop part.0 lines ++ replay_line true) ≡ lines ++ replay_line true =
-    sym (append_assoc (take part.0 lines) (drop part.0 lines) (replay_line true)) ∙ ap (λ t. t ++ replay_line true) (take-append-drop part.0 lines) in
-    let last : length (replay_line true) ≡ 13 = refl in
-    let long = length-append (drop part.0 lines) (replay_line true) in
-    less_than_all (lines ++ replay_line true) (take part.0 lines) (drop part.0 lines ++ replay_line true) old new whole (omega arith) part.1
-lines_partly lines old new Memory part = part
+pub lines_partly : (lines last : List ℕ) (old new : Option (List ℕ)) (found : SendFault) → 0 < length last → SendsPart lines old new → TellsBeginning lines last old new found
+lines_partly lines last old new Write some part =
+    let whole : take part.0 lines ++ (drop part.0 lines ++ last) ≡ lines ++ last =
+    sym (append_assoc (take part.0 lines) (drop part.0 lines) last) ∙ ap (λ t. t ++ last) (take-append-drop part.0 lines) in
+    let long = length-append (drop part.0 lines) last in
+    less_than_all (lines ++ last) (take part.0 lines) (drop part.0 lines ++ last) old new whole (omega arith) part.1
+lines_partly lines last old new Memory some part = part
 
 -- all lines were written, and then there was no memory for the replay
-pub lines_alone : (lines : List ℕ) (old new : Option (List ℕ)) → Appends old new lines → TellsBeginning lines old new Memory
-lines_alone lines old new appended = begins lines lines [] old new (append-nil lines) appended
+pub lines_alone : (lines last : List ℕ) (old new : Option (List ℕ)) → Appends old new lines → TellsBeginning lines last old new Memory
+lines_alone lines last old new appended = begins lines lines [] old new (append-nil lines) appended
 
 -- all lines were written, and the last one in part
-pub last_partly : (lines : List ℕ) (old mid new : Option (List ℕ)) → Appends old mid lines
-    → SendsLess (replay_line true) mid new → TellsBeginning lines old new Write
-last_partly lines old mid new appended last =
-    let k = last.0 in
-    let whole : (lines ++ take k (replay_line true)) ++ drop k (replay_line true) ≡ lines ++ replay_line true =
-    append_assoc lines (take k (replay_line true)) (drop k (replay_line true)) ∙ ap (λ t. lines ++ t) (take-append-drop k (replay_line true)) in
-    let less = last.1 in
-    let left = length-drop k (replay_line true) in
-    less_than_all (lines ++ replay_line true) (lines ++ take k (replay_line true)) (drop k (replay_line true)) old new whole (omega arith)
-    (Appends-trans old mid new lines (take k (replay_line true)) appended last.2)
+pub last_partly : (lines last : List ℕ) (old mid new : Option (List ℕ)) → Appends old mid lines → SendsLess last mid new → TellsBeginning lines last old new Write
+last_partly lines last old mid new appended sent =
+    let k = sent.0 in
+    let whole : (lines ++ take k last) ++ drop k last ≡ lines ++ last =
+    append_assoc lines (take k last) (drop k last) ∙ ap (λ t. lines ++ t) (take-append-drop k last) in
+    let less = sent.1 in
+    let left = length-drop k last in
+    less_than_all (lines ++ last) (lines ++ take k last) (drop k last) old new whole (omega arith)
+    (Appends-trans old mid new lines (take k last) appended sent.2)
 
 -- the test of a fault
 pub faulty : (faults : List NodeFault) (b : Bool) → b ≡ (length faults == 0) → IsTrue (not b) ↔ (faults ≢ [])

@@ -1,5 +1,5 @@
 -- The lines of an audit.
-use Rattle.std.specs.Prelude.{◌≡◌, ◌↔◌, ℕ, ◌++◌, Bool, IsTrue, true, List, [], Option, codes, slice_get, string_bytes}
+use Rattle.std.specs.Prelude.{◌≡◌, ◌↔◌, ℕ, ◌++◌, ◌==◌, ◌&&◌, Bool, IsTrue, true, false, List, [], Option, codes, length, slice_get, string_bytes, if◌then◌else◌}
 use Rattle.std.specs.List.{flat_map}
 use Rattle.std.specs.Option.{option_map}
 use Rattle.std.specs.Fmt.{decimal}
@@ -78,13 +78,25 @@ abbrev pub audit_lines : PlantValue → List JournalFile → Audited → List �
 audit_lines plant files a =
     entry_lines plant 1 a.book.entries ++ unshown_lines plant files a.unshown.items ++ without_lines plant a.without.items
 
--- The lines of an audit were written, and `REPLAY equal` last; the answer is whether all is shown.
+-- all is shown of an audit
+abbrev pub is_all_shown : Audited → Bool
+is_all_shown a = length a.unshown.items == 0 && length a.without.items == 0
+
+-- the last line of an audit: where not all is shown, it tells that too
+abbrev pub last_line : Bool → Bool → List ℕ
+last_line true equal = replay_line equal
+last_line false equal =
+    if equal then codes "REPLAY of what is shown equal\n" else codes "REPLAY of what is shown differs\n"
+
+-- The lines of an audit were written, and last `REPLAY equal`, or, where not all is shown, `REPLAY of what is shown equal`;
+-- the answer is whether all is shown.
 pub record TellsAudit (plant : PlantValue) (files : List JournalFile) (audited : Audited) (old new : Option (List ℕ))
     (shown : Bool) : Type 0 where
-  pub appended : Appends old new (audit_lines plant files audited ++ replay_line true)
+  pub appended : Appends old new (audit_lines plant files audited ++ last_line (is_all_shown audited) true)
   pub shown_is : IsTrue shown ↔ ((audited.unshown.items ≡ []) × (audited.without.items ≡ []))
 
 -- so much was written of an audit
 abbrev pub TellsAuditPart :
     PlantValue → List JournalFile → Audited → Option (List ℕ) → Option (List ℕ) → SendFault → Type 0
-TellsAuditPart plant files audited old new fault = TellsBeginning (audit_lines plant files audited) old new fault
+TellsAuditPart plant files audited old new fault =
+    TellsBeginning (audit_lines plant files audited) (last_line (is_all_shown audited) true) old new fault

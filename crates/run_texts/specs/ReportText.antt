@@ -63,10 +63,10 @@ pub record TellsReport (plant : PlantValue) (report : Report) (old new : Option 
   pub faulty_is : IsTrue faulty ↔ (report.node_faults ≢ [])
 
 -- a beginning of these lines and the last one was written, and not all of it; for want of memory nothing of the last line
-abbrev pub TellsBeginning : List ℕ → Option (List ℕ) → Option (List ℕ) → SendFault → Type 0
-TellsBeginning lines old new sending.Write = SendsLess (lines ++ replay_line true) old new
-TellsBeginning lines old new sending.Memory = SendsPart lines old new
+abbrev pub TellsBeginning : List ℕ → List ℕ → Option (List ℕ) → Option (List ℕ) → SendFault → Type 0
+TellsBeginning lines last old new sending.Write = SendsLess (lines ++ last) old new
+TellsBeginning lines last old new sending.Memory = SendsPart lines old new
 
 -- so much was written of a report
 abbrev pub TellsPart : PlantValue → Report → Option (List ℕ) → Option (List ℕ) → SendFault → Type 0
-TellsPart plant report old new fault = TellsBeginning (report_lines plant report) old new fault
+TellsPart plant report old new fault = TellsBeginning (report_lines plant report) (replay_line true) old new fault

@@ -28,7 +28,7 @@ def try_cut(name, text, at, whole):
     # A file without a whole START is told too.
     kinds = {line.split()[2] for line in unshown if line.startswith("UNSHOWN") and (";" in text[:at] or f" {name}:" not in line)}
     is_beginning = all(shown[it] == whole[it][: len(shown[it])] for it in whole)
-    is_told = (status, last) == (3 if unshown else 0, "REPLAY equal")
+    is_told = (status, last) == ((3, "REPLAY of what is shown equal") if unshown else (0, "REPLAY equal"))
     if not (is_beginning and is_told and kinds <= {"Missing", "Waits"}):
         told.append(f"{name} cut at {at}: {status} {lines}")
 

@@ -1,4 +1,6 @@
 """Nodes of a plant by chance: what each is given to read while a medium between them loses, doubles and reorders, and their journals."""
+import re
+
 from rules.kept_files import BadFile, KeptFiles
 from rules.node import Node
 from rules.plant_text import read_plant
@@ -7,11 +9,14 @@ from .drawings import cased
 from .plants import PlantMaker, inputs
 from .slips import with_line_twice, with_other_sign, with_sign_left_out, with_sign_put_in, without_line
 
-FOREIGN = ["EVAL R9.T1 10", "HELLO R9 1", "RESTART R9", "EVAL R1.T9 10", "EVAL R2.T1 10", "RESTART R2", "HELLO R1 0", "HELLO R2 4294967295"]
+FOREIGN = ["EVAL R9.T1 10", "HELLO R9 1", "RESTART R9", "EVAL R1.T9 10", "EVAL R2.T1 10", "RESTART R2", "HELLO R1 0"]
+FOREIGN += ["HELLO R2 4294967295", "HELLO R9 4294967295", "hello R1 1_000_001", "HELLO R2 1000000"]
 NO_LINES = ["HELLO R1", "HELLO R1 x", "HELLO R1 4294967296", "RESTART R1 2", "EVAL R1.T1", "EVAL R1.T1 10 %IX0=2", "DELIVER 1 R1", "START R1 1", "x", "MESSAGE"]
 EMPTY = ["", " \t", "# a comment"]
 # Incarnations that were kept before: a node goes on from them, maybe to the last one.
-NUMBERS = ["0\n", "6\n", "999998\n", "1000000\n", "4294967293\n"]
+NUMBERS = ["0\n", "6\n", "500000\n", "999998\n", "999999\n", "1000000\n", "4294967293\n"]
+# By so much more is told of an incarnation than is so.
+RISES = [1, 2, 5, 999_999, 1_000_000, 1_000_001, 4_294_967_295]
 
 
 class Died(Exception):
@@ -131,11 +136,22 @@ class Machines:
 
     def fault(self, resource):
         """A line that is refused, or empty, or one that no node has sent."""
-        kind = self.chance.choice(["foreign", "no line", "empty", "forged", "forged", "forged"])
+        kind = self.chance.choice(["foreign", "no line", "empty", "forged", "forged", "forged", "risen", "risen"])
         sent = [it for it in self.ahead[resource] if it.startswith("MESSAGE") and not it.endswith("GIVES -")]
+        if kind == "risen":
+            return self.risen(sent)
         if kind == "forged" and sent:
             return forged(self.chance, self.chance.choice(sent))
         return self.chance.choice({"foreign": FOREIGN, "no line": NO_LINES}.get(kind, EMPTY))
+
+    def risen(self, sent):
+        """A hello or a message of an incarnation that is above what is so."""
+        chance = self.chance
+        if sent and chance.random() < 0.5:
+            return with_maker_risen(chance, chance.choice(sent))
+        of = chance.choice(self.plant.resources)
+        present = self.alive[of].node.core.incarnation if of in self.alive else 0
+        return f"HELLO {of.name} {min(present + chance.choice([-1, 0, *RISES]) if present else 1, 4_294_967_295)}"
 
 
 def forged(chance, line):
@@ -143,6 +159,14 @@ def forged(chance, line):
     behind = line.index(chance.choice([".1", ".2", "HEARD", "GIVES"])) if ".1" in line and ".2" in line else line.index("GIVES")
     at = chance.choice([at for at, sign in enumerate(line) if sign.isdigit() and at > behind and line[at - 1] in ".=-#0123456789"])
     return line[:at] + chance.choice("0123456789") + line[at + 1 :]
+
+
+def with_maker_risen(chance, line):
+    """A message whose maker has another incarnation."""
+    maker, incarnation = re.match(r"MESSAGE (\w+)\.\w+ (\d+)\.", line).groups()
+    risen = min(int(incarnation) + chance.choice(RISES), 4_294_967_295)
+    line = re.sub(r"^(MESSAGE \S+) \d+\.", rf"\1 {risen}.", line)
+    return re.sub(rf" {maker}=\d+(?= )", f" {maker}={risen}", line, count=1)
 
 
 def joined_plant(chance):
@@ -244,11 +268,11 @@ def journals(chance):
     for _ in range(chance.choice([20, 60, 120])):
         machines.happen(deaths, faults)
     left = {name: text for name, text in machines.journals.items() if first_start(text)}
-    slip = chance.choice([None, None, None, cut, cut, edited, other_evaluation, other_evaluation, "without"])
+    slip = chance.choice([None, None, None, cut, cut, edited, other_evaluation, other_evaluation, skipping, skipping, "without"])
     name = chance.choice(list(left))
     if slip == "without" and len(left) > 1:
         del left[name]
-    elif slip in (cut, edited, other_evaluation):
+    elif slip in (cut, edited, other_evaluation, skipping):
         left[name] = slip(chance, left[name])
     return {"it.plant": machines.text, **left}, [["audit", "it.plant", *shuffled(chance, left)]]
 
@@ -271,6 +295,15 @@ def edited(chance, text):
     at = first_start(text)
     slip = chance.choice([with_line_twice, with_other_sign, with_sign_left_out, with_sign_put_in, without_line])
     return text[:at] + (slip(chance, text[at:]) if len(text) > at + 1 else text[at:])
+
+
+def skipping(chance, text):
+    """From a START or RESTART on, a journal's own incarnations are greater."""
+    lines, risen = text.split("\n"), chance.choice([1, 2, 400_000, 600_000, *RISES])
+    places = [at for at, line in enumerate(lines) if re.fullmatch(r"(RE)?START \w+ \d+( .*)?;", line)]
+    for at in places[chance.randrange(len(places)) :]:
+        lines[at] = re.sub(r"^(\S+ \w+) (\d+)", lambda it: f"{it[1]} {min(int(it[2]) + risen, 4_294_967_295)}", lines[at])
+    return "\n".join(lines)
 
 
 def other_evaluation(chance, text):

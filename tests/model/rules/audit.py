@@ -2,7 +2,7 @@
 from .core import Core, Message, left_by
 from .journals import Evaluated, Hello, Restart, Start, runs_of, told_of
 
-MOST_SKIPPED = 1_000_000
+MOST_ABOVE = 1_000_000
 
 
 class Stop(Exception):
@@ -36,6 +36,13 @@ class Journal:
     def is_whole(self):
         return self.at == len(self.lines)
 
+    def go_on(self):
+        """Follows the lines as far as it can; whether it could follow one."""
+        at = self.at
+        while self.go():
+            pass
+        return self.at > at
+
     def go(self):
         """Follows the next line; whether it could."""
         if self.is_whole or self.told:
@@ -67,7 +74,7 @@ class Journal:
     def rise(self, item):
         if item.incarnation <= self.incarnation:
             raise Stop(f"NotRisen {item.incarnation}")
-        if item.incarnation > self.incarnation + MOST_SKIPPED:
+        if item.incarnation > self.incarnation + MOST_ABOVE:
             raise Stop(f"TooHigh {item.incarnation}")
         if isinstance(item, Start):
             self.core = self.core or Core(self.plant, self.resource, item.kept)
@@ -109,7 +116,7 @@ class Audit:
         runs = [run for _, those in parted for run in those]
         self.empty = [path for path, those in parted if not those]
         self.journals = [Journal(plant, it, runs, self) for it in plant.resources]
-        while any([it.go() for it in self.journals]):
+        while any([it.go_on() for it in self.journals]):
             pass
 
     def journal_of(self, resource):
@@ -136,7 +143,7 @@ class Audit:
                 yield f"UNSHOWN {line.path}:{line.number} {told}"
         yield from (f"UNSHOWN {path}:1 Syntax" for path in self.empty)
         yield from (f"NOJOURNAL {it.resource.name}" for it in self.journals if not it.lines)
-        yield "REPLAY equal"
+        yield "REPLAY equal" if self.is_whole else "REPLAY of what is shown equal"
 
     @property
     def is_whole(self):

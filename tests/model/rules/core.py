@@ -70,6 +70,10 @@ class Core:
         if self.is_news(of, incarnation):
             self.heard[of.place] = incarnation
 
+    def known(self, of):
+        """The greatest incarnation of a resource of which a hello or a message that is held has told; 0 where none has."""
+        return max([self.heard[of.place], *(it.name[0] for task, it in self.last.items() if task.resource is of)])
+
     def answer_to(self, message):
         if message.task.resource is self.resource or not takes_from(self.resource, message.task):
             return "unused"

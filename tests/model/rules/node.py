@@ -10,10 +10,27 @@ from .run import pair, takes_from
 from . import words
 
 MOST_BYTES = 16_777_216
+# What is told of an incarnation further above the one that is known isn't believed.
+MOST_ABOVE = 1_000_000
 
 
 class Refused(Exception):
     """A line that changes nothing, with its kind."""
+
+
+class Told:
+    """What a line does that tells of an incarnation of a resource: done where that isn't too high for what is known by then."""
+
+    def __init__(self, core, resource, incarnation, do):
+        self.core, self.resource, self.incarnation, self.do = core, resource, incarnation, do
+
+    def is_too_high(self):
+        return self.incarnation > self.core.known(self.resource) + MOST_ABOVE
+
+    def __call__(self):
+        if self.is_too_high():
+            raise Refused("TooHigh")
+        return self.do()
 
 
 class NoFiles:
@@ -69,9 +86,10 @@ class Node:
         parts = parts_of(line)
         message, hello, event = message_of(self.plant, line), hello_of(self.plant, parts), evaluate_of(parts)
         if message:
-            return partial(self.accept, line, message)
+            return Told(self.core, message.task.resource, message.name[0], partial(self.accept, line, message))
         if hello:
-            return partial(self.hear, line, self.known(hello))
+            of = self.known(hello)
+            return Told(self.core, of, hello.incarnation, partial(self.hear, line, of, hello.incarnation))
         if event:
             return partial(self.evaluate, line, self.own_task(event), event)
         if len(parts) == 2 and words.fold(parts[0]) == "RESTART" and words.is_plain_name(parts[1]):
@@ -82,7 +100,7 @@ class Node:
     def known(self, hello):
         if not hello.resource:
             raise Refused("NoSuchResource")
-        return hello
+        return hello.resource
 
     def named(self, name):
         resource = find(self.plant.resources, name)
@@ -102,19 +120,23 @@ class Node:
         return task
 
     def accept(self, line, message):
-        self.note(line)
+        """Only a message that is taken changes anything, and is noted."""
         answer, at = self.core.answer_to(message), self.resource.place
-        self.core.accept(message)
+        if answer == "taken":
+            self.note(line)
+            self.core.accept(message)
         is_behind = answer == "stray" and message.heard[at] < self.core.incarnation
         sent = [self.greeting(message.task.resource)] if is_behind else []
         return [*sent, f"MESSAGE {message.task.full_name} {pair(message.name)} {answer}"]
 
-    def hear(self, line, hello):
-        self.note(line)
-        is_new = self.core.is_news(hello.resource, hello.incarnation)
-        self.core.hear(hello.resource, hello.incarnation)
-        sent = [self.greeting(hello.resource)] if is_new and feeds(hello.resource, self.resource) else []
-        return [*sent, f"HELLO {hello.resource.name} {hello.incarnation} {'new' if is_new else 'old'}"]
+    def hear(self, line, of, incarnation):
+        """Only a hello that is news is noted."""
+        is_new = self.core.is_news(of, incarnation)
+        if is_new:
+            self.note(line)
+            self.core.hear(of, incarnation)
+        sent = [self.greeting(of)] if is_new and feeds(of, self.resource) else []
+        return [*sent, f"HELLO {of.name} {incarnation} {'new' if is_new else 'old'}"]
 
     def evaluate(self, line, task, event):
         self.note(line)

@@ -24,7 +24,7 @@ use Rattle.live_node.specs.declared.live_stop.LiveStop.TheVariants.{Read, Write,
 use Rattle.live_node.specs.NodeAnswers.{Raising, AnswersAsked}
 use Rattle.live_node.specs.LiveNode.{AnswersLine}
 use Rattle.live_node.specs.Stops.{IsNotedAsked}
-use Rattle.live_node.specs.Steps.LineTaking.{TakesLine}
+use Rattle.live_node.specs.TakenLines.{TakesLine}
 
 -- The resource was restarted in this incarnation; the note stands behind what was noted, and what is written behind
 -- what was written.

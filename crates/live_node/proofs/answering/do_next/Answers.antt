@@ -10,9 +10,10 @@ use Rattle.live_node.specs.declared.live_stop.LiveStop.TheVariants.{Node}
 use Rattle.live_node.specs.NodeAnswers.{a_keeper_gives, IsAnswered}
 use Rattle.live_node.specs.Stops.{NotesUnanswered, StopsWithin}
 use Rattle.live_node.specs.Steps.Answering.{stop_of}
-use Rattle.live_node.specs.Steps.LineTaking.{Takes}
-use Rattle.live_node.proofs.NextAnswered.{answered_by_one, next_answered}
-use Rattle.live_node.proofs.Stopping.{unanswered_by_one, stops_unread, stops_unanswered, stops_unwritten, stops_too_long}
+use Rattle.live_node.specs.Steps.ByOne.{answered_by_one, unanswered_by_one}
+use Rattle.live_node.specs.TakenLines.{Takes}
+use Rattle.live_node.proofs.NextAnswered.{next_answered}
+use Rattle.live_node.proofs.Stopping.{stops_unread, stops_unanswered, stops_unwritten, stops_too_long}
 use Rattle.text_lines.proofs.Sending.{on_err}
 use Rattle.live_node.specs.Keeping.{KeepsAllButOne, KeepsCore}
 use Rattle.live_node.proofs.Outliving.{all_but_one, same_failure}

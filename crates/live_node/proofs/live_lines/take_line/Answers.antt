@@ -1,7 +1,7 @@
 use Rattle.std.proofs.Common.{subst}
 use Rattle.text_lines.specs.Lines.{Gives}
 use Rattle.lists.proofs.Results.{kept_fault}
-use Rattle.live_node.specs.Steps.LineTaking.{TakesWithin}
+use Rattle.live_node.specs.TakenLines.{TakesWithin}
 use Rattle.live_node.proofs.LineTaking.{begins_more, within_some, fault_behind}
 use Rattle.live_node.proofs.live_lines.take_line.Goals as goal
 

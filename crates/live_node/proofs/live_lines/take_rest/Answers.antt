@@ -1,7 +1,8 @@
 use Rattle.std.proofs.Common.{true, false, ◌++◌, sym, subst}
 use Rattle.std.proofs.KnownBytes.{Consumes-trans}
 use Rattle.text_lines.specs.Lines.{Gives}
-use Rattle.live_node.specs.Steps.LineTaking.{HasPut, TakesWithin}
+use Rattle.live_node.specs.Steps.LineTaking.{HasPut}
+use Rattle.live_node.specs.TakenLines.{TakesWithin}
 use Rattle.lists.proofs.Results.{kept_fault}
 use Rattle.live_node.proofs.LineTaking.{plain_both, begins_more, within_some, within_given, held_more, held_within, rest_taken, fed_end, whole_end, last_end}
 use Rattle.live_node.proofs.live_lines.take_rest.Goals as goal

@@ -7,7 +7,8 @@ use Rattle.live_node.specs.NodeAnswers.{keeper_gives}
 use Rattle.live_node.specs.NodeSteps.{HasMade}
 use Rattle.live_node.specs.NodeValue.{NodeValue}
 use Rattle.live_node.proofs.Telling.{evaluated_answer}
-use Rattle.live_node.proofs.Stopping.{all_sent, none_unevaluated, part_unevaluated, unkept}
+use Rattle.live_node.specs.Steps.Sent.{all_sent}
+use Rattle.live_node.proofs.Stopping.{none_unevaluated, part_unevaluated, unkept}
 use Rattle.live_node.proofs.Outliving.{all_but_one, unchanged_rest, evaluated_keeps, evaluated_rest, made_rest}
 use Rattle.live_node.proofs.node.Node.answer_evaluate.Goals as goal
 

@@ -1,7 +1,7 @@
 -- What was noted is the whole note of the restart.
 use Rattle.std.proofs.Common.{rules}
 use Rattle.text_lines.proofs.Sending.{on_err}
-use Rattle.live_node.proofs.Stopping.{all_sent}
+use Rattle.live_node.specs.Steps.Sent.{all_sent}
 use Rattle.live_node.proofs.node.Node.rise.Goals as goal
 
 pub returns-in_err-push_risen-clause-part : goal.returns-in_err-push_risen-clause-part
