@@ -4,6 +4,7 @@
 mod audit_command;
 mod clashes;
 mod journal_head;
+mod new_beside;
 mod node_command;
 mod run_command;
 mod running_alone;
