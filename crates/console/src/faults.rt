@@ -3,9 +3,8 @@ ghost use Rattle.console.specs.Giving.{command_fault};
 ghost use Rattle.console.specs.Statuses.{status_of_fault, status_of_inputs, status_of_lines, status_of_schedule};
 
 use crate::command_fault::CommandFault;
-use crate::refusals::{DifferenceLine, NoEvent, Refusal};
+use crate::refusals::{DifferenceLine, NoEvent, Refusal, RefusedWord, WordRefusal};
 use crate::remarks::{print_mark_of, print_remark};
-use crate::shown::Shown;
 use crate::status::{DIFFERS, FAILED, TEXT_REFUSED, WORD_REFUSED};
 use evaluation::InputFault;
 use guidance::{help_with, help_with_a_schedule, help_with_a_word};
@@ -40,6 +39,14 @@ fn print_text_fault<R: Eprint + AllocGlobal>(
     Ok(TEXT_REFUSED)
 }
 
+/// Tells why words are refused; the status.
+pub fn print_word_refusal<R: Eprint>(rt: &R, refusal: WordRefusal<'_>) -> io::Result<u8>
+    ensures { IfOk result (λ status. status ≡ 2) }
+{
+    eprintln!(rt; "{refusal}")?;
+    Ok(WORD_REFUSED)
+}
+
 /// Tells the fault of a word by its number, and where no variable has that name the nearest ones; the status.
 pub(crate) fn print_fault_of_word<R: Eprint + AllocGlobal, F: Display + Drop>(
     rt: &R,
@@ -52,8 +59,8 @@ pub(crate) fn print_fault_of_word<R: Eprint + AllocGlobal, F: Display + Drop>(
     ensures { IfOk result (λ status. status ≡ 2) }
 {
     let word = words.get(number).copied().unwrap_or("");
-    let shown = Shown(word);
-    eprintln!(rt; "plc: {shown}: {fault}")?;
+    let refused = RefusedWord { word, fault };
+    eprintln!(rt; "{refused}")?;
     if is_unknown {
         print_help(rt, help_with_a_word(rt.alloc(), text, word));
     }
@@ -135,14 +142,8 @@ pub(crate) fn print_input_fault<R: Eprint>(rt: &R, fault: InputFault) -> io::Res
     ensures { IfOk result (λ status. status ≡ status_of_inputs fault) }
 {
     match fault {
-        InputFault::Syntax => {
-            eprintln!(rt; "plc: a word is no ADDRESS=VALUE such as %IX0=1 or %IW2=-7")?;
-            Ok(WORD_REFUSED)
-        }
-        InputFault::Twice => {
-            eprintln!(rt; "plc: two words give one address its value")?;
-            Ok(WORD_REFUSED)
-        }
+        InputFault::Syntax => print_word_refusal(rt, WordRefusal::NoFieldInput),
+        InputFault::Twice => print_word_refusal(rt, WordRefusal::AddressTwice),
         InputFault::Memory => print_failure(rt, CommandFault::Memory),
     }
 }

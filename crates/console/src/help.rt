@@ -287,10 +287,10 @@ is no memory left.";
 
 /// What `plc explain --help` tells behind the words.
 pub const EXPLAIN_HELP: &str = "\
-KIND is the kind of a fault as the first line of a message tells it, in either case: Crossing in drawing.ladder:3:14: Crossing;
-or that of a line REFUSED, FAULT or UNSHOWN, of a run without a report, or of a file of a folder of state. What is wrong and
-how it is mended is written, of a text with an example. A kind that is met in several places is told for each of them.
-Without KIND all kinds are listed, with where they are met.
+KIND is the kind of a fault or a warning as the first line of a message tells it, in either case: Crossing in
+drawing.ladder:3:14: Crossing; or that of a line REFUSED, FAULT or UNSHOWN, of a run without a report, or of a file of a
+folder of state. What is wrong and how it is mended is written, of a text with an example. A kind that is met in several
+places is told for each of them. Without KIND all kinds are listed, with where they are met.
 
 Example:
 

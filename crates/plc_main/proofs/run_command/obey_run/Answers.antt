@@ -1,6 +1,6 @@
 -- What is told is what was asked for.
 use Rattle.std.proofs.lemmas.Result.{IfOk-weaker}
-use Rattle.plc_main.proofs.obey_run.Goals as goal
+use Rattle.plc_main.proofs.run_command.obey_run.Goals as goal
 
 pub returns-clause-ok : goal.returns-clause-ok
 returns-clause-ok g c = IfOk-weaker c.run_text.result _ _ (λ ran told. record {

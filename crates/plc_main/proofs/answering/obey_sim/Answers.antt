@@ -1,5 +1,5 @@
 use Rattle.std.proofs.lemmas.Result.{IfOk-weaker}
-use Rattle.plc_main.proofs.obey_sim.Goals as goal
+use Rattle.plc_main.proofs.answering.obey_sim.Goals as goal
 
 pub returns : goal.returns
 returns g c =

@@ -1,7 +1,7 @@
 use Rattle.std.proofs.Common.{ap, inl, refl, sym, ◌∙◌}
 use Rattle.std.proofs.lemmas.Result.{IfOk-weaker}
 use Rattle.plc_main.specs.Clashes.{first_clash}
-use Rattle.plc_main.proofs.obey_apart.Goals as goal
+use Rattle.plc_main.proofs.answering.obey_apart.Goals as goal
 
 pub returns-in-Some : goal.returns-in-Some
 returns-in-Some g c =
