@@ -9,7 +9,7 @@ from .traces import trace_words
 
 TIMERS, COUNTERS = ("TP", "TON", "TOF"), ("CTU", "CTD", "CTUD")
 CONTACTS = ["| |"] * 5 + ["|/|"] * 3 + ["|P|", "|N|", "|p|", "|n|"]
-COMMENTS = ["(* pump 1 *)"] * 3 + ["(**)", "   (* A | B ( ) *)  ", "(* C *) A", "(* A *) (* B *)", "(*)", "(* a", "\t(* b *)", "|(* c *)", "// d"]
+COMMENTS = ["(* pump 1 *)"] * 3 + ["(**)", "(* Größe ½ *)", "   (* A | B ( ) *)  ", "(* C *) A", "(* A *) (* B *)", "(*)", "(* a", "\t(* b *)", "|(* c *)", "// d"]
 COILS = ["( )"] * 4 + ["(/)", "(S)", "(R)", "(P)", "(N)", "(s)", "(r)"]
 
 
