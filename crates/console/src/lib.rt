@@ -46,6 +46,5 @@ pub use request::{
     TextRequest, TraceFiles, VerifyRequest, View,
 };
 pub use schedules::{answer_schedule, obey_lines, obey_schedule};
-pub use shown::Shown;
-pub use status::{FAILED, WORD_REFUSED};
+pub use status::FAILED;
 pub use verify_answer::{answer_verify, obey_verify};
