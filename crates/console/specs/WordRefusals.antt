@@ -10,13 +10,12 @@ name_refused name why = codes "plc: " ++ shown name ++ codes ": " ++ why
 
 -- a file is read, and would be written for an option
 abbrev pub written_over : List ℕ → List ℕ → List ℕ
-written_over path option =
-    codes "plc: " ++ shown path ++ codes ": this file is read: give another name to " ++ option
+written_over path option = name_refused path (codes "this file is read: give another name to ") ++ option
 
 -- a file is written for an option, and would be for another one
 abbrev pub written_twice : List ℕ → List ℕ → List ℕ → List ℕ
 written_twice path first option =
-    codes "plc: " ++ shown path ++ codes ": this file is written for " ++ first ++ codes ": give another name to " ++ option
+    name_refused path (codes "this file is written for ") ++ (first ++ codes ": give another name to " ++ option)
 
 -- the line on each
 abbrev pub word_refusal : WordRefusal → List ℕ

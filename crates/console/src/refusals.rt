@@ -258,15 +258,20 @@ pub enum WordRefusal<'a> {
     },
 }
 
+/// Writes a word, and why it is refused.
+fn write_named<W: fmt::Write>(f: &mut Formatter<W>, name: &str, why: &str) -> fmt::Result
+    ensures { DisplaysOnOk W.write_str_gives f.old result (Some (name_refused name.now why.now)) f.new }
+{
+    let name = Shown(name);
+    write!(f, "plc: {name}: {why}")
+}
+
 /// Writes that a file would be written over.
 fn write_written_over<W: fmt::Write>(f: &mut Formatter<W>, path: &str, option: &str) -> fmt::Result
     ensures { DisplaysOnOk W.write_str_gives f.old result (Some (written_over path.now option.now)) f.new }
 {
-    let path = Shown(path);
-    write!(
-        f,
-        "plc: {path}: this file is read: give another name to {option}"
-    )
+    write_named(f, path, "this file is read: give another name to ")?;
+    f.write_str(option)
 }
 
 /// Writes that a file would be written twice.
@@ -278,19 +283,8 @@ fn write_written_twice<W: fmt::Write>(
 ) -> fmt::Result
     ensures { DisplaysOnOk W.write_str_gives f.old result (Some (written_twice path.now first.now option.now)) f.new }
 {
-    let path = Shown(path);
-    write!(
-        f,
-        "plc: {path}: this file is written for {first}: give another name to {option}"
-    )
-}
-
-/// Writes a word, and why it is refused.
-fn write_named<W: fmt::Write>(f: &mut Formatter<W>, name: &str, why: &str) -> fmt::Result
-    ensures { DisplaysOnOk W.write_str_gives f.old result (Some (name_refused name.now why.now)) f.new }
-{
-    let name = Shown(name);
-    write!(f, "plc: {name}: {why}")
+    write_named(f, path, "this file is written for ")?;
+    write!(f, "{first}: give another name to {option}")
 }
 
 /// Writes the line on words that are refused.
