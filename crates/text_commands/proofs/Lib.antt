@@ -1,6 +1,9 @@
 pub mod VariableLines
 pub mod Scanning
 pub mod WordRows
+pub mod SeriesValues
+pub mod SeriesWords
+pub mod SettingWords
 pub mod Explaining
 pub mod Counting
 pub mod PlanExplaining

@@ -1,14 +1,14 @@
 use Rattle.lists.proofs.Results.{kept_fault}
 use Rattle.text_commands.specs.Rows.{texts}
 use Rattle.text_commands.specs.EvalText.{Explains}
-use Rattle.text_commands.proofs.WordRows.{all_bool}
+use Rattle.text_commands.proofs.SettingWords.{settings_of_variables}
 use Rattle.text_commands.proofs.Explaining.{all_written, explain_rows, part_written}
 use Rattle.text_commands.proofs.eval_command.eval.Goals as goal
 
-pub write_scans-requires : goal.write_scans-requires
-write_scans-requires g c =
+pub write_scans-requires-clause-rows : goal.write_scans-requires-clause-rows
+write_scans-requires-clause-rows g c =
     let read = rw (c.declarations.ensures.list, ← c.deref.ensures.value) at c.in_ok-rows.ensures.ok in
-    all_bool c.in_ok-ladder.ladder.declarations (texts c.args.words.now) c.deref.result.now read
+    settings_of_variables c.in_ok-ladder.ladder.declarations (texts c.args.words.now) c.deref.result.now read
 
 pub returns-in_err-rows-clause-fault : goal.returns-in_err-rows-clause-fault
 returns-in_err-rows-clause-fault g c =
