@@ -1,4 +1,4 @@
-ghost use Rattle.std.specs.Prelude.{◌≡◌, ⊥, All, Some, IfOk, MatchOption, slice_get, string_bytes};
+ghost use Rattle.std.specs.Prelude.{◌≡◌, ◌+◌, ◌<◌, ◌^◌, All, Some, IfOk, MatchOption, slice_get, string_bytes};
 ghost use Rattle.std_blocks.specs.declared.value.Value.{Value as Held};
 ghost use Rattle.declared_names.specs.declared.declarations.Declaration.{Declaration};
 ghost use Rattle.text_commands.specs.Series.{IsOfVariable};
@@ -60,7 +60,8 @@ fn difference_at(
     k: usize,
     state: &State,
 ) -> Result<Option<Difference>, AllocError>
-    requires { All (IsOfVariable declarations.now) expected.now }
+    requires declared { All (IsOfVariable declarations.now) expected.now }
+    requires counted { k + 1 < 2 ^ 64 }
     ensures { IfOk result (IsFoundAt declarations.now expected.now k state.now.slots) }
 {
     let Some((place, value, wanted)) = first_other(expected, k, state) else {
@@ -84,7 +85,8 @@ pub(crate) fn found_after(
     k: usize,
     state: &State,
 ) -> Result<Option<Difference>, AllocError>
-    requires { All (IsOfVariable declarations.now) expected.now }
+    requires declared { All (IsOfVariable declarations.now) expected.now }
+    requires counted { k + 1 < 2 ^ 64 }
     ensures { IfOk result (GoesOn declarations.now expected.now k state.now.slots found) }
 {
     match found {
