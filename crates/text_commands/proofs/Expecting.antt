@@ -76,14 +76,14 @@ found_still ds expected k slots difference states long found =
 
 -- where nothing was found before, that is found which is found after this scan
 pub found_now : (ds : List Declaration) (expected : List SeriesValue) (k : ℕ) (slots : List Slot) (found : Option Difference) → IsFoundAt ds expected k slots found → GoesOn ds expected k slots None found
-found_now ds expected k slots None here states long before j other lt at = elim (cases_lt j (length states)) [
+found_now ds expected k slots None here = λ states long before j other lt at. elim (cases_lt j (length states)) [
   | inl early ↦ before j other early (at_before states slots other j early at)
   | inr late ↦ (let more = length-append states (slots ∷ []) in
       let same : j ≡ k = omega arith in
       let now : slice_get (states ++ slots ∷ []) k ≡ Some other = subst (λ i. slice_get (states ++ slots ∷ []) i ≡ Some other) same at in
       subst₂ (λ i s. AgreesAt expected i s) (sym same) (at_last states slots other k long now) here)
 ]
-found_now ds expected k slots (Some difference) here states long before = record {
+found_now ds expected k slots (Some difference) here = λ states long before. record {
   k = k;
   slots = slots;
   at = subst (λ n. slice_get (states ++ slots ∷ []) n ≡ Some slots) long (last_at states slots);

@@ -6,7 +6,7 @@ use Rattle.std.proofs.lemmas.List.Elements.{All-append, All-map}
 use Rattle.std.proofs.lemmas.Bool.{cases_lt}
 use Rattle.std.proofs.lemmas.Option.{slice_get-get_or, slice_get_within, get_or_from_slice_get, same_Some}
 use Rattle.std.specs.Borrow.{Bor}
-use Rattle.std.specs.Prelude.{All, Any, Some, slice_get}
+use Rattle.std.specs.Prelude.{All, Any, Some, Result, Ok, Err, IfErr, slice_get}
 use Rattle.std.specs.List.{AllZip}
 use Rattle.lists.proofs.Zips.{zip_at, zip_back, zip_length, zip_push}
 use Rattle.std_blocks.specs.declared.value.Value.{Value}
@@ -86,7 +86,7 @@ same_kind ds name p q k l one other =
     let place = one_place ds name p q k l one other in
     let at = subst (λ i. slice_get ds i ≡ Some one.1.0) place one.1.1 in
     let here = same_Some one.1.0 other.1.0 (sym at ∙ other.1.1) in
-    one_kind other.1.0 k l (subst (λ (e : Declaration). IsVariable e.declared k) here one.1.2) other.1.2
+    one_kind other.1.0.declared k l (subst (λ (e : Declaration). IsVariable e.declared k) here one.1.2) other.1.2
 
 not_bad : (k : Kind) (ds : List Declaration) (name text : List ℕ) (series : SeriesValue) → IsBad k ds name text → IsSeries ds name text series → ⊥
 not_bad k ds name text series bad is =
@@ -168,11 +168,11 @@ said_kind kind.Int text once says = subst (All (λ value. kind_of value ≡ kind
 said_kind kind.Time text once says = subst (All (λ value. kind_of value ≡ kind.Time)) (sym says.2) (one_of kind.Time (TimeValue says.0) refl)
 
 repeated_kind : (k : Kind) (times : ℕ) (once : List Value) → All (λ value. kind_of value ≡ k) once → All (λ value. kind_of value ≡ k) (repeated times once)
-repeated_kind k zero once all j d lt = absurd (omega arith)
+repeated_kind k zero once all = λ j d lt. absurd (omega arith)
 repeated_kind k (suc n) once all = All-append (λ (value : Value). kind_of value ≡ k) once (repeated n once) all (repeated_kind k n once all)
 
 given_kind : (k : Kind) (parts : List (List ℕ)) (items : List ItemValue) → AllZip (IsItem k) parts items → All (λ value. kind_of value ≡ k) (given_by items)
-given_kind k [] [] each j d lt = absurd (omega arith)
+given_kind k [] [] each = λ j d lt. absurd (omega arith)
 given_kind k [] (item ∷ items) each = absurd each
 given_kind k (part ∷ parts) [] each = absurd each
 given_kind k (part ∷ parts) (item ∷ items) each =
@@ -187,3 +187,15 @@ pub settings_of_variables : (ds : List Declaration) (words : List (List ℕ)) (s
 settings_of_variables ds words series read k d lt =
     let found = zip_back (IsSetting ds) words series read.each k (get_or series k d) (slice_get-get_or series k d lt) in
     series_of_variable ds (name_in found.0) (digits_in found.0) (get_or series k d) found.2.1
+
+refused_as : (R Q : WordFaultKind → Type 0) (number : ℕ) (fault : TextCommandFault) → ((kind : WordFaultKind) → R kind → Q kind) → RefusesWord R number fault → RefusesWord Q number fault
+refused_as R Q number (Text f) more refused = refused
+refused_as R Q number (Word f) more refused = (refused.0, more f.kind refused.1)
+refused_as R Q number Write more refused = refused
+refused_as R Q number Memory more refused = refused
+
+-- what is refused for one cause is refused for another that follows from it
+pub refused_result : {T : Type 0} (R Q : WordFaultKind → Type 0) (number : ℕ) (r : Result T TextCommandFault) → ((kind : WordFaultKind) → R kind → Q kind) → IfErr r (RefusesWord R number)
+    → IfErr r (RefusesWord Q number)
+refused_result R Q number (Ok x) more refused = tt
+refused_result R Q number (Err fault) more refused = refused_as R Q number fault more refused

@@ -42,17 +42,17 @@ returns-in_err-write_text-clause-stopped g c =
     (stopped_within _ _ _ _ _ states _ _ _ _ _ _ few trace line c.loop-k.invariant.appended c.in_err-write_text.ensures.prefix)
 
 pub found_after-requires-clause-declared : write_scans_goals.found_after-requires-clause-declared
-found_after-requires-clause-declared g c = rw c.declarations-2.ensures.list c.requires.expected
+found_after-requires-clause-declared g c = rw c.declarations-in-loop-k.ensures.list c.requires.expected
 
-pub returns-in_err-found_after-clause-stopped : write_scans_goals.returns-in_err-found_after-clause-stopped
-returns-in_err-found_after-clause-stopped g c =
+pub returns-in_err-found-clause-stopped : write_scans_goals.returns-in_err-found-clause-stopped
+returns-in_err-found-clause-stopped g c =
     let states = c.loop-k.invariant.states in
     let long = one_state_more states c.scan.new.state.slots c.loop-k.k c.loop-k.invariant.long in
     let few : length (states ++ c.scan.new.state.slots ∷ []) ≤ c.args.scans = omega arith in
     let line : c.as_str.result.now ≡ line_of c.args.ladder.now.declarations c.scan.new.state.slots =
     c.as_str.ensures.value ∙ c.in_ok-line.ensures ∙ ap (λ ds. line_of ds c.scan.new.state.slots) c.declarations.ensures.list in
     let trace = scan_more _ _ _ _ _ states c.loop-k.state c.set_rows.new.state c.scan.new.state c.loop-k.invariant.trace c.loop-k.invariant.long c.set_rows.ensures.slots c.scan.ensures.meaning in
-    kept_fault Memory (λ fault. StopsScans c.args.ladder.now.declarations c.args.ladder.now.networks c.args.dt c.args.rows.now c.args.scans fault _ _) _ c.from_residual-in_err-found_after.ensures.1
+    kept_fault Memory (λ fault. StopsScans c.args.ladder.now.declarations c.args.ladder.now.networks c.args.dt c.args.rows.now c.args.scans fault _ _) _ c.from_residual-in_err-found.ensures.1
     (stopped_behind _ _ _ _ _ _ _ _ _ _ few trace (rw (lines_more _ states c.scan.new.state.slots _ line) (Appends-trans _ _ _ _ _ c.loop-k.invariant.appended c.in_ok-write_text.ensures.whole)))
 
 pub loop-k-preserved : write_scans_goals.loop-k-preserved
@@ -60,7 +60,7 @@ loop-k-preserved g c =
     let states = c.loop-k.invariant.states in
     let line : c.as_str.result.now ≡ line_of c.args.ladder.now.declarations c.scan.new.state.slots =
     c.as_str.ensures.value ∙ c.in_ok-line.ensures ∙ ap (λ ds. line_of ds c.scan.new.state.slots) c.declarations.ensures.list in
-    let goes = rw c.declarations-2.ensures.list at c.in_ok-found_after.ensures in
+    let goes = rw c.declarations-in-loop-k.ensures.list at c.in_ok-found.ensures in
     record {
       fits = c.scan.ensures.fits;
       states = states ++ c.scan.new.state.slots ∷ [];

@@ -49,10 +49,10 @@ returns-in_err-write_text-clause-stopped g c =
     (shown_within _ _ _ _ _ _ _ _ _ _ _ _ _ _ _ few shown c.loop-k.invariant.appended c.in_err-write_text.ensures.prefix)
 
 pub found_after-requires-clause-declared : write_drawings_goals.found_after-requires-clause-declared
-found_after-requires-clause-declared g c = rw (c.deref-2.ensures.value, c.declarations.ensures.list) c.requires.expected
+found_after-requires-clause-declared g c = rw (c.deref-in-loop-k.ensures.value, c.declarations.ensures.list) c.requires.expected
 
-pub returns-in_err-found_after-clause-stopped : write_drawings_goals.returns-in_err-found_after-clause-stopped
-returns-in_err-found_after-clause-stopped g c =
+pub returns-in_err-found-clause-stopped : write_drawings_goals.returns-in_err-found-clause-stopped
+returns-in_err-found-clause-stopped g c =
     let states = c.loop-k.invariant.states in
     let long = one_state_more states c.shown_scan.new.state.slots c.loop-k.k c.loop-k.invariant.long in
     let few : length (states ++ c.shown_scan.new.state.slots ∷ []) ≤ c.args.scans = omega arith in
@@ -60,7 +60,7 @@ returns-in_err-found_after-clause-stopped g c =
     let set = rw c.deref.ensures.value at c.set_rows.ensures.slots in
     let shown = shown_more c.args.drawing.now c.args.color c.args.ladder.now c.args.dt c.args.test.now.rows.items c.loop-k.k states c.loop-k.state c.set_rows.new.state c.shown_scan.new.state c.loop-k.invariant.text _
     c.loop-k.invariant.shown c.loop-k.invariant.long set text in
-    kept_fault Memory (λ fault. StopsShown c.args.drawing.now c.args.color c.args.ladder.now.declarations c.args.ladder.now.networks c.args.dt c.args.test.now.rows.items c.args.scans fault _ _) _ c.from_residual-in_err-found_after.ensures.1
+    kept_fault Memory (λ fault. StopsShown c.args.drawing.now c.args.color c.args.ladder.now.declarations c.args.ladder.now.networks c.args.dt c.args.test.now.rows.items c.args.scans fault _ _) _ c.from_residual-in_err-found.ensures.1
     (shown_behind _ _ _ _ _ _ _ _ _ _ _ _ _ few shown (Appends-trans _ _ _ _ _ c.loop-k.invariant.appended c.in_ok-write_text.ensures.whole))
 
 pub loop-k-preserved : write_drawings_goals.loop-k-preserved
@@ -68,7 +68,7 @@ loop-k-preserved g c =
     let states = c.loop-k.invariant.states in
     let text = subst (IsShownScan c.args.drawing.now c.args.color c.args.ladder.now c.args.dt c.set_rows.new.state c.shown_scan.new.state) (sym c.as_str.ensures.value) c.in_ok-text.ensures.shown in
     let set = rw c.deref.ensures.value at c.set_rows.ensures.slots in
-    let goes = rw (c.deref-2.ensures.value, c.declarations.ensures.list) at c.in_ok-found_after.ensures in
+    let goes = rw (c.deref-in-loop-k.ensures.value, c.declarations.ensures.list) at c.in_ok-found.ensures in
     record {
       fits = c.in_ok-text.ensures.fits;
       states = states ++ c.shown_scan.new.state.slots ∷ [];

@@ -23,7 +23,7 @@ write_scans-requires-clause-rows g c =
 pub write_scans-requires-clause-expected : eval_test_goals.write_scans-requires-clause-expected
 write_scans-requires-clause-expected g c =
     let read = rw c.declarations.ensures.list at c.in_ok-test.ensures.ok in
-    rw c.deref-2.ensures.value (expected_declared c.in_ok-ladder.ladder.declarations (texts c.args.words.now) c.in_ok-test.test.rows.items c.in_ok-test.test.expected.items read)
+    rw c.deref-in-Rows.ensures.value (expected_declared c.in_ok-ladder.ladder.declarations (texts c.args.words.now) c.in_ok-test.test.rows.items c.in_ok-test.test.expected.items read)
 
 pub returns-in_err-write_scans-in-Rows-clause-fault : eval_test_goals.returns-in_err-write_scans-in-Rows-clause-fault
 returns-in_err-write_scans-in-Rows-clause-fault g c =
@@ -36,7 +36,7 @@ returns-in_err-write_scans-in-Rows-clause-fault g c =
 pub returns-in-Rows-clause-ok : eval_test_goals.returns-in-Rows-clause-ok
 returns-in-Rows-clause-ok g c =
     let read = rw c.declarations.ensures.list at c.in_ok-test.ensures.ok in
-    let written = rw (c.deref.ensures.value, c.deref-2.ensures.value) at c.in_ok-write_scans-in-Rows.ensures.ok in
+    let written = rw (c.deref.ensures.value, c.deref-in-Rows.ensures.value) at c.in_ok-write_scans-in-Rows.ensures.ok in
     rows_written c.args.drawing.now (texts c.args.words.now) c.args.dt c.args.form _ _ c.in_ok-ladder.ladder.declarations c.in_ok-ladder.ladder.networks c.in_ok-test.test.rows.items c.in_ok-test.test.expected.items c.test_scan_count-scans.result _
     c.in-Rows.is c.test_scan_count-scans.ensures c.in_ok-ladder.ensures.ok read written
 
@@ -73,21 +73,21 @@ trace_test-requires-clause-expected g c =
     let read = rw c.declarations.ensures.list at c.in_ok-test.ensures.ok in
     expected_declared c.in_ok-ladder.ladder.declarations (texts c.args.words.now) c.in_ok-test.test.rows.items c.in_ok-test.test.expected.items read
 
-pub returns-in_err-text-clause-fault : eval_test_goals.returns-in_err-text-clause-fault
-returns-in_err-text-clause-fault g c =
-    kept_fault Memory (ExplainsTest c.args.drawing.now (texts c.args.words.now) c.args.dt c.args.form _ _) _ c.from_residual-in_err-text.ensures.1 (inl (Keeps-refl _))
+pub returns-in_err-text-in-Chart-clause-fault : eval_test_goals.returns-in_err-text-in-Chart-clause-fault
+returns-in_err-text-in-Chart-clause-fault g c =
+    kept_fault Memory (ExplainsTest c.args.drawing.now (texts c.args.words.now) c.args.dt c.args.form _ _) _ c.from_residual-in_err-text-in-Chart.ensures.1 (inl (Keeps-refl _))
 
-pub returns-in_err-write_text-clause-fault : eval_test_goals.returns-in_err-write_text-clause-fault
-returns-in_err-write_text-clause-fault g c =
+pub returns-in_err-write_text-in-Chart-clause-fault : eval_test_goals.returns-in_err-write_text-in-Chart-clause-fault
+returns-in_err-write_text-in-Chart-clause-fault g c =
     let read = rw c.declarations.ensures.list at c.in_ok-test.ensures.ok in
-    let less = rw c.as_str.ensures.value at c.in_err-write_text.ensures.prefix in
-    kept_fault Write (ExplainsTest c.args.drawing.now (texts c.args.words.now) c.args.dt c.args.form _ _) _ c.from_residual-in_err-write_text.ensures.1
+    let less = rw c.as_str.ensures.value at c.in_err-write_text-in-Chart.ensures.prefix in
+    kept_fault Write (ExplainsTest c.args.drawing.now (texts c.args.words.now) c.args.dt c.args.form _ _) _ c.from_residual-in_err-write_text-in-Chart.ensures.1
     (test_cut c.args.drawing.now (texts c.args.words.now) c.args.dt c.args.form _ _ c.in_ok-ladder.ladder.declarations c.in_ok-ladder.ladder.networks c.in_ok-test.test.rows.items c.in_ok-test.test.expected.items
-    (string_bytes c.in_ok-text.text) c.in_ok-text.found c.in_ok-ladder.ensures.ok read c.in_ok-text.ensures less)
+    (string_bytes c.in_ok-text-in-Chart.text) c.in_ok-text-in-Chart.found c.in_ok-ladder.ensures.ok read c.in_ok-text-in-Chart.ensures less)
 
-pub returns-clause-ok : eval_test_goals.returns-clause-ok
-returns-clause-ok g c =
+pub returns-in-Chart-clause-ok : eval_test_goals.returns-in-Chart-clause-ok
+returns-in-Chart-clause-ok g c =
     let read = rw c.declarations.ensures.list at c.in_ok-test.ensures.ok in
-    let whole = rw c.as_str.ensures.value at c.in_ok-write_text.ensures.whole in
+    let whole = rw c.as_str.ensures.value at c.in_ok-write_text-in-Chart.ensures.whole in
     test_written c.args.drawing.now (texts c.args.words.now) c.args.dt c.args.form _ _ c.in_ok-ladder.ladder.declarations c.in_ok-ladder.ladder.networks c.in_ok-test.test.rows.items c.in_ok-test.test.expected.items
-    (string_bytes c.in_ok-text.text) c.in_ok-text.found c.in_ok-ladder.ensures.ok read c.in_ok-text.ensures whole
+    (string_bytes c.in_ok-text-in-Chart.text) c.in_ok-text-in-Chart.found c.in_ok-ladder.ensures.ok read c.in_ok-text-in-Chart.ensures whole
