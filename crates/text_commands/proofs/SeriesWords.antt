@@ -55,6 +55,13 @@ one_giving k (part ∷ parts) (x ∷ xs) (y ∷ ys) one other =
     let times = one_count part x.times y.times one.0.times other.0.times in
     ap₂ (λ a b. a ++ b) (ap₂ repeated times once) (one_giving k parts xs ys one.1 other.1)
 
+-- where the items that a text spells give too many values it spells no items
+pub too_many : (k : Kind) (text : List ℕ) (parts : List (List ℕ)) (items others : List ItemValue) → parts ≡ slice_split is_comma text → AllZip (IsItem k) parts items
+    → (length (given_by items) ≤ 1000000 → ⊥) → AreItems k text others → ⊥
+too_many k text parts items others same mine many are =
+    let each = subst (λ l. AllZip (IsItem k) l others) (sym same) are.each in
+    many (subst (λ l. length l ≤ 1000000) (one_giving k parts others items each mine) are.few)
+
 -- values of the kind are wrong
 pub bad_refused : (k : Kind) (ds : List Declaration) (name text : List ℕ) → IsBad k ds name text → IsRefusedSeries ds [] name text (bad_values k)
 bad_refused kind.Bool ds name text bad = bad
