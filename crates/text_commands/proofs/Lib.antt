@@ -10,6 +10,7 @@ pub mod PlanExplaining
 pub mod PlantRefusing
 pub mod Tracing
 pub mod Drawing
+pub mod DrawnText
 pub mod Showing
 pub mod Charting
 pub mod Expecting
