@@ -8,7 +8,7 @@ use Rattle.std.proofs.lemmas.Option.{slice_get-get_or, slice_get_within, get_or_
 use Rattle.std.specs.Borrow.{Bor}
 use Rattle.std.specs.Prelude.{All, Any, Some, Result, Ok, Err, IfErr, slice_get}
 use Rattle.std.specs.List.{AllZip}
-use Rattle.lists.proofs.Zips.{zip_at, zip_back, zip_length, zip_push}
+use Rattle.lists.proofs.Zips.{zip_at, zip_back, zip_push}
 use Rattle.std_blocks.specs.declared.value.Value.{Value}
 use Rattle.std_blocks.specs.declared.value.Value.TheVariants.{Int as IntValue, Time as TimeValue}
 use Rattle.declared_names.specs.declared.declarations.Declaration.{Declaration}
@@ -23,7 +23,7 @@ use Rattle.text_commands.specs.declared.word_fault.WordFaultKind.{WordFaultKind}
 use Rattle.text_commands.specs.declared.word_fault.WordFaultKind.TheVariants.{NoVariable, BadDigits, BadNumbers, BadDurations, Twice}
 use Rattle.text_commands.specs.declared.text_command_fault.TextCommandFault.{TextCommandFault}
 use Rattle.text_commands.specs.declared.text_command_fault.TextCommandFault.TheVariants.{Text, Word, Write, Memory}
-use Rattle.text_commands.specs.Rows.{HasEquals, name_in, digits_in, texts}
+use Rattle.text_commands.specs.Rows.{name_in, digits_in, texts}
 use Rattle.text_commands.specs.Series.{ItemValue, SeriesValue, AreItems, AreOfDistinct, IsBad, IsFirstRefusedSetting, IsItem, IsNamed, IsOfVariable, IsRefusedSeries, IsRefusedSetting, IsSeries, IsSetting, Says, SpellSettings, SpellNoSettings, bit_of, given_by, repeated}
 use Rattle.text_commands.specs.Steps.Testing.{IsNewPlace, RefusesSet, RefusesWord}
 use Rattle.text_commands.proofs.WordRows.{word_at}

@@ -9,6 +9,7 @@ mod eval_command;
 mod expectations;
 mod form;
 mod item;
+mod items;
 mod line;
 mod live_drawing;
 mod once;

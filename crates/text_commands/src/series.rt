@@ -1,12 +1,10 @@
-ghost use Rattle.std.specs.Prelude.{◌≡◌, ◌≤◌, ◌↔◌, ℕ, List, [], IsTrue, IfOk, MatchOption, MatchResult, length, slice_get};
+ghost use Rattle.std.specs.Prelude.{◌≡◌, ℕ, [], IfOk, MatchOption, MatchResult, length, slice_get};
 ghost use Rattle.declared_names.specs.declared.declarations.Kind.{Kind as OfKind};
 ghost use Rattle.name_faults.specs.BindFaults.{IsVariable};
-ghost use Rattle.std.specs.List.{slice_split, AllZip};
-ghost use Rattle.text_commands.specs.Rows.{texts};
 ghost use Rattle.text_commands.specs.Steps.Series.{bad_values};
-ghost use Rattle.text_commands.specs.Series.{ItemValue, AreItems, IsItem, IsNamed, IsSeries, IsRefusedSeries, given_by, is_comma};
+ghost use Rattle.text_commands.specs.Series.{IsNamed, IsSeries, IsRefusedSeries};
 
-use crate::item::{Item, MOST_VALUES, read_item};
+use crate::items::{Items, read_items};
 use crate::word_fault::WordFaultKind;
 use declared_names::{Declarations, Declared, Kind};
 use std::alloc::{AllocError, Global};
@@ -17,47 +15,16 @@ use std_blocks::Value;
 #[derive(Debug, Drop)]
 pub struct Series<'a> {
     place: usize,
-    items: Vec<Item<'a>>,
+    items: Items<'a>,
 }
 
 impl<'a> Model for Series<'a> {
     ghost use Rattle.text_commands.specs.Series.{SeriesValue};
-    ghost use Rattle.std.specs.Prelude.{◌≤◌, length};
-    ghost use Rattle.text_commands.specs.Series.{given_by};
     ghost use Rattle.text_commands.specs.Steps.Series.{series_value};
 
     ghost Value = { SeriesValue };
 
-    ghost view = { λ s. series_value s.place s.items.items };
-
-    ghost invariant = { λ s. length (given_by s.items.items) ≤ 1000000 };
-}
-
-/// How many values items give.
-fn count_in(items: &[Item<'_>]) -> usize
-    requires { length (given_by items.now) ≤ 1000000 }
-    ensures { result ≡ length (given_by items.now) }
-{
-    let mut count = 0;
-    for item in items {
-        count += item.len();
-    }
-    count
-}
-
-/// The value that items give at a place, counted from 0.
-fn value_in(items: &[Item<'_>], place: usize) -> Option<Value>
-    ensures { result ≡ slice_get (given_by items.now) place }
-{
-    let mut left = place;
-    for item in items {
-        let long = item.len();
-        if left < long {
-            return item.value(left);
-        }
-        left -= long;
-    }
-    None
+    ghost view = { λ s. series_value s.place s.items };
 }
 
 impl<'a> Series<'a> {
@@ -72,14 +39,14 @@ impl<'a> Series<'a> {
     pub fn len(&self) -> usize
         ensures { result ≡ length self.now.values }
     {
-        count_in(&self.items)
+        self.items.len()
     }
 
     /// The value for scan k, counted from 0.
     pub fn value(&self, k: usize) -> Option<Value>
         ensures { result ≡ slice_get self.now.values k }
     {
-        value_in(&self.items, k)
+        self.items.value(k)
     }
 }
 
@@ -102,70 +69,6 @@ fn named(declarations: &Declarations, name: &str) -> Option<(usize, Kind)>
     let (_, declared) = declarations.entry(place)?;
     let kind = variable_kind(declared)?;
     Some((place, kind))
-}
-
-/// What stands between the commas of a text.
-fn parts_of(alloc: Global, text: &str) -> Result<Vec<&str>, AllocError>
-    ensures { IfOk result (λ parts. texts parts.items ≡ slice_split is_comma text.now) }
-{
-    let mut parts = Vec::new(alloc);
-    for part in text.split(',') {
-        parts.push(part)?;
-    }
-    Ok(parts)
-}
-
-/// The items that the parts are, if each is one of the kind.
-fn items_of<'a>(
-    alloc: Global,
-    kind: Kind,
-    parts: &[&'a str],
-) -> Result<Option<Vec<Item<'a>>>, AllocError>
-    ensures { IfOk result (λ read. MatchOption read ((items : List ItemValue) → AllZip (IsItem kind) (texts parts.now) items → ⊥)
-        (λ items. AllZip (IsItem kind) (texts parts.now) items.items)) }
-{
-    let mut items = Vec::new(alloc);
-    for part in parts {
-        let Some(item) = read_item(kind, part) else {
-            return Ok(None);
-        };
-        items.push(item)?;
-    }
-    Ok(Some(items))
-}
-
-/// Whether items give at most 1,000,000 values.
-fn are_few(items: &[Item<'_>]) -> bool
-    ensures { IsTrue result ↔ (length (given_by items.now) ≤ 1000000) }
-{
-    let mut room = MOST_VALUES as usize;
-    for item in items {
-        let long = item.len();
-        if long > room {
-            return false;
-        }
-        room -= long;
-    }
-    true
-}
-
-/// The items of VALUES, if each is one of the kind, and they give at most 1,000,000 values.
-fn read_items<'a>(
-    alloc: Global,
-    kind: Kind,
-    text: &'a str,
-) -> Result<Option<Vec<Item<'a>>>, AllocError>
-    ensures { IfOk result (λ read. MatchOption read ((items : List ItemValue) → AreItems kind text.now items → ⊥)
-        (λ items. AreItems kind text.now items.items)) }
-{
-    let parts = parts_of(alloc, text)?;
-    let Some(items) = items_of(alloc, kind, &parts)? else {
-        return Ok(None);
-    };
-    if !are_few(&items) {
-        return Ok(None);
-    }
-    Ok(Some(items))
 }
 
 /// The refusal of values that aren't those of a kind.

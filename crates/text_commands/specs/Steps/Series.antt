@@ -1,5 +1,5 @@
 -- How items and series show themselves.
-use Rattle.std.specs.Prelude.{ℕ, ◌<◌, ◌≤◌, List, [], ◌∷◌, length, map}
+use Rattle.std.specs.Prelude.{◌≡◌, ℕ, ◌+◌, ◌<◌, ◌≤◌, List, [], ◌∷◌, length, map, take, slice_index}
 use Rattle.declared_names.specs.declared.declarations.Kind.{Kind}
 use Rattle.declared_names.specs.declared.declarations.Kind.TheVariants as kind
 use Rattle.text_commands.specs.declared.word_fault.WordFaultKind.{WordFaultKind}
@@ -30,6 +30,12 @@ IsOften times = (0 < times) × (times ≤ 1000000)
 -- what an item's parts keep to
 abbrev pub IsBounded : ItemValue → Type 0
 IsBounded item = IsShort item.once × IsOften item.times
+
+-- how many values items give up to the end of each: at most 1,000,000 in all
+pub record AreEnds (items : List ItemValue) (ends : List ℕ) : Type 0 where
+  pub long : length ends ≡ length items
+  pub each : (i : ℕ) → i < length items → slice_index ends i ≡ length (given_by (take (i + 1) items))
+  pub few : length (given_by items) ≤ 1000000
 
 -- how values of a kind are refused
 abbrev pub bad_values : Kind → WordFaultKind

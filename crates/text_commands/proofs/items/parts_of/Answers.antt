@@ -1,7 +1,7 @@
 use Rattle.std.proofs.Common.{◌∙◌, arith}
 use Rattle.std.proofs.lemmas.Iterator.Splits.{YieldsList-from_str_split}
 use Rattle.std.proofs.lemmas.Iterator.Consumers.{YieldsList-end}
-use Rattle.text_commands.proofs.series.parts_of.Goals as goal
+use Rattle.text_commands.proofs.items.parts_of.Goals as goal
 
 pub returns : goal.returns
 returns c =

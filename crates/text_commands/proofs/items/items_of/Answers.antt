@@ -1,9 +1,9 @@
-use Rattle.std.proofs.Common.{◌≡◌, ◌+◌, take, sym, subst}
+use Rattle.std.proofs.Common.{◌+◌, take, sym, subst}
 use Rattle.std.specs.List.{AllZip}
 use Rattle.text_commands.specs.Rows.{texts}
 use Rattle.text_commands.specs.Series.{IsItem}
 use Rattle.text_commands.proofs.SeriesWords.{no_item, one_item}
-use Rattle.text_commands.proofs.series.items_of.Goals as goal
+use Rattle.text_commands.proofs.items.items_of.Goals as goal
 
 pub returns-in_default : goal.returns-in_default
 returns-in_default c = no_item c.args.kind c.args.parts.now c.loop-part.part-index _ c.loop-part-test.true c.in_default.ensures
