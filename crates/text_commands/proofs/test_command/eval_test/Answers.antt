@@ -85,8 +85,8 @@ returns-in_err-write_text-in-Chart-clause-fault g c =
     (test_cut c.args.drawing.now (texts c.args.words.now) c.args.dt c.args.form _ _ c.in_ok-ladder.ladder.declarations c.in_ok-ladder.ladder.networks c.in_ok-test.test.rows.items c.in_ok-test.test.expected.items
     (string_bytes c.in_ok-text-in-Chart.text) c.in_ok-text-in-Chart.found c.in_ok-ladder.ensures.ok read c.in_ok-text-in-Chart.ensures less)
 
-pub returns-in-Chart-clause-ok : eval_test_goals.returns-in-Chart-clause-ok
-returns-in-Chart-clause-ok g c =
+pub returns-clause-ok : eval_test_goals.returns-clause-ok
+returns-clause-ok g c =
     let read = rw c.declarations.ensures.list at c.in_ok-test.ensures.ok in
     let whole = rw c.as_str.ensures.value at c.in_ok-write_text-in-Chart.ensures.whole in
     test_written c.args.drawing.now (texts c.args.words.now) c.args.dt c.args.form _ _ c.in_ok-ladder.ladder.declarations c.in_ok-ladder.ladder.networks c.in_ok-test.test.rows.items c.in_ok-test.test.expected.items
