@@ -12,7 +12,7 @@ use Rattle.scan_steps.specs.declared.slot.Slot.{Slot}
 use Rattle.power_flow.specs.StateValue.{StateValue}
 use Rattle.text_commands.specs.declared.difference.Difference.{Difference}
 use Rattle.text_commands.specs.Series.{SeriesValue, IsOfVariable}
-use Rattle.text_commands.specs.TestText.{AgreesAt, AgreesBefore, IsDifferenceAt, IsFirstDifference, IsFirstOther, IsOtherAt, IsOutcome}
+use Rattle.text_commands.specs.TestText.{AgreesAt, AgreesBefore, IsFirstOther, IsOtherAt}
 use Rattle.text_commands.specs.Steps.Testing.{GoesOn, IsFoundAt, slots_of}
 
 -- one variable more is as expected

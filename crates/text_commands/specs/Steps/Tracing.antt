@@ -1,5 +1,5 @@
 -- What the parts of a traced test give.
-use Rattle.std.specs.Prelude.{◌≡◌, ℕ, List, length}
+use Rattle.std.specs.Prelude.{ℕ, List, length}
 use Rattle.network.specs.Links.{Diagram}
 use Rattle.declared_names.specs.declared.declarations.Declaration.{Declaration}
 use Rattle.traces.specs.declared.texts.Wanted.{Wanted}

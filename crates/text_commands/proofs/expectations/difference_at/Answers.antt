@@ -1,4 +1,3 @@
-use Rattle.std.proofs.Common.{refl}
 use Rattle.text_commands.proofs.Expecting.{other_declared}
 use Rattle.text_commands.proofs.expectations.difference_at.Goals as goal
 

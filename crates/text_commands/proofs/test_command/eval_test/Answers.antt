@@ -1,4 +1,4 @@
-use Rattle.std.proofs.Common.{◌≡◌, inl, length, sym, ◌∙◌, string_bytes, arith}
+use Rattle.std.proofs.Common.{inl, string_bytes}
 use Rattle.std.proofs.KnownBytes.{Keeps-refl}
 use Rattle.lists.proofs.Results.{kept_fault}
 use Rattle.text_commands.specs.declared.text_command_fault.TextCommandFault.TheVariants.{Memory, Write}
