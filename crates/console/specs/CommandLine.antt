@@ -154,7 +154,7 @@ shown_app =
     let dt = with_rule (with_rule (new_app (codes "eval")) drawing_rule) dt_rule in
     with_rule (with_rule (with_rule dt show_rule) chart_rule) color_rule
 
--- .. `[--vcd FILE] [--svg FILE] [--strict] [--no-warnings] [NAME=BITS]..`
+-- .. `[--vcd FILE] [--svg FILE] [--strict] [--no-warnings] [NAME=VALUES]..`
 abbrev pub eval_app : App
 eval_app = with_rule (warned (traced shown_app)) words_rule
 
@@ -264,7 +264,7 @@ GivesOption (Some text) (Some n) = IsNumber text × (n ≡ digits_value 10 text)
 abbrev pub given_word : Text → List Row → List ℕ
 given_word id found = unwrap_or (first_of id found) []
 
--- the words NAME=BITS, NAME==BITS, NAME=BIT or ADDRESS=VALUE in what was found
+-- the words NAME=VALUES, NAME==VALUES, NAME=BIT or ADDRESS=VALUE in what was found
 abbrev pub words_given : List Row → List Text
 words_given found = unwrap_or (all_of (codes "words") found) []
 
@@ -409,7 +409,7 @@ strictness_of (Eval drawing dt view color files strictness words) = strictness
 strictness_of (Check plant strictness) = strictness
 strictness_of (Plan plant until) = Silent
 
--- the words NAME=BITS and NAME==BITS
+-- the words NAME=VALUES and NAME==VALUES
 abbrev pub words_in : TextRequest → List (List ℕ)
 words_in (Eval drawing dt view color files strictness words) = map (λ w. w.now) words.items
 words_in (Check plant strictness) = []

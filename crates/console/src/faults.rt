@@ -12,7 +12,7 @@ use mistakes::more_with;
 use std::alloc::AllocError;
 use std::fmt::Display;
 use std::io;
-use text_commands::{Difference, TextCommandFault, TextFault, WordFaultKind};
+use text_commands::{Difference, TextCommandFault, TextFault, WordFault, WordFaultKind};
 use world::{LiveFault, SimFault};
 
 /// Tells what helps to mend a text. The fault was told before: what can't be told here is left out.
@@ -67,6 +67,38 @@ pub(crate) fn print_fault_of_word<R: Eprint + AllocGlobal, F: Display + Drop>(
     Ok(WORD_REFUSED)
 }
 
+/// Tells why a word NAME=VALUES or NAME==VALUES is refused; of an INT or a TIME how its values are written. The status.
+fn print_refused_word<R: Eprint + AllocGlobal>(
+    rt: &R,
+    text: &str,
+    words: &[&str],
+    fault: WordFault,
+) -> io::Result<u8>
+    ensures { IfOk result (λ status. status ≡ 2) }
+{
+    let word = words.get(fault.number).copied().unwrap_or("");
+    let shown = Shown(word);
+    let name = Shown(word.split('=').next().unwrap_or(word));
+    match fault.kind {
+        WordFaultKind::BadNumbers => {
+            let form = "an INT: numbers parted by commas";
+            eprintln!(rt; "plc: {shown}: {name} is {form}, as {name}=3,4,4")?;
+            Ok(WORD_REFUSED)
+        }
+        WordFaultKind::BadDurations => {
+            let form = "a TIME: durations parted by commas";
+            eprintln!(rt; "plc: {shown}: {name} is {form}, as {name}=T#5s,T#7s")?;
+            Ok(WORD_REFUSED)
+        }
+        WordFaultKind::NoVariable => {
+            print_fault_of_word(rt, text, words, fault.number, true, fault)
+        }
+        WordFaultKind::BadDigits | WordFaultKind::Twice => {
+            print_fault_of_word(rt, text, words, fault.number, false, fault)
+        }
+    }
+}
+
 /// Tells that the output failed, or the threads, or memory; the status.
 pub fn print_failure<R: Eprint>(rt: &R, fault: CommandFault) -> io::Result<u8>
     ensures { IfOk result (λ status. status ≡ 3) }
@@ -97,10 +129,7 @@ pub fn print_fault<R: Eprint + AllocGlobal>(
 {
     match fault {
         CommandFault::Text(fault) => print_text_fault(rt, file, text, fault),
-        CommandFault::Word(fault) => {
-            let is_unknown = fault.kind == WordFaultKind::NoVariable;
-            print_fault_of_word(rt, text, words, fault.number, is_unknown, fault)
-        }
+        CommandFault::Word(fault) => print_refused_word(rt, text, words, fault),
         CommandFault::Write | CommandFault::Run(_) | CommandFault::Memory => {
             print_failure(rt, fault)
         }

@@ -2,8 +2,9 @@
 
 ghost use Rattle.std.specs.Prelude.{◌≡◌, ◌++◌, Some, codes};
 ghost use Rattle.std.specs.Fmt.{DisplaysOnOk};
-ghost use Rattle.console.specs.Refusals.{at_line, at_place, bit_text, difference_line, difference_text, kind_of_body, kind_of_drawing, kind_of_names, kind_of_networks, kind_of_plant, no_event, refusal_of, shown};
 ghost use Rattle.std.specs.Option.{option_map};
+ghost use Rattle.text_lines.specs.LineParts.{value_text};
+ghost use Rattle.console.specs.Refusals.{at_line, at_place, difference_line, difference_text, kind_of_body, kind_of_drawing, kind_of_names, kind_of_networks, kind_of_plant, no_event, refusal_of, shown};
 ghost use Rattle.console.specs.WordRefusals.{name_refused, word_refusal, written_over, written_twice};
 
 use crate::shown::Shown;
@@ -13,6 +14,7 @@ use network::GraphFaultKind;
 use plant::{BodyFault, PlantFault, PlantFaultKind};
 use std::fmt;
 use std::fmt::{Display, Formatter};
+use std_blocks::Value;
 use text_commands::{Difference, TextFault};
 
 /// The name of the kind of a drawing's fault.
@@ -181,11 +183,21 @@ impl Display for NoEvent<'_> {
     }
 }
 
-/// A BOOL as a digit.
-fn bit_text(value: bool) -> &'static str
-    ensures { result.now ≡ bit_text value }
-{
-    if value { "1" } else { "0" }
+/// A value as a line has it.
+#[derive(Clone, Copy)]
+struct ShownValue(Value);
+
+impl Display for ShownValue {
+    ghost output = { λ v. Some (value_text v.0) };
+
+    fn fmt<W: fmt::Write>(&self, f: &mut Formatter<W>) -> fmt::Result {
+        match self.0 {
+            Value::Bool(true) => f.write_str("1"),
+            Value::Bool(false) => f.write_str("0"),
+            Value::Int(number) => write!(f, "{number}"),
+            Value::Time(milliseconds) => write!(f, "T#{milliseconds}ms"),
+        }
+    }
 }
 
 /// Writes that a variable isn't what the words expect.
@@ -194,13 +206,15 @@ fn write_difference<W: fmt::Write>(
     file: &str,
     name: &str,
     scan: usize,
-    value: bool,
+    value: Value,
+    expected: Value,
 ) -> fmt::Result
-    ensures { DisplaysOnOk W.write_str_gives f.old result (Some (difference_text file.now name.now scan value)) f.new }
+    ensures { DisplaysOnOk W.write_str_gives f.old result
+        (Some (difference_text file.now name.now scan value expected)) f.new }
 {
-    let (file, is, other) = (Shown(file), bit_text(value), bit_text(!value));
+    let (file, is, wanted) = (Shown(file), ShownValue(value), ShownValue(expected));
     write!(f, "{file}: {name} is {is} after ")?;
-    write!(f, "scan {scan}, expected {other}")
+    write!(f, "scan {scan}, expected {wanted}")
 }
 
 /// Writes the line on a variable that isn't what the words expect.
@@ -211,8 +225,8 @@ pub fn write_difference_line<W: fmt::Write>(
 ) -> fmt::Result
     ensures { DisplaysOnOk W.write_str_gives f.old result (Some (difference_line file.now difference.now)) f.new }
 {
-    let Difference { name, scan, value } = difference;
-    write_difference(f, file, name.as_str(), *scan, *value)
+    let name = difference.name.as_str();
+    write_difference(f, file, name, difference.scan, difference.value, difference.expected)
 }
 
 /// The line on a variable that isn't what the words expect.
