@@ -226,7 +226,14 @@ pub fn write_difference_line<W: fmt::Write>(
     ensures { DisplaysOnOk W.write_str_gives f.old result (Some (difference_line file.now difference.now)) f.new }
 {
     let name = difference.name.as_str();
-    write_difference(f, file, name, difference.scan, difference.value, difference.expected)
+    write_difference(
+        f,
+        file,
+        name,
+        difference.scan,
+        difference.value,
+        difference.expected,
+    )
 }
 
 /// The line on a variable that isn't what the words expect.
