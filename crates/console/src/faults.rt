@@ -5,6 +5,7 @@ ghost use Rattle.console.specs.Statuses.{status_of_fault, status_of_inputs, stat
 use crate::command_fault::CommandFault;
 use crate::refusals::{DifferenceLine, NoEvent, Refusal, RefusedWord, WordRefusal};
 use crate::remarks::{print_mark_of, print_remark};
+use crate::shown::Shown;
 use crate::status::{DIFFERS, FAILED, TEXT_REFUSED, WORD_REFUSED};
 use evaluation::InputFault;
 use guidance::{help_with, help_with_a_schedule, help_with_a_word};
