@@ -19,7 +19,8 @@ use Rattle.audit.specs.declared.reason.Reason.TheVariants as reason
 use Rattle.audit.specs.declared.reason.Unshown.{Unshown}
 use Rattle.audit.specs.declared.standing.Standing.{Standing}
 use Rattle.audit.specs.declared.standing.Standing.TheVariants.{Going, Ended}
-use Rattle.audit.specs.Reasons.{Course, present_of, IsOver, MayBeIn, HasNotCome, Needs, maker_in, incarnation_of, IsReason}
+use Rattle.std.specs.Prelude.{sum}
+use Rattle.audit.specs.Reasons.{Course, present_of, skipped_in, IsTooHigh, IsOver, MayBeIn, HasNotCome, Needs, maker_in, incarnation_of, IsReason}
 use Rattle.audit.specs.Told.{IsTold, IsShown, AreShown, AreToldBy, if_none, without_lines, all_without}
 use Rattle.audit.specs.Steps.Standings.{AuditedBook, journal_in, AreFrom}
 use Rattle.audit.specs.Steps.Following.{IsLed, WouldNeed, IsStop, IsTried, IsFollowed}
@@ -28,7 +29,7 @@ use Rattle.audit.specs.declared.journal_file.JournalFile.{JournalFile}
 use Rattle.audit.specs.declared.reading.Readings.{Readings}
 use Rattle.audit.specs.Readings.{AreReadings}
 use Rattle.audit.specs.declared.auditing.Audited.{Audited}
-use Rattle.audit.proofs.GoingOn.{lines_of, journals_in, present_at}
+use Rattle.audit.proofs.GoingOn.{lines_of, journals_in, present_at, all_skipped}
 
 -- what is shown of a resource at its place among all
 course_at : (fs : List Follower) (n : ℕ) (maker : Option Follower) → slice_get fs n ≡ maker → slice_get (courses_of fs) n ≡ option_map course_of maker
@@ -65,27 +66,31 @@ reason_for book all s item need (reason.Missing n) is h =
 reason_for book all s item need (reason.Misfit misfit) is h = absurd is
 
 -- a line that can't be done, whatever others do
-stop_reason : (book : BookValue) (all : List Course) (s : StationValue) (item : Item) (why : Reason) → IsStop book s item why → IsReason book all s item why
-stop_reason book all s item reason.Syntax h = h
-stop_reason book all s item (reason.NotRisen i) h = h
-stop_reason book all s item (reason.TooHigh i) h = h
-stop_reason book all s item reason.Kept h = h
-stop_reason book all s item (reason.Differs name) h = h
-stop_reason book all s item (reason.Unmade name) h = absurd h
-stop_reason book all s item (reason.Waits need) h = absurd h
-stop_reason book all s item (reason.Missing need) h = absurd h
-stop_reason book all s item (reason.Misfit misfit) h = h
+stop_reason : (b : AuditedBook) (all : List Course) (s : StationValue) (item : Item) (why : Reason) → sum b.skips ≡ skipped_in (map (λ (c : Course). c.journal) all) → IsStop b s item why → IsReason b.book all s item why
+stop_reason b all s item reason.Syntax skips h = h
+stop_reason b all s item (reason.NotRisen i) skips h = h
+stop_reason b all s item (reason.TooHigh i) skips h = (h.0, subst (λ n. IsTooHigh n s item i) skips h.1)
+stop_reason b all s item reason.Kept skips h = h
+stop_reason b all s item (reason.Differs name) skips h = h
+stop_reason b all s item (reason.Unmade name) skips h = absurd h
+stop_reason b all s item (reason.Waits need) skips h = absurd h
+stop_reason b all s item (reason.Missing need) skips h = absurd h
+stop_reason b all s item (reason.Misfit misfit) skips h = h
+
+-- as many incarnations are skipped as is shown of all
+skips_shown : (b : AuditedBook) (fs : List Follower) → AreFrom b 0 fs → length b.skips ≡ length fs → sum b.skips ≡ skipped_in (map (λ (c : Course). c.journal) (courses_of fs))
+skips_shown b fs stand many = all_skipped b fs stand many ∙ ap skipped_in (sym (map-map (λ (c : Course). c.journal) course_of fs))
 
 -- the next line was tried, and why it can't be done is told
-pub told_stop : (b : AuditedBook) (fs : List Follower) (f : Follower) (line : Line) (why : Reason) → slice_get f.lines.items f.trail.at ≡ Some line → f.trail.last ≡ Stops why → IsToldOf b fs f (record { place = line.place; reason = why } ∷ [])
-told_stop b fs f line why at last = λ s tried.
-    let so : IsTried b.book s (Some line) (Stops why) = subst (λ l. IsTried b.book s (Some line) l) last (subst (λ l. IsTried b.book s l f.trail.last) at tried) in
-    subst (λ l. IsTold b.book (courses_of fs) l s (record { place = line.place; reason = why } ∷ [])) (sym at) (why, refl, stop_reason b.book (courses_of fs) s line.item why so)
+pub told_stop : (b : AuditedBook) (fs : List Follower) (f : Follower) (line : Line) (why : Reason) → AreFrom b 0 fs → length b.skips ≡ length fs → slice_get f.lines.items f.trail.at ≡ Some line → f.trail.last ≡ Stops why → IsToldOf b fs f (record { place = line.place; reason = why } ∷ [])
+told_stop b fs f line why stand many at last = λ s tried.
+    let so : IsTried b s (Some line) (Stops why) = subst (λ l. IsTried b s (Some line) l) last (subst (λ l. IsTried b s l f.trail.last) at tried) in
+    subst (λ l. IsTold b.book (courses_of fs) l s (record { place = line.place; reason = why } ∷ [])) (sym at) (why, refl, stop_reason b (courses_of fs) s line.item why (skips_shown b fs stand many) so)
 
 pub told_need : (b : AuditedBook) (fs : List Follower) (f : Follower) (line : Line) (need : Need) (why : Reason) → AreFrom b 0 fs → slice_get f.lines.items f.trail.at ≡ Some line → f.trail.last ≡ Waits need → IsUnmet b need
     → IsReasonFor (maker_in (courses_of fs) need) need why → IsToldOf b fs f (record { place = line.place; reason = why } ∷ [])
 told_need b fs f line need why stand at last unmet is = λ s tried.
-    let so : IsTried b.book s (Some line) (Waits need) = subst (λ l. IsTried b.book s (Some line) l) last (subst (λ l. IsTried b.book s l f.trail.last) at tried) in
+    let so : IsTried b s (Some line) (Waits need) = subst (λ l. IsTried b s (Some line) l) last (subst (λ l. IsTried b s l f.trail.last) at tried) in
     subst (λ l. IsTold b.book (courses_of fs) l s (record { place = line.place; reason = why } ∷ [])) (sym at)
     (why, refl, reason_for b.book (courses_of fs) s line.item need why is (needs_so b fs s line.item need stand so unmet))
 
@@ -114,7 +119,7 @@ pub told_more : (b : AuditedBook) (fs : List Follower) (n : ℕ) (before these a
 told_more b fs n before these after f at was told is = subst (λ k. AreToldOf b fs k after) (sym (add-one n)) (before, these, f, was, at, told, is)
 
 -- what is shown of a resource that has followed its lines
-shown_of : (b : AuditedBook) (fs : List Follower) (n : ℕ) (f : Follower) (these : List Unshown) → IsFollowed b.plant b.book n f → IsToldOf b fs f these → IsShown b.plant b.book (courses_of fs) n (course_of f) these
+shown_of : (b : AuditedBook) (fs : List Follower) (n : ℕ) (f : Follower) (these : List Unshown) → IsFollowed b.plant b n f → IsToldOf b fs f these → IsShown b.plant b.book (courses_of fs) n (course_of f) these
 shown_of b fs n f these follows told = record {
   within = follows.within;
   stands = follows.station;
@@ -132,7 +137,7 @@ shown_of b fs n f these follows told = record {
 shown_all : (b : AuditedBook) (fs : List Follower) → AreFrom b 0 fs → (n : ℕ) (unshown : List Unshown) → AreToldOf b fs n unshown → AreShown b.plant b.book (courses_of fs) n unshown
 shown_all b fs stand zero unshown told = told
 shown_all b fs stand (suc n) unshown (before, these, f, earlier, at, told, is) =
-    let follows : IsFollowed b.plant b.book n f = subst (λ k. IsFollowed b.plant b.book k f) (zero-add n) (stand n f at).followed in
+    let follows : IsFollowed b.plant b n f = subst (λ k. IsFollowed b.plant b k f) (zero-add n) (stand n f at).followed in
     (before, these, course_of f, shown_all b fs stand n before earlier, course_at fs n (Some f) at, shown_of b fs n f these follows told, is)
 
 none_here : (lines : List Line) (n : ℕ) → length lines ≡ 0 → if_none lines n ≡ n ∷ []

@@ -1,7 +1,7 @@
 -- Why a line can't be shown, by what is shown of all journals.
-use Rattle.std.specs.Prelude.{◌≡◌, ◌≢◌, ◌==◌, ◌⊎◌, ◌++◌, ℕ, ◌+◌, ◌<◌, ◌≤◌, Bool, true, false, List, All, Contains, Option, IfSome, IsSomeAnd, length, reverse, slice_get, take}
+use Rattle.std.specs.Prelude.{◌≡◌, ◌≢◌, ◌==◌, ◌⊎◌, ◌++◌, ℕ, ◌+◌, ◌-◌, ◌<◌, ◌≤◌, Bool, true, false, List, All, Contains, Option, IfSome, IsSomeAnd, length, map, reverse, slice_get, sum, take}
 use Rattle.std.specs.Global.{Vec}
-use Rattle.std.specs.List.{list_any}
+use Rattle.std.specs.List.{filter_map, list_any}
 use Rattle.std_blocks.specs.declared.value.Value.{Value}
 use Rattle.evaluation.specs.declared.field_input.FieldInput.{FieldInput}
 use Rattle.evaluation.specs.declared.name.Name.{Name}
@@ -17,6 +17,7 @@ use Rattle.exchange_core.specs.MessageCoreValue.{IsAnswer}
 use Rattle.exchange_core.specs.CoreValue.{IsEvalFault, IsNextOf, is_news}
 use Rattle.node_reports.specs.declared.journal.Journal.{Journal}
 use Rattle.node_reports.specs.Journals.{incarnation_after}
+use Rattle.node_reports.specs.Reports.{restarted_in}
 use Rattle.node_reports.specs.Stations.{StationValue}
 use Rattle.audit.specs.declared.item.Item.{Item}
 use Rattle.audit.specs.declared.item.Item.TheVariants.{Start, Restart, Message, Hello, Evaluate, Faulty}
@@ -36,6 +37,18 @@ pub record Course : Type 0 where
 -- the incarnation to which a resource has come
 abbrev pub present_of : Journal → ℕ
 present_of j = incarnation_after j.first (reverse j.steps)
+
+-- the incarnations in which its STARTs and RESTARTs put it
+abbrev pub risen_to : Journal → List ℕ
+risen_to j = filter_map restarted_in j.steps
+
+-- how many it has skipped, from 1 on: no START or RESTART put it there
+abbrev pub skipped_of : Journal → ℕ
+skipped_of j = present_of j - length (risen_to j)
+
+-- how many all have skipped
+abbrev pub skipped_in : List Journal → ℕ
+skipped_in journals = sum (map skipped_of journals)
 
 -- a line is a START or RESTART in this incarnation
 abbrev pub begins : ℕ → Item → Bool
@@ -72,6 +85,26 @@ IsNoLine s item =
 -- an incarnation is above the present one, by 1,000,000 at most
 abbrev pub IsAbove : ℕ → ℕ → Type 0
 IsAbove present i = (present < i) × (i ≤ present + 1000000)
+
+-- With those between the present incarnation and this one, more than 1,000,000 are skipped.
+abbrev pub SkipsTooMany : ℕ → ℕ → ℕ → Type 0
+SkipsTooMany skipped present i = 1000000 < skipped + (i - (present + 1))
+
+-- a line opens with what was left, if it is a START
+abbrev pub OpensAsLeft : StationValue → Item → Type 0
+OpensAsLeft s (Start incarnation kept) = AreLeft s.journal kept.items
+OpensAsLeft s (Restart incarnation) = Unit {0}
+OpensAsLeft s (Message m) = Unit {0}
+OpensAsLeft s (Hello of incarnation) = Unit {0}
+OpensAsLeft s (Evaluate task dt inputs) = Unit {0}
+OpensAsLeft s Faulty = Unit {0}
+
+-- An incarnation is more than 1,000,000 above the present one; or a line rises to it as it may and opens with what was left,
+-- but with those that it skips too many are skipped in all.
+abbrev pub IsTooHigh : ℕ → StationValue → Item → ℕ → Type 0
+IsTooHigh skipped s item i =
+    (s.core.incarnation + 1000000 < i)
+    ⊎ (IsAbove s.core.incarnation i × OpensAsLeft s item × SkipsTooMany skipped s.core.incarnation i)
 
 -- A line is a START that rises as it may, and opens with other values than were left.
 abbrev pub OpensOtherwise : StationValue → Item → Type 0
@@ -125,13 +158,14 @@ IsUnfit book s item misfit =
     × (book.entries ≡ older ++ newer) × IsMisfit book.first (reverse older) x misfit × (misfit ≢ NoMemory)
 
 -- This is why the next line of a resource can't be shown. Syntax: it is no line. NotRisen, TooHigh: it is a START or
--- RESTART that isn't above the present incarnation, or too far above it. Kept: it opens otherwise. Differs: what it takes
--- was made otherwise. Unmade: what it takes wasn't made, and the maker is over with that incarnation. Waits: what it needs
+-- RESTART that isn't above the present incarnation, or too high. Kept: it opens otherwise. Differs: what it takes was made
+-- otherwise. Unmade: what it takes wasn't made, and the maker is over with that incarnation. Waits: what it needs
 -- isn't there, and the other resource may still be in that incarnation. Missing: neither is so.
 abbrev pub IsReason : BookValue → List Course → StationValue → Item → Reason → Type 0
 IsReason book all s item reason.Syntax = IsNoLine s item
 IsReason book all s item (reason.NotRisen i) = (begins i item ≡ true) × (i ≤ s.core.incarnation)
-IsReason book all s item (reason.TooHigh i) = (begins i item ≡ true) × (s.core.incarnation + 1000000 < i)
+IsReason book all s item (reason.TooHigh i) =
+    (begins i item ≡ true) × IsTooHigh (skipped_in (map (λ (c : Course). c.journal) all)) s item i
 IsReason book all s item reason.Kept = OpensOtherwise s item
 IsReason book all s item (reason.Differs name) = IsOther book s item name
 IsReason book all s item (reason.Unmade name) =

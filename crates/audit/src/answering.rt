@@ -26,7 +26,7 @@ pub(crate) fn receive(
     requires { IsGoing book.now station.old }
     ensures going { IsGoing book.now station.new }
     ensures resource { station.new.journal.resource ≡ station.old.journal.resource }
-    ensures meets { IfOk result (Meets book.now.book (Takes station.old station.new message.now) station.old station.new (item.Message message.now)) }
+    ensures meets { IfOk result (Meets book.now (Takes station.old station.new message.now) station.old station.new (item.Message message.now)) }
     ensures leaves { IfOk result (Leaves book.now book.now) }
 {
     match station.core().messages().would_accept(message) {
@@ -55,7 +55,7 @@ pub(crate) fn hear(
     requires { IsGoing book.now station.old }
     ensures going { IsGoing book.now station.new }
     ensures resource { station.new.journal.resource ≡ station.old.journal.resource }
-    ensures meets { IfOk result (Meets book.now.book (Hears station.old station.new of incarnation) station.old station.new (item.Hello of incarnation)) }
+    ensures meets { IfOk result (Meets book.now (Hears station.old station.new of incarnation) station.old station.new (item.Hello of incarnation)) }
     ensures leaves { IfOk result (Leaves book.now book.now) }
 {
     if !station.core().messages().would_hear(of, incarnation) {

@@ -56,6 +56,7 @@ fn follower_at(followers: &[Follower], resource: usize) -> Option<&Follower>
 /// The line of a resource that can't be done, and why.
 fn unshown_of(followers: &[Follower], book: &BookOfAudit, follower: &Follower) -> Option<Unshown>
     requires stand { AreFrom book.now 0 followers.now }
+    requires many { length book.now.skips ≡ length followers.now }
     requires settled { IsSettled book.now follower.now }
     ensures { IsToldOf book.now followers.now follower.now (option_to_list result) }
 {
@@ -78,6 +79,7 @@ fn open_lines(
     book: &BookOfAudit,
 ) -> Result<Vec<Unshown>, AllocError>
     requires stand { AreFrom book.now 0 followers.now }
+    requires many { length book.now.skips ≡ length followers.now }
     requires settled { AreSettled book.now followers.now }
     ensures { IfOk result (λ unshown. AreToldOf book.now followers.now (length followers.now) unshown.items) }
 {
@@ -112,6 +114,7 @@ pub(crate) fn all_unshown(
     without_start: &[Place],
 ) -> Result<Vec<Unshown>, AllocError>
     requires stand { AreFrom book.now 0 followers.now }
+    requires many { length book.now.skips ≡ length followers.now }
     requires settled { AreSettled book.now followers.now }
     ensures { IfOk result (λ all. HaveTold book.now followers.now without_start.now all.items) }
 {

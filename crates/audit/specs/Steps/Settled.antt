@@ -77,7 +77,7 @@ IsReasonFor maker need (reason.Misfit misfit) = ⊥
 -- what is told of a resource is so of any that has come where it stands
 abbrev pub IsToldOf : AuditedBook → List Follower → Follower → List Unshown → Type 0
 IsToldOf b fs f unshown =
-    (s : StationValue) → IsTried b.book s (slice_get f.lines.items f.trail.at) f.trail.last
+    (s : StationValue) → IsTried b s (slice_get f.lines.items f.trail.at) f.trail.last
     → IsTold b.book (courses_of fs) (slice_get f.lines.items f.trail.at) s unshown
 
 -- what is told of the first resources

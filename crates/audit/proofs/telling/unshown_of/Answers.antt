@@ -30,7 +30,7 @@ returns-in-Stops c =
     let at : slice_get f.lines.items f.trail.at ≡ Some line =
     subst (λ (ls : List Line). slice_get ls f.trail.at ≡ Some line) c.deref.ensures.value
     (slice_get_read c.deref.result.now (length c.deref.result.now) f.trail.at line refl got.3.0 got.1) in
-    told_stop c.args.book.now c.args.followers.now f line c.in-Stops.reason at c.in-Stops.is
+    told_stop c.args.book.now c.args.followers.now f line c.in-Stops.reason c.requires.stand c.requires.many at c.in-Stops.is
 
 pub returns-in-Waits : goal.returns-in-Waits
 returns-in-Waits c =
