@@ -4,7 +4,7 @@ use Rattle.std.specs.Prelude.{sum}
 use Rattle.std.specs.List.{filter_map}
 use Rattle.std.proofs.lemmas.List.{append-nil, length-append, length-map, length-replicate, length-set, map-append, nil_from_length, get_or-set_same, get_or-set_other, reverse-append}
 use Rattle.std.proofs.lemmas.List.Sums.{sum_by-set}
-use Rattle.std.proofs.lemmas.List.Elements.{filter-append, filter_map-append, All-weaker, All-append, All-cons, All-nil}
+use Rattle.std.proofs.lemmas.List.Elements.{filter-append, filter_map-append, All-weaker, All-append, All-cons, All-nil, Contains-append_left}
 use Rattle.std.proofs.lemmas.Bool.{eq-eqb, eqb-true}
 use Rattle.std.proofs.lemmas.Option.{get_or_from_slice_get, slice_get-map, slice_get_within, none-some, same_Some}
 use Rattle.lists.proofs.Members.{all_from_places}
@@ -31,12 +31,12 @@ use Rattle.audit.specs.declared.standing.Standing.{Standing}
 use Rattle.audit.specs.declared.standing.Standing.TheVariants.{Going, Ended}
 use Rattle.audit.specs.declared.follower.Follower.{Follower}
 use Rattle.audit.specs.Lines.{zeros, AreLeft}
-use Rattle.audit.specs.Reasons.{present_of, risen_to, skipped_of, skipped_in}
+use Rattle.audit.specs.Reasons.{present_of, risen_to, CanHaveBeen, skipped_of, skipped_in}
 use Rattle.audit.specs.Steps.Following.{IsFollowed}
 use Rattle.audit.specs.Steps.Settled.{IsSettled, AreSettled}
 use Rattle.audit.proofs.Comings.{followed_left, later_keeps, later_following}
-use Rattle.audit.specs.Steps.Standings.{AuditedBook, empty_book, raised, IsJournalOf, IsGoing, IsEnded, IsStanding, IsPendingFor, journal_in, IsLater, IsFurther, Grows, Goes, IsOfSame, IsAt, AreFrom, AreJournalsFrom}
-use Rattle.audit.specs.Delivered.{AreDelivered}
+use Rattle.audit.specs.Steps.Standings.{AuditedBook, risen_at, CanBeHeard, empty_book, put_in, raised, HearsKnown, IsJournalOf, IsGoing, IsEnded, IsStanding, IsPendingFor, journal_in, IsLater, IsFurther, Grows, Goes, IsOfSame, IsAt, AreFrom, AreJournalsFrom}
+use Rattle.audit.specs.Delivered.{AreDelivered, HearsTruly, AreHeardTruly}
 
 -- a step other than a restart leaves the incarnation as it was
 present_with : (j : Journal) (s : Step) → incarnation_after j.first (s ∷ reverse j.steps) ≡ present_of j → present_of (with_step j s) ≡ present_of j
@@ -58,15 +58,28 @@ as_few risen present risen_was present_was one two few = omega (arith, one, two,
 few_still : (j : Journal) (s : Step) → filter_map restarted_in (s ∷ []) ≡ [] → incarnation_after j.first (s ∷ reverse j.steps) ≡ present_of j → length (risen_to j) ≤ present_of j → length (risen_to (with_step j s)) ≤ present_of (with_step j s)
 few_still j s none same few = as_few (length (risen_to (with_step j s))) (present_of (with_step j s)) (length (risen_to j)) (present_of j) (ap length (risen_still j s none)) (present_with j s same) few
 
+-- what was heard of resources that go on can still be heard
+hears_still : (old new : AuditedBook) → ((r i : ℕ) → CanBeHeard old r i → CanBeHeard new r i) → (s : Step) → HearsKnown old s → HearsKnown new s
+hears_still old new still (Took x) h = tt
+hears_still old new still (Made x) h = tt
+hears_still old new still (Restarted ticket incarnation) h = tt
+hears_still old new still (Heard of incarnation) h = still of incarnation h
+
+heard_with : (b : AuditedBook) (j : Journal) (s : Step) → HearsKnown b s → All (HearsKnown b) j.steps → All (HearsKnown b) (with_step j s).steps
+heard_with b j s known before = All-append (HearsKnown b) j.steps (s ∷ []) before (All-cons (HearsKnown b) s [] known (All-nil (HearsKnown b)))
+
 -- a step that makes nothing, receives nothing and is no restart
-still : (b : AuditedBook) (j : Journal) (s : Step) → made (s ∷ []) ≡ [] → received (s ∷ []) ≡ [] → filter_map restarted_in (s ∷ []) ≡ [] → incarnation_after j.first (s ∷ reverse j.steps) ≡ present_of j → IsJournalOf b j → IsJournalOf b (with_step j s)
-still b j s none nothing unrisen same is = record {
+still : (b : AuditedBook) (j : Journal) (s : Step) → made (s ∷ []) ≡ [] → received (s ∷ []) ≡ [] → filter_map restarted_in (s ∷ []) ≡ [] → incarnation_after j.first (s ∷ reverse j.steps) ≡ present_of j → HearsKnown b s → IsJournalOf b j → IsJournalOf b (with_step j s)
+still b j s none nothing unrisen same known is = record {
   first_is = is.first_is;
   exists = is.exists;
   counted = is.counted;
   present_is = is.present_is ∙ sym (present_with j s same);
   skipped_is = is.skipped_is ∙ sym (skipped_still j s unrisen same);
   few = few_still j s unrisen same is.few;
+  listed = is.listed;
+  risen_is = is.risen_is ∙ sym (risen_still j s unrisen);
+  hearings = heard_with b j s known is.hearings;
   made_is = made-append j.steps (s ∷ []) ∙ ap (λ ys. made j.steps ++ ys) none ∙ append-nil (made j.steps) ∙ is.made_is;
   delivered = subst (All (Contains b.book.entries)) (sym (received-append j.steps (s ∷ []) ∙ ap (λ ys. received j.steps ++ ys) nothing ∙ append-nil (received j.steps))) is.delivered;
 }
@@ -80,6 +93,9 @@ took b j x listed is = record {
   present_is = is.present_is ∙ sym (present_with j (Took x) refl);
   skipped_is = is.skipped_is ∙ sym (skipped_still j (Took x) refl refl);
   few = few_still j (Took x) refl refl is.few;
+  listed = is.listed;
+  risen_is = is.risen_is ∙ sym (risen_still j (Took x) refl);
+  hearings = heard_with b j (Took x) tt is.hearings;
   made_is = made-append j.steps (Took x ∷ []) ∙ append-nil (made j.steps) ∙ is.made_is;
   delivered = subst (All (Contains b.book.entries)) (sym (received-append j.steps (Took x ∷ [])))
       (All-append (Contains b.book.entries) (received j.steps) (x ∷ []) is.delivered (All-cons (Contains b.book.entries) x [] listed (All-nil (Contains b.book.entries))));
@@ -156,11 +172,11 @@ received_going b old new x answer listed is going =
     (accepted_incarnation old.core new.core x answer is.accepted ∙ going.incarnation_is ∙ sym (present_with old.journal (Took x) refl) ∙ ap present_of (sym is.noted))
     (subst (IsJournalOf b) (sym is.noted) (took b old.journal x listed going.journal))
 
-pub heard_going : (b : AuditedBook) (old new : StationValue) (of incarnation : ℕ) (answer : Bool) → IsTold old new of incarnation answer → IsGoing b old → IsGoing b new
-heard_going b old new of incarnation answer is going =
+pub heard_going : (b : AuditedBook) (old new : StationValue) (of incarnation : ℕ) (answer : Bool) → CanBeHeard b of incarnation → IsTold old new of incarnation answer → IsGoing b old → IsGoing b new
+heard_going b old new of incarnation answer known is going =
     gone b old new (set_of b old going) (heard_setting old.core new.core of incarnation answer is.heard_is) (ap (λ (j : Journal). j.resource) is.noted)
     (heard_incarnation old.core new.core of incarnation answer is.heard_is ∙ going.incarnation_is ∙ sym (present_with old.journal (Heard of incarnation) refl) ∙ ap present_of (sym is.noted))
-    (subst (IsJournalOf b) (sym is.noted) (still b old.journal (Heard of incarnation) refl refl refl refl going.journal))
+    (subst (IsJournalOf b) (sym is.noted) (still b old.journal (Heard of incarnation) refl refl refl refl known going.journal))
 
 -- one more restart, and those that it skips
 present_restarted : (j : Journal) (ticket incarnation : ℕ) → present_of (with_step j (Restarted ticket incarnation)) ≡ incarnation
@@ -180,7 +196,36 @@ skipped_more j ticket incarnation few rises =
     skips_add (length (risen_to j)) (present_of j) incarnation few rises
     ∙ sym (ap₂ (λ (p n : ℕ). p - n) (present_restarted j ticket incarnation) (one_more j ticket incarnation))
 
-restarted_journal : (b : AuditedBook) (j : Journal) (ticket incarnation skipped : ℕ) → present_of j < incarnation → skipped ≡ incarnation - (present_of j + 1) → IsJournalOf b j → IsJournalOf (raised b j.resource incarnation skipped) (with_step j (Restarted ticket incarnation))
+-- the book with one more START or RESTART
+abbrev risen_book : AuditedBook → ℕ → ℕ → ℕ → AuditedBook
+risen_book b resource incarnation skipped = raised (put_in b resource incarnation) resource incarnation skipped
+
+can_more : (present i incarnation : ℕ) (risen : List ℕ) → present < incarnation → CanHaveBeen present risen i → CanHaveBeen incarnation (risen ++ incarnation ∷ []) i
+can_more present i incarnation risen rises (far, inl there) = (omega (arith, far, rises), inl (Contains-append_left risen (incarnation ∷ []) i there))
+can_more present i incarnation risen rises (far, inr above) =
+    (omega (arith, far, rises), inr (All-append (λ (k : ℕ). i < k) risen (incarnation ∷ []) above (All-cons (λ (k : ℕ). i < k) incarnation [] (omega (arith, far, rises)) (All-nil (λ (k : ℕ). i < k)))))
+
+heard_here : (b : AuditedBook) (resource incarnation skipped i : ℕ) → resource < length b.present → resource < length b.risen → slice_index b.present resource < incarnation → CanBeHeard b resource i → CanBeHeard (risen_book b resource incarnation skipped) resource i
+heard_here b resource incarnation skipped i exists listed rises known =
+    subst (λ p. CanHaveBeen p (risen_at (risen_book b resource incarnation skipped) resource) i) (sym (get_or-set_same b.present resource incarnation 0 exists))
+    (subst (λ ks. CanHaveBeen incarnation ks i) (sym (get_or-set_same b.risen resource (risen_at b resource ++ incarnation ∷ []) [] listed))
+    (can_more (slice_index b.present resource) i incarnation (risen_at b resource) rises known))
+
+heard_elsewhere : (b : AuditedBook) (resource incarnation skipped r i : ℕ) → r ≢ resource → CanBeHeard b r i → CanBeHeard (risen_book b resource incarnation skipped) r i
+heard_elsewhere b resource incarnation skipped r i other known =
+    subst (λ p. CanHaveBeen p (risen_at (risen_book b resource incarnation skipped) r) i) (sym (get_or-set_other b.present resource r incarnation 0 other))
+    (subst (λ ks. CanHaveBeen (slice_index b.present r) ks i) (sym (get_or-set_other b.risen resource r (risen_at b resource ++ incarnation ∷ []) [] other)) known)
+
+heard_raised : (b : AuditedBook) (resource incarnation skipped : ℕ) → resource < length b.present → resource < length b.risen → slice_index b.present resource < incarnation → (r i : ℕ) → CanBeHeard b r i → CanBeHeard (risen_book b resource incarnation skipped) r i
+heard_raised b resource incarnation skipped exists listed rises r i known = by (eqb r resource) refl
+  where
+    by : (same : Bool) → same ≡ eqb r resource → CanBeHeard (risen_book b resource incarnation skipped) r i
+    by true is =
+        let here : r ≡ resource = eqb-true r resource (sym is) in
+        subst (λ k. CanBeHeard (risen_book b resource incarnation skipped) k i) (sym here) (heard_here b resource incarnation skipped i exists listed rises (subst (λ k. CanBeHeard b k i) here known))
+    by false is = heard_elsewhere b resource incarnation skipped r i (λ same. let e = is ∙ eq-eqb r resource same in cc) known
+
+restarted_journal : (b : AuditedBook) (j : Journal) (ticket incarnation skipped : ℕ) → present_of j < incarnation → skipped ≡ incarnation - (present_of j + 1) → IsJournalOf b j → IsJournalOf (risen_book b j.resource incarnation skipped) (with_step j (Restarted ticket incarnation))
 restarted_journal b j ticket incarnation skipped rises skips is = record {
   first_is = is.first_is;
   exists = omega (arith, is.exists, length-set b.present j.resource incarnation);
@@ -190,21 +235,26 @@ restarted_journal b j ticket incarnation skipped rises skips is = record {
       ∙ ap₂ (λ (x y : ℕ). x + y) is.skipped_is skips ∙ skipped_more j ticket incarnation is.few rises;
   few = few_more (length (risen_to (with_step j (Restarted ticket incarnation)))) (present_of (with_step j (Restarted ticket incarnation))) (length (risen_to j)) (present_of j) incarnation
       (one_more j ticket incarnation) (present_restarted j ticket incarnation) is.few rises;
+  listed = omega (arith, is.listed, length-set b.risen j.resource (risen_at b j.resource ++ incarnation ∷ []));
+  risen_is = get_or-set_same b.risen j.resource (risen_at b j.resource ++ incarnation ∷ []) [] is.listed ∙ ap (λ ks. ks ++ incarnation ∷ []) is.risen_is ∙ sym (risen_with j (Restarted ticket incarnation));
+  hearings = heard_with (risen_book b j.resource incarnation skipped) j (Restarted ticket incarnation) tt
+      (All-weaker (HearsKnown b) (HearsKnown (risen_book b j.resource incarnation skipped))
+      (hears_still b (risen_book b j.resource incarnation skipped) (heard_raised b j.resource incarnation skipped is.exists is.listed (subst (λ p. p < incarnation) (sym is.present_is) rises))) j.steps is.hearings);
   made_is = made-append j.steps (Restarted ticket incarnation ∷ []) ∙ append-nil (made j.steps) ∙ is.made_is;
   delivered = subst (All (Contains b.book.entries)) (sym (received-append j.steps (Restarted ticket incarnation ∷ []) ∙ append-nil (received j.steps))) is.delivered;
 }
 
 restarted_going : (b : AuditedBook) (old new : StationValue) (ticket incarnation skipped : ℕ) → present_of old.journal < incarnation → skipped ≡ incarnation - (present_of old.journal + 1) → IsRestarted old new ticket incarnation → IsGoing b old
-    → IsGoing (raised b old.journal.resource incarnation skipped) new
+    → IsGoing (risen_book b old.journal.resource incarnation skipped) new
 restarted_going b old new ticket incarnation skipped rises skips is going =
-    gone (raised b old.journal.resource incarnation skipped) old new (record {
+    gone (risen_book b old.journal.resource incarnation skipped) old new (record {
       plant_is = going.plant_is;
       firsts_are = going.firsts_are;
       limit_is = going.limit_is;
       core_is = going.core_is;
     }) (same_setting old.core new.core _ is.core.is (record { plant_is = refl; firsts_are = refl; limit_is = refl; resource_is = refl })) (ap (λ (j : Journal). j.resource) is.noted)
     (ap (λ (c : CoreValue). c.incarnation) is.core.is ∙ sym (present_restarted old.journal ticket incarnation) ∙ ap present_of (sym is.noted))
-    (subst (IsJournalOf (raised b old.journal.resource incarnation skipped)) (sym is.noted) (restarted_journal b old.journal ticket incarnation skipped rises skips going.journal))
+    (subst (IsJournalOf (risen_book b old.journal.resource incarnation skipped)) (sym is.noted) (restarted_journal b old.journal ticket incarnation skipped rises skips going.journal))
 
 -- an evaluation was made next, and isn't noted yet
 pub pending_for : (b : AuditedBook) (s : StationValue) (p : PendingValue) (ticket task dt : ℕ) (inputs : List FieldInput) → IsPending s p ticket task dt inputs → IsGoing b s → IsPendingFor b p
@@ -241,6 +291,9 @@ grown_not resource b = record {
   still = λ r other. refl;
   as_many = refl;
   skips_still = λ r other. refl;
+  as_long = refl;
+  risen_still = λ r other. refl;
+  heard = λ r i known. known;
 }
 
 pub grown_twice : (resource : ℕ) (a b c : AuditedBook) → Grows resource a b → Grows resource b c → Grows resource a c
@@ -252,6 +305,9 @@ grown_twice resource a b c one two = record {
   still = λ r other. two.still r other ∙ one.still r other;
   as_many = two.as_many ∙ one.as_many;
   skips_still = λ r other. two.skips_still r other ∙ one.skips_still r other;
+  as_long = two.as_long ∙ one.as_long;
+  risen_still = λ r other. two.risen_still r other ∙ one.risen_still r other;
+  heard = λ r i known. two.heard r i (one.heard r i known);
 }
 
 -- one resource has come to another incarnation
@@ -263,8 +319,8 @@ skips_raised skips resource skipped within =
     more_by (sum skips) (sum (slice_set skips resource (slice_index skips resource + skipped))) (slice_index skips resource) skipped
     (sum_by-set (λ x. x) skips resource (slice_index skips resource + skipped) 0 within)
 
-grown_raised : (resource incarnation skipped : ℕ) (b : AuditedBook) → resource < length b.skips → Grows resource b (raised b resource incarnation skipped)
-grown_raised resource incarnation skipped b within = record {
+grown_raised : (resource incarnation skipped : ℕ) (b : AuditedBook) → resource < length b.skips → resource < length b.present → resource < length b.risen → slice_index b.present resource < incarnation → Grows resource b (risen_book b resource incarnation skipped)
+grown_raised resource incarnation skipped b within exists listed rises = record {
   plant_is = refl;
   further = record { later = later_not b.book; more = skips_raised b.skips resource skipped within };
   others = λ r other. refl;
@@ -272,6 +328,9 @@ grown_raised resource incarnation skipped b within = record {
   still = λ r other. get_or-set_other b.present resource r incarnation 0 other;
   as_many = length-set b.skips resource (slice_index b.skips resource + skipped);
   skips_still = λ r other. get_or-set_other b.skips resource r (slice_index b.skips resource + skipped) 0 other;
+  as_long = length-set b.risen resource (risen_at b resource ++ incarnation ∷ []);
+  risen_still = λ r other. get_or-set_other b.risen resource r (risen_at b resource ++ incarnation ∷ []) [] other;
+  heard = heard_raised b resource incarnation skipped exists listed rises;
 }
 
 -- a book with one more entry
@@ -293,6 +352,9 @@ grown_by resource b x own = record {
   still = λ r other. refl;
   as_many = refl;
   skips_still = λ r other. refl;
+  as_long = refl;
+  risen_still = λ r other. refl;
+  heard = λ r i known. known;
 }
 
 -- the journal of another resource is one of a book that has grown
@@ -304,6 +366,9 @@ still_of resource old new j grows other is = record {
   present_is = grows.still j.resource other ∙ is.present_is;
   skipped_is = grows.skips_still j.resource other ∙ is.skipped_is;
   few = is.few;
+  listed = omega (arith, is.listed, grows.as_long);
+  risen_is = grows.risen_still j.resource other ∙ is.risen_is;
+  hearings = All-weaker (HearsKnown old) (HearsKnown new) (hears_still old new grows.heard) j.steps is.hearings;
   made_is = is.made_is ∙ sym (grows.others j.resource other);
   delivered = All-weaker (Contains old.book.entries) (Contains new.book.entries) (later_keeps old.book new.book grows.further.later) (received j.steps) is.delivered;
 }
@@ -337,6 +402,10 @@ noted_going old new p s is noted pending = subst (λ b. IsGoing b s) (sym is) (r
     present_is = pending.going.journal.present_is ∙ sym (present_with p.journal (Made p.made) refl);
     skipped_is = pending.going.journal.skipped_is ∙ sym (skipped_still p.journal (Made p.made) refl refl);
     few = few_still p.journal (Made p.made) refl refl pending.going.journal.few;
+    listed = pending.going.journal.listed;
+    risen_is = pending.going.journal.risen_is ∙ sym (risen_still p.journal (Made p.made) refl);
+    hearings = heard_with (entered old p.made) p.journal (Made p.made) tt
+        (All-weaker (HearsKnown old) (HearsKnown (entered old p.made)) (hears_still old (entered old p.made) (λ r i known. known)) p.journal.steps pending.going.journal.hearings);
     made_is = made-append p.journal.steps (Made p.made ∷ []) ∙ ap (λ ys. ys ++ p.made ∷ []) pending.going.journal.made_is
         ∙ ap (λ ys. entries_of p.journal.resource old.book.entries ++ ys) (sym (own_entry p.journal.resource p.made pending.own))
         ∙ sym (entries_behind p.journal.resource old p.made);
@@ -394,6 +463,22 @@ skipped_at b fs n f stand at =
     by : (standing : Standing) → IsStanding b standing → slice_index b.skips (journal_in standing).resource ≡ skipped_of (journal_in standing)
     by (Going s) stands = stands.journal.skipped_is
     by (Ended j) stands = stands.journal.skipped_is
+
+-- the incarnations in which a resource was put are noted
+risen_there : (b : AuditedBook) (fs : List Follower) (n : ℕ) (f : Follower) → AreFrom b 0 fs → slice_get fs n ≡ Some f → risen_at b n ≡ risen_to (journal_in f.standing)
+risen_there b fs n f stand at =
+    let is = stand n f at in
+    let place : (journal_in f.standing).resource ≡ n = is.resource_is ∙ zero-add n in
+    ap (risen_at b) (sym place) ∙ by f.standing is.stands
+  where
+    by : (standing : Standing) → IsStanding b standing → risen_at b (journal_in standing).resource ≡ risen_to (journal_in standing)
+    by (Going s) stands = stands.journal.risen_is
+    by (Ended j) stands = stands.journal.risen_is
+
+-- a resource that can be heard can have been in the incarnation
+pub can_have_been : (b : AuditedBook) (fs : List Follower) (n i : ℕ) (f : Follower) → AreFrom b 0 fs → slice_get fs n ≡ Some f → CanHaveBeen (present_of (journal_in f.standing)) (risen_to (journal_in f.standing)) i → CanBeHeard b n i
+can_have_been b fs n i f stand at can =
+    subst (λ p. CanHaveBeen p (risen_at b n) i) (sym (present_at b fs n f stand at)) (subst (λ ks. CanHaveBeen (present_of (journal_in f.standing)) ks i) (sym (risen_there b fs n f stand at)) can)
 
 -- one more behind those from 0 on
 pub one_more_at : (b : AuditedBook) (n : ℕ) (fs : List Follower) (f : Follower) → AreFrom b n fs → IsAt b (n + length fs) f → AreFrom b n (fs ++ f ∷ [])
@@ -488,16 +573,16 @@ all_agree plant b journals plant_is first_is many are =
 pub goes_still : (b : AuditedBook) (s t : StationValue) → IsGoing b t → t.journal.resource ≡ s.journal.resource → Goes b b (Going s) (Going t)
 goes_still b s t going same = record { stands = going; resource_is = same; grows = grown_not s.journal.resource b }
 
-pub restarted_goes : (b c : AuditedBook) (old new : StationValue) (ticket incarnation resource skipped : ℕ) → c ≡ raised b resource incarnation skipped → resource ≡ old.journal.resource → old.core.incarnation < incarnation
+pub restarted_goes : (b d c : AuditedBook) (old new : StationValue) (ticket incarnation resource skipped : ℕ) → d ≡ put_in b resource incarnation → c ≡ raised d resource incarnation skipped → resource ≡ old.journal.resource → old.core.incarnation < incarnation
     → skipped ≡ incarnation - (old.core.incarnation + 1) → IsRestarted old new ticket incarnation → IsGoing b old → Goes b c (Going old) (Going new)
-restarted_goes b c old new ticket incarnation resource skipped raised_is own rises skips is going =
-    let same : raised b old.journal.resource incarnation skipped ≡ c = ap (λ r. raised b r incarnation skipped) (sym own) ∙ sym raised_is in
+restarted_goes b d c old new ticket incarnation resource skipped put_is raised_is own rises skips is going =
+    let same : risen_book b old.journal.resource incarnation skipped ≡ c = ap (λ r. risen_book b r incarnation skipped) (sym own) ∙ ap (λ x. raised x resource incarnation skipped) (sym put_is) ∙ sym raised_is in
     let above : present_of old.journal < incarnation = subst (λ n. n < incarnation) going.incarnation_is rises in
     let between : skipped ≡ incarnation - (present_of old.journal + 1) = skips ∙ ap (λ n. incarnation - (n + 1)) going.incarnation_is in
-    subst (λ d. Goes b d (Going old) (Going new)) same (record {
+    subst (λ e. Goes b e (Going old) (Going new)) same (record {
       stands = restarted_going b old new ticket incarnation skipped above between is going;
       resource_is = ap (λ (j : Journal). j.resource) is.noted;
-      grows = grown_raised old.journal.resource incarnation skipped b going.journal.counted;
+      grows = grown_raised old.journal.resource incarnation skipped b going.journal.counted going.journal.exists going.journal.listed (subst (λ p. p < incarnation) (sym going.journal.present_is) above);
     })
 
 pub made_goes : (old new : AuditedBook) (s : StationValue) (p : PendingValue) (t : Standing) (ticket task dt : ℕ) (inputs : List FieldInput) → IsPending s p ticket task dt inputs
@@ -676,3 +761,17 @@ all_skipped b fs stand many = ap sum (sym (each_skipped b.skips (journals_in fs)
 -- each resource has its place among the skips
 pub many_skips : (plant : PlantValue) (start b : AuditedBook) (n : ℕ) → start ≡ empty_book plant → IsOfSame start b → n ≡ length plant.resources → length b.skips ≡ n
 many_skips plant start b n is same many = same.as_many ∙ ap (λ (x : AuditedBook). length x.skips) is ∙ length-replicate (length plant.resources) 0 ∙ sym many
+
+-- what was heard can have been
+pub all_heard : (b : AuditedBook) (journals : List Journal) → AreJournalsFrom b 0 journals → AreHeardTruly journals
+all_heard b journals are = all_from_places (λ (j : Journal). All (HearsTruly journals) j.steps) journals (λ k j at. All-weaker (HearsKnown b) (HearsTruly journals) truly j.steps (are k j at).0.journal.hearings)
+  where
+    truly : (s : Step) → HearsKnown b s → HearsTruly journals s
+    truly (Took x) h = tt
+    truly (Made x) h = tt
+    truly (Restarted ticket incarnation) h = tt
+    truly (Heard of incarnation) h = λ maker at.
+        let is = are of maker at in
+        let place : maker.resource ≡ of = is.1 ∙ zero-add of in
+        subst (λ p. CanHaveBeen p (risen_to maker) incarnation) (ap (slice_index b.present) (sym place) ∙ is.0.journal.present_is)
+        (subst (λ ks. CanHaveBeen (slice_index b.present of) ks incarnation) (ap (risen_at b) (sym place) ∙ is.0.journal.risen_is) h)

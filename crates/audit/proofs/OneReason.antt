@@ -21,7 +21,7 @@ use Rattle.audit.specs.declared.needs.Need.{Need}
 use Rattle.audit.specs.declared.needs.Need.TheVariants.{Evaluation, Incarnation}
 use Rattle.audit.specs.declared.reason.Reason.{Reason}
 use Rattle.audit.specs.declared.reason.Reason.TheVariants as reason
-use Rattle.audit.specs.Reasons.{Course, begins, OpensAsLeft, IsTooHigh, OpensOtherwise, IsOver, MayBeIn, IsNoLine, IsOther, Needs, maker_in, incarnation_of, IsUnfit, IsReason}
+use Rattle.audit.specs.Reasons.{Course, begins, OpensAsLeft, IsTooHigh, OpensOtherwise, IsGone, IsOver, MayBeIn, IsNoLine, IsOther, Needs, maker_in, incarnation_of, IsUnfit, IsReason}
 use Rattle.audit.specs.OneReason.{OneReason, AreMisfits}
 
 -- to which lines a reason belongs
@@ -161,14 +161,14 @@ one book all s item (reason.Unmade name) (reason.Waits need) a b =
     absurd (over_not_open (maker_in all need) (incarnation_of need) over b.1)
 one book all s item (reason.Unmade name) (reason.Missing need) a b =
     let same : Evaluation name ≡ need = one_need book all s item (Evaluation name) need a.0 b.0 in
-    absurd (b.1 (subst (λ n. IsOver (maker_in all n) (incarnation_of n)) same a.1))
+    absurd (b.1 (subst (λ n. IsGone (maker_in all n) n) same a.1))
 one book all s item (reason.Waits need) (reason.Unmade name) a b =
     let same : Evaluation name ≡ need = one_need book all s item (Evaluation name) need b.0 a.0 in
     let over : IsOver (maker_in all need) (incarnation_of need) = subst (λ n. IsOver (maker_in all n) (incarnation_of n)) same b.1 in
     absurd (over_not_open (maker_in all need) (incarnation_of need) over a.1)
 one book all s item (reason.Missing need) (reason.Unmade name) a b =
     let same : Evaluation name ≡ need = one_need book all s item (Evaluation name) need b.0 a.0 in
-    absurd (a.1 (subst (λ n. IsOver (maker_in all n) (incarnation_of n)) same b.1))
+    absurd (a.1 (subst (λ n. IsGone (maker_in all n) n) same b.1))
 one book all s item (reason.Waits need) (reason.Waits other) a b = inl (ap reason.Waits (one_need book all s item need other a.0 b.0))
 one book all s item (reason.Waits need) (reason.Missing other) a b =
     let same = one_need book all s item need other a.0 b.0 in

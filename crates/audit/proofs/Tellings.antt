@@ -1,10 +1,11 @@
 -- What is shown of all resources, and what can't be.
-use Rattle.std.proofs.Common.{arith, ◌≡◌, ℕ, zero, suc, ◌+◌, ◌++◌, List, [], ◌∷◌, Option, Some, None, length, map, slice_get, slice_index, ◌<◌, inl, inr, IfSome, refl, ap, sym, ◌∙◌, subst, zero-add, add-one, option_map, append-nil}
+use Rattle.std.proofs.Common.{arith, ◌≡◌, ℕ, zero, suc, ◌+◌, ◌++◌, List, [], ◌∷◌, Option, Some, None, length, map, slice_get, slice_index, ◌<◌, ◌≤◌, ◌↔◌, Bool, false, IsTrue, inl, inr, IfSome, refl, ap, sym, ◌∙◌, subst, zero-add, add-one, option_map, append-nil}
 use Rattle.std.proofs.lemmas.List.{length-map}
 use Rattle.std.specs.Global.{Vec}
 use Rattle.std.proofs.lemmas.Option.{slice_get-map}
 use Rattle.lists.proofs.Mapped.{map-map}
 use Rattle.plant.specs.PlantValue.{PlantValue}
+use Rattle.evaluation.specs.declared.name.Name.{Name}
 use Rattle.book.specs.Book.{BookValue}
 use Rattle.node_reports.specs.Stations.{StationValue}
 use Rattle.audit.specs.declared.item.Item.{Item}
@@ -20,35 +21,55 @@ use Rattle.audit.specs.declared.reason.Unshown.{Unshown}
 use Rattle.audit.specs.declared.standing.Standing.{Standing}
 use Rattle.audit.specs.declared.standing.Standing.TheVariants.{Going, Ended}
 use Rattle.std.specs.Prelude.{sum}
-use Rattle.audit.specs.Reasons.{Course, present_of, skipped_in, IsTooHigh, IsOver, MayBeIn, HasNotCome, Needs, maker_in, incarnation_of, IsReason}
+use Rattle.audit.specs.Reasons.{Course, present_of, was_in, skipped_in, IsTooHigh, IsGone, IsOver, MayBeIn, WasNotIn, Needs, maker_in, incarnation_of, IsReason}
 use Rattle.audit.specs.Told.{IsTold, IsShown, AreShown, AreToldBy, if_none, without_lines, all_without}
-use Rattle.audit.specs.Steps.Standings.{AuditedBook, journal_in, AreFrom}
+use Rattle.audit.specs.Steps.Standings.{AuditedBook, CanBeHeard, journal_in, AreFrom}
 use Rattle.audit.specs.Steps.Following.{IsLed, WouldNeed, IsStop, IsTried, IsFollowed}
-use Rattle.audit.specs.Steps.Settled.{IsUnmet, IsAhead, IsStuck, IsSettled, course_of, courses_of, maker_of, IsReasonFor, IsToldOf, AreToldOf, HaveTold}
+use Rattle.audit.specs.Steps.Settled.{IsUnmet, IsStuck, IsSettled, course_of, courses_of, maker_of, IsReasonFor, IsToldOf, AreToldOf, HaveTold}
 use Rattle.audit.specs.declared.journal_file.JournalFile.{JournalFile}
 use Rattle.audit.specs.declared.reading.Readings.{Readings}
 use Rattle.audit.specs.Readings.{AreReadings}
 use Rattle.audit.specs.declared.auditing.Audited.{Audited}
-use Rattle.audit.proofs.GoingOn.{lines_of, journals_in, present_at, all_skipped}
+use Rattle.audit.proofs.GoingOn.{lines_of, journals_in, present_at, can_have_been, all_skipped}
 
 -- what is shown of a resource at its place among all
 course_at : (fs : List Follower) (n : ℕ) (maker : Option Follower) → slice_get fs n ≡ maker → slice_get (courses_of fs) n ≡ option_map course_of maker
 course_at fs n maker at = slice_get-map course_of fs n ∙ ap (option_map course_of) at
 
--- where an incarnation isn't met, the resource hasn't come to it
-not_come : (b : AuditedBook) (fs : List Follower) (n i : ℕ) → AreFrom b 0 fs → slice_index b.present n < i → HasNotCome (slice_get (courses_of fs) n) i
-not_come b fs n i stand below = by (slice_get fs n) refl
+-- where an incarnation isn't met, the resource can't have been in it
+not_in : (b : AuditedBook) (fs : List Follower) (n i : ℕ) → AreFrom b 0 fs → (CanBeHeard b n i → ⊥) → WasNotIn (slice_get (courses_of fs) n) i
+not_in b fs n i stand unheard = by (slice_get fs n) refl
   where
-    by : (maker : Option Follower) → slice_get fs n ≡ maker → HasNotCome (slice_get (courses_of fs) n) i
-    by None at = subst (λ (c : Option Course). HasNotCome c i) (sym (course_at fs n None at)) tt
-    by (Some f) at =
-        let present : slice_index b.present n ≡ present_of (journal_in f.standing) = present_at b fs n f stand at in
-        subst (λ (c : Option Course). HasNotCome c i) (sym (course_at fs n (Some f) at)) (omega (arith, present, below))
+    by : (maker : Option Follower) → slice_get fs n ≡ maker → WasNotIn (slice_get (courses_of fs) n) i
+    by None at = subst (λ (c : Option Course). WasNotIn c i) (sym (course_at fs n None at)) tt
+    by (Some f) at = subst (λ (c : Option Course). WasNotIn c i) (sym (course_at fs n (Some f) at)) (λ can. unheard (can_have_been b fs n i f stand at can))
+
+-- what a line needs is missing: there is no maker
+pub missing_none : (need : Need) → IsReasonFor None need (reason.Missing need)
+missing_none (Evaluation name) = (refl, (λ over. over), λ may. may)
+missing_none (Incarnation n i) = (refl, (λ over. over), λ may. may)
+
+-- or it has no line left
+pub missing_closed : (c : Course) (need : Need) (present at : ℕ) (left : Bool) → present ≡ present_of c.journal → at ≡ incarnation_of need → present ≤ at → (IsTrue left ↔ (c.shown < length c.lines)) → left ≡ false → IsReasonFor (Some c) need (reason.Missing need)
+missing_closed c (Evaluation name) present at left is at_is below some_left none = (refl, (λ over. absurd (omega (arith, over.1, is, at_is, below))), λ may. let some = some_left.1 may.1 in absurd cc)
+missing_closed c (Incarnation n i) present at left is at_is below some_left none = (refl, (λ over. over), λ may. let some = some_left.1 may.1 in absurd cc)
+
+-- or it has come to a greater incarnation, and wasn't in that one
+pub missing_past : (c : Course) (need : Need) (n i present at : ℕ) → need ≡ Incarnation n i → present ≡ present_of c.journal → at ≡ incarnation_of need → at < present → IsReasonFor (Some c) need (reason.Missing need)
+missing_past c (Evaluation name) n i present at one is at_is past = absurd cc
+missing_past c (Incarnation m k) n i present at one is at_is past = (refl, (λ over. over), λ may. absurd (omega (arith, may.0, is, at_is, past)))
+
+pub missing_unmade : (c : Course) (need : Need) (name : Name) (present at : ℕ) → need ≡ Evaluation name → present ≡ present_of c.journal → at ≡ incarnation_of need → at < present → was_in c name.incarnation ≡ false → IsReasonFor (Some c) need (reason.Missing need)
+missing_unmade c (Evaluation other) name present at one is at_is past never =
+    let same : other ≡ name = let e = one in cc in
+    let none : was_in c other.incarnation ≡ false = ap (λ (m : Name). was_in c m.incarnation) same ∙ never in
+    (refl, (λ over. let been = over.0 in absurd cc), λ may. absurd (omega (arith, may.0, is, at_is, past)))
+missing_unmade c (Incarnation n i) name present at one is at_is past never = absurd cc
 
 -- a need that isn't met
 needs_so : (b : AuditedBook) (fs : List Follower) (s : StationValue) (item : Item) (need : Need) → AreFrom b 0 fs → WouldNeed s item need → IsUnmet b need → Needs b.book (courses_of fs) s item need
 needs_so b fs s item (Evaluation name) stand would unmet = (would.0, would.1, would.2, unmet)
-needs_so b fs s item (Incarnation n i) stand would unmet = (would, not_come b fs n i stand unmet)
+needs_so b fs s item (Incarnation n i) stand would unmet = (would, not_in b fs n i stand unmet)
 
 -- a need that isn't met is the reason
 reason_for : (book : BookValue) (all : List Course) (s : StationValue) (item : Item) (need : Need) (why : Reason) → IsReasonFor (maker_in all need) need why → Needs book all s item need → IsReason book all s item why
@@ -62,7 +83,7 @@ reason_for book all s item need (reason.Unmade name) is h =
 reason_for book all s item need (reason.Waits n) is h =
     subst (λ n. Needs book all s item n × MayBeIn (maker_in all n) (incarnation_of n)) (sym is.0) (h, is.1)
 reason_for book all s item need (reason.Missing n) is h =
-    subst (λ n. Needs book all s item n × (IsOver (maker_in all n) (incarnation_of n) → ⊥) × (MayBeIn (maker_in all n) (incarnation_of n) → ⊥)) (sym is.0) (h, is.1, is.2)
+    subst (λ n. Needs book all s item n × (IsGone (maker_in all n) n → ⊥) × (MayBeIn (maker_in all n) (incarnation_of n) → ⊥)) (sym is.0) (h, is.1, is.2)
 reason_for book all s item need (reason.Misfit misfit) is h = absurd is
 
 -- a line that can't be done, whatever others do
@@ -108,11 +129,6 @@ come_to b fs n present (Some f) stand at is = is ∙ present_at b fs n f stand (
 pub waiting_unmet : (b : AuditedBook) (f : Follower) (line : Line) (need : Need) → slice_get f.lines.items f.trail.at ≡ Some line → f.trail.last ≡ Waits need → IsSettled b f → IsUnmet b need
 waiting_unmet b f line need at last (inl none) = absurd (let e = sym at ∙ none in cc)
 waiting_unmet b f line need at last (inr stuck) = subst (IsStuck b) last stuck
-
-pub ahead_of : (b : AuditedBook) (need : Need) (n present : ℕ) → n ≡ maker_of need → present ≡ slice_index b.present n → IsUnmet b need → IsAhead present need
-ahead_of b (Evaluation name) n present same is unmet = tt
-ahead_of b (Incarnation m i) n present same is unmet =
-    let come : present ≡ slice_index b.present m = is ∙ ap (slice_index b.present) same in omega (arith, come, unmet)
 
 -- one more resource
 pub told_more : (b : AuditedBook) (fs : List Follower) (n : ℕ) (before these after : List Unshown) (f : Follower) → slice_get fs n ≡ Some f → AreToldOf b fs n before → IsToldOf b fs f these → after ≡ before ++ these → AreToldOf b fs (n + 1) after

@@ -42,6 +42,14 @@ present_of j = incarnation_after j.first (reverse j.steps)
 abbrev pub risen_to : Journal → List ℕ
 risen_to j = filter_map restarted_in j.steps
 
+-- An incarnation can have been one of a resource that has come so far: a START or RESTART put it there; or it lies below all
+-- in which they put it, before the first START that was given, where nothing is known.
+abbrev pub CanHaveBeen : ℕ → List ℕ → ℕ → Type 0
+CanHaveBeen present risen i = (i ≤ present) × (Contains risen i ⊎ All (λ (k : ℕ). i < k) risen)
+
+abbrev pub CanHaveBeenIn : Journal → ℕ → Type 0
+CanHaveBeenIn j i = CanHaveBeen (present_of j) (risen_to j) i
+
 -- how many it has skipped, from 1 on: no START or RESTART put it there
 abbrev pub skipped_of : Journal → ℕ
 skipped_of j = present_of j - length (risen_to j)
@@ -71,9 +79,9 @@ IsOver maker i = IsSomeAnd maker (λ (c : Course). (was_in c i ≡ true) × (i <
 abbrev pub MayBeIn : Option Course → ℕ → Type 0
 MayBeIn maker i = IsSomeAnd maker (λ (c : Course). (present_of c.journal ≤ i) × (c.shown < length c.lines))
 
--- It hasn't come to an incarnation yet.
-abbrev pub HasNotCome : Option Course → ℕ → Type 0
-HasNotCome maker i = IfSome maker (λ (c : Course). present_of c.journal < i)
+-- By what is shown of it, it can't have been in an incarnation.
+abbrev pub WasNotIn : Option Course → ℕ → Type 0
+WasNotIn maker i = IfSome maker (λ (c : Course). CanHaveBeenIn c.journal i → ⊥)
 
 -- A line is none of a node, or an evaluation of a task that isn't there or whose numbers are spent.
 abbrev pub IsNoLine : StationValue → Item → Type 0
@@ -134,11 +142,11 @@ IsOther book s item name =
     (m made : MessageValue) × WouldTake s item m × (m.name ≡ name) × WasMade book name made × (made ≢ m)
 
 -- A line needs what isn't there: an evaluation that the book doesn't have, whose message the resource takes; or an
--- incarnation to which the other resource hasn't come, of which the hello is news.
+-- incarnation in which the other resource can't have been, of which the hello is news.
 abbrev pub Needs : BookValue → List Course → StationValue → Item → Need → Type 0
 Needs book all s item (Evaluation name) =
     (m : MessageValue) × WouldTake s item m × (m.name ≡ name) × WasNotMade book name
-Needs book all s item (Incarnation n i) = WouldHear s item n i × HasNotCome (slice_get all n) i
+Needs book all s item (Incarnation n i) = WouldHear s item n i × WasNotIn (slice_get all n) i
 
 -- what is shown of the resource of which a line needs something
 abbrev pub maker_in : List Course → Need → Option Course
@@ -149,6 +157,11 @@ maker_in all (Incarnation n i) = slice_get all n
 abbrev pub incarnation_of : Need → ℕ
 incarnation_of (Evaluation name) = name.incarnation
 incarnation_of (Incarnation n i) = i
+
+-- an evaluation that it needs was never made: the other resource is over with that incarnation
+abbrev pub IsGone : Option Course → Need → Type 0
+IsGone maker (Evaluation name) = IsOver maker name.incarnation
+IsGone maker (Incarnation n i) = ⊥
 
 -- A line is an evaluation, and what it makes didn't fit the book's entries before it.
 abbrev pub IsUnfit : BookValue → StationValue → Item → Misfit → Type 0
@@ -173,6 +186,6 @@ IsReason book all s item (reason.Unmade name) =
 IsReason book all s item (reason.Waits need) =
     Needs book all s item need × MayBeIn (maker_in all need) (incarnation_of need)
 IsReason book all s item (reason.Missing need) =
-    Needs book all s item need × (IsOver (maker_in all need) (incarnation_of need) → ⊥)
+    Needs book all s item need × (IsGone (maker_in all need) need → ⊥)
     × (MayBeIn (maker_in all need) (incarnation_of need) → ⊥)
 IsReason book all s item (reason.Misfit misfit) = IsUnfit book s item misfit

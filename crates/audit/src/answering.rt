@@ -44,7 +44,7 @@ pub(crate) fn receive(
     Ok(Outcome::Done)
 }
 
-/// Hears of an incarnation in which that resource is by now, or was. What would be no news changes nothing.
+/// Hears of an incarnation in which that resource can have been. What would be no news changes nothing.
 #[tactic(auto, using(crate::proofs::GoingOn::heard_going))]
 pub(crate) fn hear(
     station: &mut Station,
@@ -61,7 +61,7 @@ pub(crate) fn hear(
     if !station.core().messages().would_hear(of, incarnation) {
         return Ok(Outcome::Done);
     }
-    if book.present(of) < incarnation {
+    if !book.can_be_heard(of, incarnation) {
         return Ok(Outcome::Waits(Need::Incarnation {
             resource: of,
             incarnation,

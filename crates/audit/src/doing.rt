@@ -52,6 +52,7 @@ fn restart(
     let resource = station.resource();
     match station.restart(alloc, ticket, incarnation) {
         Ok(station) => {
+            book.put_in(resource, incarnation)?;
             book.raise(resource, incarnation, skipped);
             Ok((Standing::Going(station), Outcome::Done))
         }

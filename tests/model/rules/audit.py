@@ -90,9 +90,13 @@ class Journal:
         self.audit.unnoted += unnoted
 
     def hear(self, hello):
-        maker = self.audit.journal_of(hello.resource)
-        if self.core.is_news(hello.resource, hello.incarnation) and maker.incarnation < hello.incarnation:
-            raise Wait(hello.resource, hello.incarnation, f"{hello.resource.name} {hello.incarnation}")
+        maker, told = self.audit.journal_of(hello.resource), f"{hello.resource.name} {hello.incarnation}"
+        if not self.core.is_news(hello.resource, hello.incarnation):
+            return
+        if maker.incarnation < hello.incarnation:
+            raise Wait(hello.resource, hello.incarnation, told)
+        if hello.incarnation not in maker.incarnations and hello.incarnation > min(maker.incarnations):
+            raise Stop(f"Missing {told}")
         self.core.hear(hello.resource, hello.incarnation)
 
     def accept(self, message):

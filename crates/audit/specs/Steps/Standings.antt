@@ -1,15 +1,17 @@
 -- Resources that go through their lines, and the book that they make.
-use Rattle.std.specs.Prelude.{◌≡◌, ◌≢◌, ℕ, ◌+◌, ◌<◌, ◌≤◌, ◌++◌, List, [], All, Contains, Some, length, slice_get, slice_index, slice_set, sum}
+use Rattle.std.specs.Prelude.{◌≡◌, ◌≢◌, ℕ, ◌+◌, ◌<◌, ◌≤◌, ◌++◌, List, [], ◌∷◌, All, Contains, Some, length, replicate, slice_get, slice_index, slice_set, sum}
 use Rattle.plant.specs.PlantValue.{PlantValue}
 use Rattle.evaluation.specs.Meaning.{Evaluated}
 use Rattle.book.specs.Book.{BookValue}
 use Rattle.node_reports.specs.declared.journal.Journal.{Journal}
+use Rattle.node_reports.specs.declared.step.Step.{Step}
+use Rattle.node_reports.specs.declared.step.Step.TheVariants.{Took, Made, Restarted, Heard}
 use Rattle.node_reports.specs.Journals.{made, received, IsLawful}
 use Rattle.node_reports.specs.Stations.{StationValue, PendingValue}
 use Rattle.node_reports.specs.Reports.{entries_of}
 use Rattle.audit.specs.Lines.{zeros}
 use Rattle.audit.specs.Reasons.{present_of, risen_to, skipped_of}
-pub use Rattle.audit.specs.Steps.AuditedBook.{AuditedBook}
+pub use Rattle.audit.specs.Steps.AuditedBook.{AuditedBook, risen_at, CanBeHeard}
 use Rattle.audit.specs.Steps.Following.{IsFollowed}
 use Rattle.audit.specs.declared.follower.Follower.{Follower}
 use Rattle.audit.specs.declared.standing.Standing.{Standing}
@@ -18,7 +20,12 @@ use Rattle.audit.specs.declared.standing.Standing.TheVariants.{Going, Ended}
 -- the book before the first entry
 abbrev pub empty_book : PlantValue → AuditedBook
 empty_book plant =
-    record { plant = plant; book = record { first = zeros plant; entries = [] }; present = zeros plant; skips = zeros plant }
+    record { plant = plant; book = record { first = zeros plant; entries = [] }; present = zeros plant; risen = replicate (length plant.resources) []; skips = zeros plant }
+
+-- one more incarnation in which a resource was put
+abbrev pub put_in : AuditedBook → ℕ → ℕ → AuditedBook
+put_in b resource incarnation =
+    record b { risen = slice_set b.risen resource (risen_at b resource ++ incarnation ∷ []) }
 
 -- one resource has come to another incarnation, and skipped so many
 abbrev pub raised : AuditedBook → ℕ → ℕ → ℕ → AuditedBook
@@ -27,8 +34,15 @@ raised b resource incarnation skipped = record b {
   skips = slice_set b.skips resource (slice_index b.skips resource + skipped);
 }
 
+-- where a step hears of a resource's incarnation, it can be heard
+abbrev pub HearsKnown : AuditedBook → Step → Type 0
+HearsKnown b (Took x) = Unit {0}
+HearsKnown b (Made x) = Unit {0}
+HearsKnown b (Restarted ticket incarnation) = Unit {0}
+HearsKnown b (Heard of incarnation) = CanBeHeard b of incarnation
+
 -- the journal of a resource that began in 0: what it made are the book's entries of it, what it received are entries, and
--- its present incarnation is noted, and how many it has skipped
+-- its incarnations are noted, how many it has skipped, and all of which it heard can be heard
 pub record IsJournalOf (b : AuditedBook) (j : Journal) : Type 0 where
   pub first_is : j.first ≡ 0
   pub exists : j.resource < length b.present
@@ -36,6 +50,9 @@ pub record IsJournalOf (b : AuditedBook) (j : Journal) : Type 0 where
   pub present_is : slice_index b.present j.resource ≡ present_of j
   pub skipped_is : slice_index b.skips j.resource ≡ skipped_of j
   pub few : length (risen_to j) ≤ present_of j
+  pub listed : j.resource < length b.risen
+  pub risen_is : risen_at b j.resource ≡ risen_to j
+  pub hearings : All (HearsKnown b) j.steps
   pub made_is : made j.steps ≡ entries_of j.resource b.book.entries
   pub delivered : All (Contains b.book.entries) (received j.steps)
 
@@ -87,6 +104,9 @@ pub record Grows (resource : ℕ) (old new : AuditedBook) : Type 0 where
   pub still : (r : ℕ) → r ≢ resource → slice_index new.present r ≡ slice_index old.present r
   pub as_many : length new.skips ≡ length old.skips
   pub skips_still : (r : ℕ) → r ≢ resource → slice_index new.skips r ≡ slice_index old.skips r
+  pub as_long : length new.risen ≡ length old.risen
+  pub risen_still : (r : ℕ) → r ≢ resource → risen_at new r ≡ risen_at old r
+  pub heard : (r i : ℕ) → CanBeHeard old r i → CanBeHeard new r i
 
 -- a book of the same plant, in which the resources begin in the same incarnations
 pub record IsOfSame (old new : AuditedBook) : Type 0 where
