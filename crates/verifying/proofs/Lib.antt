@@ -5,6 +5,8 @@ pub mod Leading
 pub mod Growing
 pub mod Tracing
 pub mod Answering
+pub mod Rows
+pub mod Slicing
 pub mod Beginning
 pub mod Exploring
 pub mod Counting
