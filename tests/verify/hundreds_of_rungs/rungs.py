@@ -6,22 +6,13 @@ import sys
 PLC = os.environ["PLC"]
 sys.path.append(os.path.join(os.path.dirname(PLC), "bench"))
 sys.dont_write_bytecode = True
-from plants import line, rung
+from drawings import row
+from plants import rung
 
 RUNGS = 400
 PAIRS = 200
 SECONDS = 20
 told = []
-
-
-def contact(name):
-    """A contact of a name, negated behind a slash."""
-    return name.lstrip("/"), "|/|" if name.startswith("/") else "| |"
-
-
-def drawn(*names):
-    """A rung of contacts and a coil."""
-    return line(*map(contact, names[:-1]), (names[-1], "( )"))
 
 
 def write(name, rungs):
@@ -39,7 +30,7 @@ def ask(drawing, claim, wanted, status=0):
 def try_plant_of_real_size():
     """The rungs of its programs. Each coil is on where A is and B isn't, and reads the coil before; behind them a claim for each."""
     coils = [f"V{it:03}" for it in range(RUNGS)]
-    write("rungs.ladder", [*map(rung, range(RUNGS)), *(drawn(it, "B", f"NEVER{it}") for it in coils)])
+    write("rungs.ladder", [*map(rung, range(RUNGS)), *(row(it, "B", f"NEVER{it}") for it in coils)])
     for number, name in list(enumerate(coils))[::3]:
         ask("rungs.ladder", f"NEVER{name}", f"HOLDS NEVER{name} is never on: 2 states, 8 scans, {number + 2} of {2 * RUNGS} networks\n")
     values = ["A=1", "B=0", *(f"{it}=1" for it in coils), *(f"NEVER{it}=0" for it in coils)]
@@ -50,9 +41,9 @@ def try_plant_of_real_size():
 def drives(number, is_apart):
     """Two drives, each with a push button for on and one for off, that aren't on together; but for a slip of the second one."""
     return [
-        drawn(f"ON{number}", f"/OFF{number}", f"/DOWN{number}", f"UP{number}"),
-        drawn(f"START{number}", f"/STOP{number}", *([f"/UP{number}"] if is_apart else []), f"DOWN{number}"),
-        drawn(f"UP{number}", f"DOWN{number}", f"BOTH{number}"),
+        row(f"ON{number}", f"/OFF{number}", f"/DOWN{number}", f"UP{number}"),
+        row(f"START{number}", f"/STOP{number}", *([f"/UP{number}"] if is_apart else []), f"DOWN{number}"),
+        row(f"UP{number}", f"DOWN{number}", f"BOTH{number}"),
     ]
 
 
@@ -78,4 +69,4 @@ def run_of_slip(number, slips):
 
 try_plant_of_real_size()
 try_drives()
-print(*told or ["all as wanted"], sep="\n")
+print(*told[:9] or ["all as wanted"], sep="\n")
