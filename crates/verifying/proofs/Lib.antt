@@ -8,6 +8,7 @@ pub mod Answering
 pub mod Rows
 pub mod Slicing
 pub mod Beginning
+pub mod Wholes
 pub mod Exploring
 pub mod Counting
 pub mod Chaining

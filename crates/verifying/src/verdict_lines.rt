@@ -85,7 +85,8 @@ fn push_searched_in(text: &mut String, tally: Tally) -> Result<(), AllocError>
     text.push_str(", ")?;
     push_counted(text, tally.scans, "scan")?;
     push_needed_of(text, tally.needed, tally.networks)?;
-    text.push_str("\n")
+    text.push_str("\n")?;
+    Ok(())
 }
 
 /// Writes how much was looked at, or that no run meets what is given.
