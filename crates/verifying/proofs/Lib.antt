@@ -8,7 +8,6 @@ pub mod Answering
 pub mod Rows
 pub mod Slicing
 pub mod Beginning
-pub mod Wholes
 pub mod Exploring
 pub mod Counting
 pub mod Chaining
@@ -21,3 +20,4 @@ pub mod Telling
 pub mod Joining
 pub mod Summing
 pub mod Asking
+pub mod Wholes

@@ -25,3 +25,11 @@ returns-in_err-constants-clause-err c =
 pub returns-in_err-slice-clause-err : goal.returns-in_err-slice-clause-err
 returns-in_err-slice-clause-err c =
     kept_fault no_memory (RefusesPreparing c.args.drawing.now (question_of c.args.question.now)) _ c.from_residual-in_err-slice.ensures.1 tt
+
+pub returns-in_err-asked-clause-err : goal.returns-in_err-asked-clause-err
+returns-in_err-asked-clause-err c =
+    let q = question_of c.args.question.now in
+    let l = c.in_ok-read_marked.ladder in
+    let refused = rw c.declarations.ensures.list at (rw c.deref.ensures.value at c.in_err-asked.ensures.err) in
+    kept_fault c.in_err-asked.field-0.0 (RefusesPreparing c.args.drawing.now q) _ c.from_residual-in_err-asked.ensures.1
+    (asking_refused c.args.drawing.now q l.declarations l.networks c.in_ok-read_marked.marks.items c.in_err-asked.field-0.0 c.in_ok-read_marked.ensures.ladder c.in_ok-read_marked.ensures.marked.marks refused)
