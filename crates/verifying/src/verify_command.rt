@@ -16,7 +16,7 @@ use crate::claims::{read_claims, read_given};
 use crate::first_scans::has_run;
 use crate::held::read_settings;
 use crate::inputs::{marks_of, unmarked_places};
-use crate::needed::{few_inputs, sliced};
+use crate::needed::{few_inputs, needed_slice};
 use crate::premises::{check_time, constant_places, push_premise_line};
 use crate::question::Question;
 use crate::search::verify;
@@ -193,7 +193,7 @@ fn prepare(alloc: Global, drawing: &str, question: &Question<'_>) -> Result<Prep
         networks,
     } = read_marked(alloc, drawing)?;
     let asked = read_question(alloc, ladder.declarations(), &marks, question)?;
-    let sliced = sliced(alloc, drawing, &ladder, &rails, &asked.claims, &asked.given)?;
+    let sliced = needed_slice(alloc, drawing, &ladder, &rails, &asked.claims, &asked.given)?;
     let free = few_inputs(alloc, &sliced.idle, &asked.free)?;
     check_time(ladder.declarations(), question.dt)?;
     let constants = constant_places(alloc, ladder.declarations(), &marks)?;
