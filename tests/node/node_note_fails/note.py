@@ -56,7 +56,8 @@ def try_audit(limit, answers):
     ran = run(["audit", "pair.plant", "R1.journal", "R2.journal"], "")
     made = [line.split(" ", 2)[2] for line in ran.stdout.splitlines() if line.startswith("EVAL ")]
     missing = [line for line in answers.splitlines() if line.startswith("EVAL ") and line.split(" ", 2)[2] not in made]
-    if missing or not ran.stdout.endswith("REPLAY equal\n"):
+    *rest, last = [line for line in ran.stdout.splitlines() if not line.startswith("EVAL ")]
+    if missing or last != ("REPLAY of what is shown equal" if rest else "REPLAY equal"):
         told.append(f"{limit} bytes: {missing} stand not in {ran.stdout!r}")
 
 
