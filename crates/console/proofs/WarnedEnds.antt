@@ -3,7 +3,8 @@ use Rattle.std.proofs.Common.{◌≡◌, ◌≢◌, ◌⊎◌, ℕ, Bool, Result
 use Rattle.std.specs.declared.alloc.AllocError.{AllocError}
 use Rattle.console.specs.declared.request.Strictness.{Strictness}
 use Rattle.console.specs.declared.request.Strictness.TheVariants.{Told, Strict, Silent}
-use Rattle.console.specs.Warned.{EndsWarned, IsStatusBehind}
+use Rattle.console.specs.Warned.{EndsWarned}
+use Rattle.console.specs.Steps.WarnedEnds.{IsStatusBehind}
 
 pub ends_warned : (quiet_is : Bool → Type 0) (told : Result Bool AllocError) (strictness : Strictness) (before status : ℕ)
     → strictness ≢ Silent → IfOk told quiet_is → IsStatusBehind told strictness before status → EndsWarned quiet_is strictness before status

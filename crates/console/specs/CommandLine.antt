@@ -154,7 +154,7 @@ shown_app =
     let dt = with_rule (with_rule (new_app (codes "eval")) drawing_rule) dt_rule in
     with_rule (with_rule (with_rule dt show_rule) chart_rule) color_rule
 
--- .. `[--vcd FILE] [--svg FILE] [--strict] [--no-warnings] [NAME=BITS]..`
+-- .. `[--vcd FILE] [--svg FILE] [--strict] [--no-warnings] [NAME=VALUES]..`
 abbrev pub eval_app : App
 eval_app = with_rule (warned (traced shown_app)) words_rule
 
@@ -264,7 +264,7 @@ GivesOption (Some text) (Some n) = IsNumber text × (n ≡ digits_value 10 text)
 abbrev pub given_word : Text → List Row → List ℕ
 given_word id found = unwrap_or (first_of id found) []
 
--- the words NAME=BITS, NAME==BITS, NAME=BIT or ADDRESS=VALUE in what was found
+-- the words NAME=VALUES, NAME==VALUES, NAME=BIT or ADDRESS=VALUE in what was found
 abbrev pub words_given : List Row → List Text
 words_given found = unwrap_or (all_of (codes "words") found) []
 
@@ -284,23 +284,25 @@ journals_given found = unwrap_or (all_of (codes "JOURNAL") found) []
 abbrev pub is_given : Text → List Row → Bool
 is_given id found = option_map_or (λ text. bytes_eq text (codes "true")) (first_of id found) false
 
--- `--show` asks for drawings, and `--chart` for a chart; nothing asks for both
+-- what is asked for by two flags: the first of these three where neither is given, and one of the others with each;
+-- nothing asks for both
+abbrev pub GivesOneOf : {X : Type 0} → X → X → X → Bool → Bool → X → Type 0
+GivesOneOf neither first second false false x = x ≡ neither
+GivesOneOf neither first second true false x = x ≡ first
+GivesOneOf neither first second false true x = x ≡ second
+GivesOneOf neither first second true true x = ⊥
+
+-- `--show` asks for drawings, and `--chart` for a chart
 abbrev pub GivesView : Bool → Bool → View → Type 0
-GivesView show chart Rows = (show ≡ false) × (chart ≡ false)
-GivesView show chart Drawings = (show ≡ true) × (chart ≡ false)
-GivesView show chart Chart = (show ≡ false) × (chart ≡ true)
+GivesView show chart view = GivesOneOf Rows Drawings Chart show chart view
 
--- `--strict` makes warnings a failure, and `--no-warnings` silences them; nothing asks for both
+-- `--strict` makes warnings a failure, and `--no-warnings` silences them
 abbrev pub GivesStrictness : Bool → Bool → Strictness → Type 0
-GivesStrictness strict silent Told = (strict ≡ false) × (silent ≡ false)
-GivesStrictness strict silent Strict = (strict ≡ true) × (silent ≡ false)
-GivesStrictness strict silent Silent = (strict ≡ false) × (silent ≡ true)
+GivesStrictness strict silent strictness = GivesOneOf Told Strict Silent strict silent strictness
 
--- `--paced` asks for one command after the other, and `--clock` for the clock; nothing asks for both
+-- `--paced` asks for one command after the other, and `--clock` for the clock
 abbrev pub GivesPace : Bool → Bool → Pace → Type 0
-GivesPace paced clock Free = (paced ≡ false) × (clock ≡ false)
-GivesPace paced clock Paced = (paced ≡ true) × (clock ≡ false)
-GivesPace paced clock Clock = (paced ≡ false) × (clock ≡ true)
+GivesPace paced clock pace = GivesOneOf Free Paced Clock paced clock pace
 
 -- a node ends by the clock only where it cycles or the field has its own lines
 abbrev pub MayEnd : Bool → Option Text → Option ℕ → Type 0
@@ -407,7 +409,7 @@ strictness_of (Eval drawing dt view color files strictness words) = strictness
 strictness_of (Check plant strictness) = strictness
 strictness_of (Plan plant until) = Silent
 
--- the words NAME=BITS and NAME==BITS
+-- the words NAME=VALUES and NAME==VALUES
 abbrev pub words_in : TextRequest → List (List ℕ)
 words_in (Eval drawing dt view color files strictness words) = map (λ w. w.now) words.items
 words_in (Check plant strictness) = []

@@ -3,6 +3,8 @@
 use Rattle.std.specs.Prelude.{◌≡◌, ◌⊎◌, ℕ, if◌then◌else◌, List, Bool, bytes_eq, codes, Option, Some, None, Result, Ok, Err, MatchResult}
 use Rattle.clap.specs.declared.error.kind.ErrorKind.{ErrorKind}
 use Rattle.clap.specs.declared.error.kind.ErrorKind.TheVariants as words
+use Rattle.evaluation.specs.InputTexts.{IsFaultOf}
+use Rattle.evaluation.specs.declared.input_fault.InputFault.{InputFault}
 use Rattle.plant.specs.PlantValue.{PlantValue}
 use Rattle.text_commands.specs.CheckText.{GivesNoPlant, IsPlantOf}
 use Rattle.text_commands.specs.declared.difference.Difference.{Difference}
@@ -19,15 +21,17 @@ use Rattle.world.specs.LiveRun.{EndsLiveRun}
 use Rattle.world.specs.declared.sim_fault.SimFault.{SimFault}
 use Rattle.world.specs.declared.live_fault.LiveFault.{LiveFault}
 use Rattle.console.specs.declared.answered.Answered.{Answered}
+use Rattle.console.specs.declared.request.RunRequest.{RunRequest}
 use Rattle.console.specs.declared.request.SimRequest.{SimRequest}
 use Rattle.console.specs.declared.request.TextRequest.{TextRequest}
 use Rattle.console.specs.declared.request.VerifyRequest.{VerifyRequest}
 use Rattle.console.specs.Answers.{WritesAnswer, ExplainsAnswer}
 use Rattle.console.specs.CommandLine.{file_of, strictness_of}
 use Rattle.console.specs.Warned.{EndsWarned, IsDrawingQuiet, IsQuiet}
+use Rattle.console.specs.FieldWords.{one_text_of}
 use Rattle.console.specs.Giving.{command_fault}
 use Rattle.console.specs.ShellWord.{shell_word}
-use Rattle.console.specs.Statuses.{status_of, status_of_fault, status_of_question, status_of_plant_question, status_of_schedule, status_of_lines}
+use Rattle.console.specs.Statuses.{status_of, status_of_fault, status_of_inputs, status_of_question, status_of_plant_question, status_of_schedule, status_of_lines}
 use Rattle.console.specs.TracedRun.{WritesTracedRun, WritesTracedLines}
 use Rattle.console.specs.declared.verify_answer.Subject.{Subject}
 use Rattle.console.specs.declared.verify_answer.Subject.TheVariants.{Drawing, Plant, Neither}
@@ -138,6 +142,12 @@ EndsVerify request status = EndsAbout request (subject_of request) status
 abbrev pub IsNoPlantStatus : List ℕ → ℕ → Type 0
 IsNoPlantStatus file status = (status ≡ status_of_unread file)
     ⊎ ((text : List ℕ) × (fault : TextCommandFault) × GivesNoPlant text fault × (status ≡ status_of_fault (command_fault fault)))
+
+-- with which status a run isn't begun: its words are refused, or there is no plant in its file
+abbrev pub IsUnprepared : RunRequest → ℕ → Type 0
+IsUnprepared request status =
+    ((fault : InputFault) × IsFaultOf (one_text_of request.words.items) fault × (status ≡ status_of_inputs fault))
+    ⊎ IsNoPlantStatus request.plant.now status
 
 -- how a schedule ends, by what came of it
 abbrev pub EndsAfterSchedule : Result TraceTexts SimFault → Answered → Type 0

@@ -4,7 +4,7 @@ pub mod FieldWords
 pub mod NodeWords
 pub mod Statuses
 pub mod Refusals
-pub mod Remarks
+pub mod WordRefusals
 pub mod Giving
 pub mod Verifying
 pub mod TracedRun

@@ -1,5 +1,5 @@
 -- The first line of what is told of a text that is refused, and of a variable that isn't what the words expect.
-use Rattle.std.specs.Prelude.{ℕ, ◌++◌, if◌then◌else◌, List, Bool, Option, Some, None, codes, encode_utf8, not, string_bytes}
+use Rattle.std.specs.Prelude.{ℕ, ◌++◌, if◌then◌else◌, List, Option, Some, None, codes, encode_utf8, string_bytes}
 use Rattle.std.specs.Fmt.{decimal}
 use Rattle.std.specs.Str.{chars}
 use Rattle.std.specs.List.{flat_map}
@@ -14,6 +14,8 @@ use Rattle.plant.specs.declared.plant_fault.PlantFaultKind.{PlantFaultKind}
 use Rattle.plant.specs.declared.plant_fault.PlantFaultKind.TheVariants as plant
 use Rattle.plant.specs.declared.plant_fault.BodyFault.{BodyFault}
 use Rattle.plant.specs.declared.plant_fault.BodyFault.TheVariants as body
+use Rattle.std_blocks.specs.declared.value.Value.{Value}
+use Rattle.text_lines.specs.LineParts.{value_text}
 use Rattle.text_commands.specs.declared.text_fault.TextFault.{TextFault}
 use Rattle.text_commands.specs.declared.text_fault.TextFault.TheVariants.{Draw, Graph, Bind, Plant, TooLong}
 use Rattle.text_commands.specs.declared.difference.Difference.{Difference}
@@ -97,15 +99,13 @@ refusal_of file TooLong = codes "plan: TooLong"
 abbrev pub no_event : List ℕ → ℕ → List ℕ
 no_event file line = shown file ++ codes ":" ++ decimal line ++ codes ": Syntax"
 
--- a BOOL as a digit
-abbrev pub bit_text : Bool → List ℕ
-bit_text value = if value then codes "1" else codes "0"
-
--- FILE: NAME is B after scan N, expected B
-abbrev pub difference_text : List ℕ → List ℕ → ℕ → Bool → List ℕ
-difference_text file name scan value = (shown file ++ codes ": " ++ name ++ codes " is " ++ bit_text value ++ codes " after ")
-    ++ (codes "scan " ++ decimal scan ++ codes ", expected " ++ bit_text (not value))
+-- FILE: NAME is VALUE after scan N, expected VALUE, with values as a line has them
+abbrev pub difference_text : List ℕ → List ℕ → ℕ → Value → Value → List ℕ
+difference_text file name scan value expected =
+    (shown file ++ codes ": " ++ name ++ codes " is " ++ value_text value ++ codes " after ")
+    ++ (codes "scan " ++ decimal scan ++ codes ", expected " ++ value_text expected)
 
 -- what is told of a variable that isn't what the words expect
 abbrev pub difference_line : List ℕ → Difference → List ℕ
-difference_line file difference = difference_text file (string_bytes difference.name) difference.scan difference.value
+difference_line file difference =
+    difference_text file (string_bytes difference.name) difference.scan difference.value difference.expected

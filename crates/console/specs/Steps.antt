@@ -1,2 +1,4 @@
 -- Steps of the proofs. Only contracts inside this crate cite them, so no reader has to believe them.
 pub mod Ending
+pub mod Remarks
+pub mod WarnedEnds

@@ -1,6 +1,5 @@
 -- Warnings of a command.
-use Rattle.std.specs.Prelude.{◌≡◌, ◌⊎◌, ◌&&◌, ◌==◌, ℕ, if◌then◌else◌, List, [], ◌∷◌, Bool, true, false, Result, Ok, Err}
-use Rattle.std.specs.declared.alloc.AllocError.{AllocError}
+use Rattle.std.specs.Prelude.{◌≡◌, ◌⊎◌, ◌&&◌, ◌==◌, ℕ, if◌then◌else◌, List, [], ◌∷◌, Bool, true, false}
 use Rattle.text_commands.specs.Comments.{without_comments}
 use Rattle.warnings.specs.OfPlant.{AreWarningsOfPlant, IsNoPlant}
 use Rattle.warnings.specs.OfText.{AreWarningsOf, HasNoNetworks}
@@ -57,13 +56,6 @@ IsQuiet (Plan plant until) text quiet = quiet ≡ true
 -- where something is warned of it is 1 in place of 0
 abbrev pub strict_status : Bool → ℕ → ℕ
 strict_status quiet status = if quiet then status else (if status == 0 then 1 else status)
-
--- the status behind warnings, by whether there were none
-abbrev pub IsStatusBehind : Result Bool AllocError → Strictness → ℕ → ℕ → Type 0
-IsStatusBehind (Err fault) strictness before status = status ≡ 3
-IsStatusBehind (Ok quiet) Told before status = status ≡ before
-IsStatusBehind (Ok quiet) Strict before status = status ≡ strict_status quiet before
-IsStatusBehind (Ok quiet) Silent before status = status ≡ before
 
 -- the status behind warnings, where it was this one before them; it is 3 for want of memory
 abbrev pub EndsWarned : (Bool → Type 0) → Strictness → ℕ → ℕ → Type 0

@@ -4,12 +4,14 @@ ghost use Rattle.console.specs.Endings.{EndsAfter, EndsText, status_of_differenc
 
 use crate::answered::Answered;
 use crate::command_fault::CommandFault;
-use crate::faults::{print_difference, print_failure, print_fault_of_text, print_unwritten};
+use crate::faults::{
+    print_difference, print_failure, print_fault_of_text, print_unwritten, print_word_refusal,
+};
 use crate::files::file_text;
 use crate::piped::Piped;
+use crate::refusals::WordRefusal;
 use crate::request::{Color, TextRequest, TraceFiles, View};
-use crate::shown::Shown;
-use crate::status::{DONE, WORD_REFUSED};
+use crate::status::DONE;
 use crate::warned::warn;
 use guidance::{explain, kinds};
 use std::alloc::Global;
@@ -176,11 +178,7 @@ pub fn answer_kind<R: Print + Eprint + AllocGlobal>(rt: &R, kind: &str) -> io::R
         return print_failure(rt, CommandFault::Memory);
     };
     if text.is_empty() {
-        let kind = Shown(kind);
-        eprintln!(rt;
-            "plc: {kind}: there is no kind of fault of this name; plc explain lists all"
-        )?;
-        return Ok(WORD_REFUSED);
+        return print_word_refusal(rt, WordRefusal::NoKind(kind));
     }
     answer_with(rt, text.as_str())
 }

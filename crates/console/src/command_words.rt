@@ -3,7 +3,7 @@ ghost use Rattle.std.specs.Option.{option_map};
 ghost use Rattle.std.specs.Str.Parse.{digits_value};
 ghost use Rattle.clap.specs.Words.{rows_of, found_of, first_of, subcommand_of};
 ghost use Rattle.clap.specs.Takes.{takes};
-ghost use Rattle.console.specs.CommandLine.{plc_app, IsNumber, GivesNumber, GivesOption, AsksFiles, AsksFor, OnlyMemoryRefuses, given_word, words_given, claims_given, premises_given, journals_given, is_given, GivesView, GivesColor, GivesStrictness, GivesPace, GivesEnd};
+ghost use Rattle.console.specs.CommandLine.{plc_app, IsNumber, GivesNumber, GivesOption, AsksFiles, AsksFor, OnlyMemoryRefuses, given_word, words_given, claims_given, premises_given, journals_given, is_given, GivesOneOf, GivesView, GivesColor, GivesStrictness, GivesPace, GivesEnd};
 
 use crate::commands::commands;
 use crate::request::{
@@ -17,6 +17,12 @@ use std::alloc::{AllocError, Global};
 const UNTIL_REFUSED: &str = "MS of --until is a number from 0 to 4294967295";
 
 const DT_REFUSED: &str = "MS of --dt is a number from 0 to 4294967295";
+
+const VIEWS_REFUSED: &str = "--show and --chart can't be given both";
+
+const STRICTNESS_REFUSED: &str = "--strict and --no-warnings can't be given both";
+
+const PACES_REFUSED: &str = "--paced and --clock can't be given both";
 
 /// How many states are looked at, unless the words say it.
 const MOST_STATES: u32 = 1_000_000;
@@ -144,22 +150,40 @@ fn journals_given<'a>(alloc: Global, matches: &ArgMatches<'a>) -> Result<Vec<&'a
     }
 }
 
+/// What is asked for by two flags that can't be given both: one thing without them, and another with each.
+fn one_of_two<'a, T: Copy>(
+    command: &mut Command<'a>,
+    flags: (bool, bool),
+    refusal: &'static str,
+    neither: T,
+    first: T,
+    second: T,
+) -> Result<T, Error>
+    ensures ok { IfOk result (GivesOneOf neither first second flags.0 flags.1) }
+    ensures refused { IfErr result (OnlyMemoryRefuses (GivesOneOf neither first second flags.0 flags.1)) }
+{
+    match flags {
+        (false, false) => Ok(neither),
+        (true, false) => Ok(first),
+        (false, true) => Ok(second),
+        (true, true) => Err(command.error(ErrorKind::ArgumentConflict, refusal)?),
+    }
+}
+
 /// What is written of the scans, by the flags that were given.
 fn view_of<'a>(command: &mut Command<'a>, show: bool, chart: bool) -> Result<View, Error>
     ensures ok { IfOk result (GivesView show chart) }
     ensures refused { IfErr result (OnlyMemoryRefuses (GivesView show chart)) }
 {
-    match (show, chart) {
-        (false, false) => Ok(View::Rows),
-        (true, false) => Ok(View::Drawings),
-        (false, true) => Ok(View::Chart),
-        (true, true) => {
-            Err(command.error(
-                ErrorKind::ArgumentConflict,
-                "--show and --chart can't be given both",
-            )?)
-        }
-    }
+    let flags = (show, chart);
+    one_of_two(
+        command,
+        flags,
+        VIEWS_REFUSED,
+        View::Rows,
+        View::Drawings,
+        View::Chart,
+    )
 }
 
 /// What becomes of warnings, by the flags that were given.
@@ -171,17 +195,16 @@ fn strictness_of<'a>(
     ensures ok { IfOk result (GivesStrictness strict silent) }
     ensures refused { IfErr result (OnlyMemoryRefuses (GivesStrictness strict silent)) }
 {
-    match (strict, silent) {
-        (false, false) => Ok(Strictness::Told),
-        (true, false) => Ok(Strictness::Strict),
-        (false, true) => Ok(Strictness::Silent),
-        (true, true) => {
-            Err(command.error(
-                ErrorKind::ArgumentConflict,
-                "--strict and --no-warnings can't be given both",
-            )?)
-        }
-    }
+    let (told, strictly) = (Strictness::Told, Strictness::Strict);
+    let flags = (strict, silent);
+    one_of_two(
+        command,
+        flags,
+        STRICTNESS_REFUSED,
+        told,
+        strictly,
+        Strictness::Silent,
+    )
 }
 
 /// When a command goes, by the flags that were given.
@@ -189,17 +212,15 @@ fn pace_of<'a>(command: &mut Command<'a>, paced: bool, clock: bool) -> Result<Pa
     ensures ok { IfOk result (GivesPace paced clock) }
     ensures refused { IfErr result (OnlyMemoryRefuses (GivesPace paced clock)) }
 {
-    match (paced, clock) {
-        (false, false) => Ok(Pace::Free),
-        (true, false) => Ok(Pace::Paced),
-        (false, true) => Ok(Pace::Clock),
-        (true, true) => {
-            Err(command.error(
-                ErrorKind::ArgumentConflict,
-                "--paced and --clock can't be given both",
-            )?)
-        }
-    }
+    let flags = (paced, clock);
+    one_of_two(
+        command,
+        flags,
+        PACES_REFUSED,
+        Pace::Free,
+        Pace::Paced,
+        Pace::Clock,
+    )
 }
 
 /// When there is color, by the word behind `--color`.

@@ -314,8 +314,8 @@ fn eval_command<'a>(alloc: Global) -> Result<Command<'a>, AllocError>
 {
     warned_command(alloc, traced_command(alloc, shown_command(alloc)?)?)?.arg(words_arg(
         alloc,
-        "NAME=BITS",
-        "The values of a variable, a digit for each scan; NAME==BITS: what they are to be after it",
+        "NAME=VALUES",
+        "The values of a variable before the scans; NAME==VALUES: what they are to be after them",
     ))
 }
 

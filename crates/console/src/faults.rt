@@ -3,7 +3,7 @@ ghost use Rattle.console.specs.Giving.{command_fault};
 ghost use Rattle.console.specs.Statuses.{status_of_fault, status_of_inputs, status_of_lines, status_of_schedule};
 
 use crate::command_fault::CommandFault;
-use crate::refusals::{DifferenceLine, NoEvent, Refusal};
+use crate::refusals::{DifferenceLine, NoEvent, Refusal, RefusedWord, WordRefusal};
 use crate::remarks::{print_mark_of, print_remark};
 use crate::shown::Shown;
 use crate::status::{DIFFERS, FAILED, TEXT_REFUSED, WORD_REFUSED};
@@ -13,7 +13,7 @@ use mistakes::more_with;
 use std::alloc::AllocError;
 use std::fmt::Display;
 use std::io;
-use text_commands::{Difference, TextCommandFault, TextFault, WordFaultKind};
+use text_commands::{Difference, TextCommandFault, TextFault, WordFault, WordFaultKind};
 use world::{LiveFault, SimFault};
 
 /// Tells what helps to mend a text. The fault was told before: what can't be told here is left out.
@@ -40,6 +40,14 @@ fn print_text_fault<R: Eprint + AllocGlobal>(
     Ok(TEXT_REFUSED)
 }
 
+/// Tells why words are refused; the status.
+pub fn print_word_refusal<R: Eprint>(rt: &R, refusal: WordRefusal<'_>) -> io::Result<u8>
+    ensures { IfOk result (λ status. status ≡ 2) }
+{
+    eprintln!(rt; "{refusal}")?;
+    Ok(WORD_REFUSED)
+}
+
 /// Tells the fault of a word by its number, and where no variable has that name the nearest ones; the status.
 pub(crate) fn print_fault_of_word<R: Eprint + AllocGlobal, F: Display + Drop>(
     rt: &R,
@@ -52,12 +60,44 @@ pub(crate) fn print_fault_of_word<R: Eprint + AllocGlobal, F: Display + Drop>(
     ensures { IfOk result (λ status. status ≡ 2) }
 {
     let word = words.get(number).copied().unwrap_or("");
-    let shown = Shown(word);
-    eprintln!(rt; "plc: {shown}: {fault}")?;
+    let refused = RefusedWord { word, fault };
+    eprintln!(rt; "{refused}")?;
     if is_unknown {
         print_help(rt, help_with_a_word(rt.alloc(), text, word));
     }
     Ok(WORD_REFUSED)
+}
+
+/// Tells why a word NAME=VALUES or NAME==VALUES is refused; of an INT or a TIME how its values are written. The status.
+fn print_refused_word<R: Eprint + AllocGlobal>(
+    rt: &R,
+    text: &str,
+    words: &[&str],
+    fault: WordFault,
+) -> io::Result<u8>
+    ensures { IfOk result (λ status. status ≡ 2) }
+{
+    let word = words.get(fault.number).copied().unwrap_or("");
+    let shown = Shown(word);
+    let name = Shown(word.split('=').next().unwrap_or(word));
+    match fault.kind {
+        WordFaultKind::BadNumbers => {
+            let form = "an INT: numbers parted by commas";
+            eprintln!(rt; "plc: {shown}: {name} is {form}, as {name}=3,4,4")?;
+            Ok(WORD_REFUSED)
+        }
+        WordFaultKind::BadDurations => {
+            let form = "a TIME: durations parted by commas";
+            eprintln!(rt; "plc: {shown}: {name} is {form}, as {name}=T#5s,T#7s")?;
+            Ok(WORD_REFUSED)
+        }
+        WordFaultKind::NoVariable => {
+            print_fault_of_word(rt, text, words, fault.number, true, fault)
+        }
+        WordFaultKind::BadDigits | WordFaultKind::Twice => {
+            print_fault_of_word(rt, text, words, fault.number, false, fault)
+        }
+    }
 }
 
 /// Tells that the output failed, or the threads, or memory; the status.
@@ -90,10 +130,7 @@ pub fn print_fault<R: Eprint + AllocGlobal>(
 {
     match fault {
         CommandFault::Text(fault) => print_text_fault(rt, file, text, fault),
-        CommandFault::Word(fault) => {
-            let is_unknown = fault.kind == WordFaultKind::NoVariable;
-            print_fault_of_word(rt, text, words, fault.number, is_unknown, fault)
-        }
+        CommandFault::Word(fault) => print_refused_word(rt, text, words, fault),
         CommandFault::Write | CommandFault::Run(_) | CommandFault::Memory => {
             print_failure(rt, fault)
         }
@@ -135,14 +172,8 @@ pub(crate) fn print_input_fault<R: Eprint>(rt: &R, fault: InputFault) -> io::Res
     ensures { IfOk result (λ status. status ≡ status_of_inputs fault) }
 {
     match fault {
-        InputFault::Syntax => {
-            eprintln!(rt; "plc: a word is no ADDRESS=VALUE such as %IX0=1 or %IW2=-7")?;
-            Ok(WORD_REFUSED)
-        }
-        InputFault::Twice => {
-            eprintln!(rt; "plc: two words give one address its value")?;
-            Ok(WORD_REFUSED)
-        }
+        InputFault::Syntax => print_word_refusal(rt, WordRefusal::NoFieldInput),
+        InputFault::Twice => print_word_refusal(rt, WordRefusal::AddressTwice),
         InputFault::Memory => print_failure(rt, CommandFault::Memory),
     }
 }

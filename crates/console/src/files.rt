@@ -2,9 +2,10 @@ ghost use Rattle.std.specs.Prelude.{◌≡◌, IfOk, IfErr, List, ℕ, MatchResu
 ghost use Rattle.text_commands.specs.CheckText.{GivesNoPlant, IsPlantOf};
 ghost use Rattle.console.specs.Endings.{IsNoPlantStatus, status_of_unread};
 
-use crate::faults::print_fault;
+use crate::faults::{print_fault, print_word_refusal};
+use crate::refusals::WordRefusal;
 use crate::shown::Shown;
-use crate::status::{FAILED, WORD_REFUSED};
+use crate::status::FAILED;
 use plant::Plant;
 use std::alloc::Global;
 use std::rt::Files;
@@ -15,16 +16,6 @@ use text_commands::{TextCommandFault, read_plant};
 /// What stands for standard input in the place of a file's name.
 pub(crate) const STANDARD_INPUT: &str = "-";
 
-/// Tells that no file stands behind `-`; the status.
-fn print_no_file<R: Eprint>(rt: &R) -> io::Result<u8>
-    ensures { IfOk result (λ status. status ≡ 2) }
-{
-    eprintln!(rt;
-        "plc: -: only a schedule is read from standard input; a file of this name is ./-"
-    )?;
-    Ok(WORD_REFUSED)
-}
-
 /// Tells why a file can't be read; the status.
 fn print_unread<R: Eprint>(rt: &R, file: &str, error: &io::Error) -> io::Result<u8>
     ensures { IfOk result (λ status. status ≡ 3) }
@@ -32,6 +23,16 @@ fn print_unread<R: Eprint>(rt: &R, file: &str, error: &io::Error) -> io::Result<
     let file = Shown(file);
     eprintln!(rt; "plc: {file}: {error}")?;
     Ok(FAILED)
+}
+
+/// What was read of a file, or the status after its fault was told.
+fn read_or_told<R: Eprint, T>(rt: &R, file: &str, read: io::Result<T>) -> io::Result<Result<T, u8>>
+    ensures { IfOk result (λ read. IfErr read (λ status. status ≡ 3)) }
+{
+    match read {
+        Ok(read) => Ok(Ok(read)),
+        Err(error) => Ok(Err(print_unread(rt, file, &error)?)),
+    }
 }
 
 /// The text of a file, or the status after its fault was told. A whole text isn't read from standard input.
@@ -42,12 +43,9 @@ pub(crate) fn file_text<R: Files + Eprint + AllocGlobal>(
     ensures { IfOk result (λ read. IfErr read (λ status. status ≡ status_of_unread file.now)) }
 {
     if file == STANDARD_INPUT {
-        return Ok(Err(print_no_file(rt)?));
+        return Ok(Err(print_word_refusal(rt, WordRefusal::NoFile)?));
     }
-    match fs::read_to_string(rt, file) {
-        Ok(text) => Ok(Ok(text)),
-        Err(error) => Ok(Err(print_unread(rt, file, &error)?)),
-    }
+    read_or_told(rt, file, fs::read_to_string(rt, file))
 }
 
 /// The text of a file, or of standard input where that is `-`; or the status after its fault was told.
@@ -62,10 +60,7 @@ pub(crate) fn any_text<R: Files + Input + Eprint + AllocGlobal>(
     } else {
         fs::read_to_string(rt, file)
     };
-    match read {
-        Ok(text) => Ok(Ok(text)),
-        Err(error) => Ok(Err(print_unread(rt, file, &error)?)),
-    }
+    read_or_told(rt, file, read)
 }
 
 /// The bytes of a file, or the status after its fault was told. Those of a whole file aren't read from standard input.
@@ -76,12 +71,9 @@ pub fn file_bytes<R: Files + Eprint + AllocGlobal>(
     ensures { IfOk result (λ read. IfErr read (λ status. status ≡ status_of_unread file.now)) }
 {
     if file == STANDARD_INPUT {
-        return Ok(Err(print_no_file(rt)?));
+        return Ok(Err(print_word_refusal(rt, WordRefusal::NoFile)?));
     }
-    match fs::read(rt, file) {
-        Ok(bytes) => Ok(Ok(bytes)),
-        Err(error) => Ok(Err(print_unread(rt, file, &error)?)),
-    }
+    read_or_told(rt, file, fs::read(rt, file))
 }
 
 /// Reads a plant that is to be shared.

@@ -10,10 +10,11 @@ command mean, and plc explain KIND what a refused text has wrong.";
 
 /// What `plc eval --help` tells behind the words.
 pub const EVAL_HELP: &str = "\
-Each word NAME=BITS gives the BOOL variable NAME its values: BITS is a row of digits 0 and 1, one for each
-scan. Before scan k the variable is set to the k-th digit, or left alone if there is none. There are as many
-scans as the longest word has digits (at most 1,000), and one if there are no words. A name that the drawing
-uses is a variable; it is written in either case.
+Each word NAME=VALUES gives the variable NAME its values, one before each scan: VALUES are items with commas
+between, without blanks. An item of a BOOL is 1 to 1,000 digits 0 and 1, a value each; of an INT a number from
+-32768 to 32767; of a TIME a duration, as T#5s. ITEM*COUNT is the item COUNT times, 1 to 1000000. Behind its last
+value the variable keeps what it is. There are as many scans as the longest word has values (at most 1,000,000),
+and one if there are no words. A name that the drawing uses is a variable; it is written in either case.
 
 After each scan one line of all variables is written, in the order in which they appear in the drawing. With
 --show the drawing follows each of these lines as it stands in the file, with = for a - that has power in this
@@ -22,7 +23,7 @@ on a terminal where NO_COLOR isn't set. With --chart one line is written for eac
 last scan: a BOOL is # where it is on and _ where it is off, a sign for each scan; a number or time is written
 after the first scan, and behind a blank after each one that changed it.
 
-A word NAME==BITS tells what the BOOL variable NAME is to be after each scan, and behind its last digit nothing.
+A word NAME==VALUES tells what the variable NAME is to be after each scan, and behind its last value nothing.
 The first difference is told on standard error.
 
 With --vcd FILE all variables are written as a value change dump (IEEE 1364) after the last scan, for programs that show
@@ -50,11 +51,12 @@ Example, for the drawing examples/start_stop.ladder:
   START #__
   STOP  __#
   RUN   ##_
+  $ plc eval examples/start_stop.ladder START=1,0*500 RUN==1*501 >/dev/null
   $ plc eval examples/start_stop.ladder START=100 STOP=001 --svg start_stop.svg >/dev/null
 
 The exit status is 0; 1 if the text of the drawing is refused, with FILE:LINE:COLUMN: Kind on standard error, or with --strict
 where there is a warning; 2 if a word is refused; 3 if the file can't be read, the output or a file can't be written or there is no memory left;
-4 if a variable isn't what a word NAME==BITS tells.";
+4 if a variable isn't what a word NAME==VALUES tells.";
 
 /// What `plc verify --help` tells behind the words.
 pub const VERIFY_HELP: &str = "\
@@ -287,10 +289,10 @@ is no memory left.";
 
 /// What `plc explain --help` tells behind the words.
 pub const EXPLAIN_HELP: &str = "\
-KIND is the kind of a fault as the first line of a message tells it, in either case: Crossing in drawing.ladder:3:14: Crossing;
-or that of a line REFUSED, FAULT or UNSHOWN, of a run without a report, or of a file of a folder of state. What is wrong and
-how it is mended is written, of a text with an example. A kind that is met in several places is told for each of them.
-Without KIND all kinds are listed, with where they are met.
+KIND is the kind of a fault or a warning as the first line of a message tells it, in either case: Crossing in
+drawing.ladder:3:14: Crossing; or that of a line REFUSED, FAULT or UNSHOWN, of a run without a report, or of a file of a
+folder of state. What is wrong and how it is mended is written, of a text with an example. A kind that is met in several
+places is told for each of them. Without KIND all kinds are listed, with where they are met.
 
 Example:
 

@@ -31,18 +31,20 @@ pub use answered::Answered;
 pub use answers::{answer_kind, answer_kinds, answer_text, obey, wanted_for};
 pub use command_fault::CommandFault;
 pub use command_words::read_words;
-pub use faults::{print_failure, print_fault};
+pub use faults::{print_failure, print_fault, print_word_refusal};
 pub use field_words::read_field_words;
 pub use files::{file_bytes, file_plant};
 pub use given::{given_words, print_given_fault, print_usage};
 pub use node_prepared::{PreparedNode, prepare_node};
-pub use page_answer::answer_page;
+pub use page_answer::{answer_page, obey_page};
 pub use prepared::{Prepared, prepare};
+pub use refusals::{
+    WordRefusal, write_difference_line, write_no_event, write_refusal, write_word_refusal,
+};
 pub use request::{
     AuditRequest, Color, NodeRequest, Pace, Request, RunRequest, SimRequest, Strictness,
     TextRequest, TraceFiles, VerifyRequest, View,
 };
 pub use schedules::{answer_schedule, obey_lines, obey_schedule};
-pub use shown::Shown;
-pub use status::{FAILED, WORD_REFUSED};
+pub use status::FAILED;
 pub use verify_answer::{answer_verify, obey_verify};

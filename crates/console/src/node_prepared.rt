@@ -2,10 +2,10 @@ ghost use Rattle.std.specs.Prelude.{IfOk};
 ghost use Rattle.plant.specs.Find.{Finds};
 ghost use Rattle.console.specs.NodeWords.{NamesResource};
 
+use crate::faults::print_word_refusal;
 use crate::files::file_plant;
+use crate::refusals::WordRefusal;
 use crate::request::NodeRequest;
-use crate::shown::Shown;
-use crate::status::WORD_REFUSED;
 use plant::Plant;
 use std::io;
 use std::rt::Files;
@@ -45,9 +45,8 @@ pub fn prepare_node<R: Files + Eprint + AllocGlobal>(
     match place_of(&plant, request.resource) {
         Some(resource) => Ok(Ok(PreparedNode { plant, resource })),
         None => {
-            let name = Shown(request.resource);
-            eprintln!(rt; "plc: {name}: the plant has no resource of this name")?;
-            Ok(Err(WORD_REFUSED))
+            let refusal = WordRefusal::NoResource(request.resource);
+            Ok(Err(print_word_refusal(rt, refusal)?))
         }
     }
 }

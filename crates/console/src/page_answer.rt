@@ -15,7 +15,7 @@ use std::rt::Files;
 use text_lines::write_text;
 
 /// Writes the page of a text.
-fn obey_page<W: Write>(alloc: Global, text: &str, writer: &mut W) -> Result<(), CommandFault>
+pub fn obey_page<W: Write>(alloc: Global, text: &str, writer: &mut W) -> Result<(), CommandFault>
     ensures ok { OnOk result (Appends (W.contents writer.old) (W.contents writer.new) (page_of text.now)) }
     ensures fault { IfErr result (ExplainsPage text.now (W.contents writer.old) (W.contents writer.new)) }
 {

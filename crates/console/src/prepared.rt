@@ -1,6 +1,7 @@
-ghost use Rattle.std.specs.Prelude.{IfOk};
+ghost use Rattle.std.specs.Prelude.{IfOk, MatchResult};
 ghost use Rattle.evaluation.specs.InputTexts.{IsRead};
 ghost use Rattle.console.specs.FieldWords.{one_text_of};
+ghost use Rattle.console.specs.Endings.{IsUnprepared};
 
 use crate::faults::print_input_fault;
 use crate::field_words::read_field_words;
@@ -24,7 +25,9 @@ pub fn prepare<R: Files + Eprint + AllocGlobal>(
     rt: &R,
     request: &RunRequest<'_>,
 ) -> io::Result<Result<Prepared, u8>>
-    ensures { IfOk result (λ prepared. IfOk prepared (λ p. IsRead (one_text_of request.now.words.items) p.inputs)) }
+    ensures { IfOk result (λ prepared. MatchResult prepared
+        (λ p. IsRead (one_text_of request.now.words.items) p.inputs)
+        (IsUnprepared request.now)) }
 {
     let inputs = match read_field_words(rt.alloc(), &request.words) {
         Ok(inputs) => inputs,

@@ -1,8 +1,11 @@
-//! The first line of what is told of a text that is refused, and of a difference.
+//! The first line of what is told of a text or a word that is refused, and of a difference.
 
-ghost use Rattle.std.specs.Prelude.{◌≡◌, Some};
+ghost use Rattle.std.specs.Prelude.{◌≡◌, ◌++◌, Some, codes};
 ghost use Rattle.std.specs.Fmt.{DisplaysOnOk};
-ghost use Rattle.console.specs.Refusals.{at_line, at_place, bit_text, difference_line, difference_text, kind_of_body, kind_of_drawing, kind_of_names, kind_of_networks, kind_of_plant, no_event, refusal_of};
+ghost use Rattle.std.specs.Option.{option_map};
+ghost use Rattle.text_lines.specs.LineParts.{value_text};
+ghost use Rattle.console.specs.Refusals.{at_line, at_place, difference_line, difference_text, kind_of_body, kind_of_drawing, kind_of_names, kind_of_networks, kind_of_plant, no_event, refusal_of, shown};
+ghost use Rattle.console.specs.WordRefusals.{name_refused, word_refusal, written_over, written_twice};
 
 use crate::shown::Shown;
 use ladder_text::DrawFaultKind;
@@ -11,6 +14,7 @@ use network::GraphFaultKind;
 use plant::{BodyFault, PlantFault, PlantFaultKind};
 use std::fmt;
 use std::fmt::{Display, Formatter};
+use std_blocks::Value;
 use text_commands::{Difference, TextFault};
 
 /// The name of the kind of a drawing's fault.
@@ -115,7 +119,33 @@ fn write_at_line<W: fmt::Write>(f: &mut Formatter<W>, file: &str, fault: PlantFa
     }
 }
 
-/// The first line of what is told of a text that is refused: where in the file, and the kind of what is wrong there.
+/// Writes the first line of what is told of a text that is refused: where in the file, and the kind of what is wrong there.
+pub fn write_refusal<W: fmt::Write>(
+    f: &mut Formatter<W>,
+    file: &str,
+    fault: TextFault,
+) -> fmt::Result
+    ensures { DisplaysOnOk W.write_str_gives f.old result (Some (refusal_of file.now fault)) f.new }
+{
+    match fault {
+        TextFault::Draw(fault) => {
+            let kind = kind_of_drawing(fault.kind);
+            write_at_place(f, file, fault.line, fault.column, kind)
+        }
+        TextFault::Graph(fault) => {
+            let kind = kind_of_networks(fault.kind);
+            write_at_place(f, file, fault.line, fault.column, kind)
+        }
+        TextFault::Bind(fault) => {
+            let kind = kind_of_names(fault.kind);
+            write_at_place(f, file, fault.line, fault.column, kind)
+        }
+        TextFault::Plant(fault) => write_at_line(f, file, fault),
+        TextFault::TooLong => f.write_str("plan: TooLong"),
+    }
+}
+
+/// The first line of what is told of a text that is refused.
 #[derive(Clone, Copy)]
 pub(crate) struct Refusal<'a> {
     pub file: &'a str,
@@ -126,23 +156,16 @@ impl Display for Refusal<'_> {
     ghost output = { λ r. Some (refusal_of r.file.now r.fault) };
 
     fn fmt<W: fmt::Write>(&self, f: &mut Formatter<W>) -> fmt::Result {
-        match self.fault {
-            TextFault::Draw(fault) => {
-                let kind = kind_of_drawing(fault.kind);
-                write_at_place(f, self.file, fault.line, fault.column, kind)
-            }
-            TextFault::Graph(fault) => {
-                let kind = kind_of_networks(fault.kind);
-                write_at_place(f, self.file, fault.line, fault.column, kind)
-            }
-            TextFault::Bind(fault) => {
-                let kind = kind_of_names(fault.kind);
-                write_at_place(f, self.file, fault.line, fault.column, kind)
-            }
-            TextFault::Plant(fault) => write_at_line(f, self.file, fault),
-            TextFault::TooLong => f.write_str("plan: TooLong"),
-        }
+        write_refusal(f, self.file, self.fault)
     }
+}
+
+/// Writes the first line of what is told of a schedule of which a line is no event.
+pub fn write_no_event<W: fmt::Write>(f: &mut Formatter<W>, file: &str, line: u64) -> fmt::Result
+    ensures { DisplaysOnOk W.write_str_gives f.old result (Some (no_event file.now line)) f.new }
+{
+    let file = Shown(file);
+    write!(f, "{file}:{line}: Syntax")
 }
 
 /// The first line of what is told of a schedule of which a line is no event.
@@ -156,16 +179,25 @@ impl Display for NoEvent<'_> {
     ghost output = { λ r. Some (no_event r.file.now r.line) };
 
     fn fmt<W: fmt::Write>(&self, f: &mut Formatter<W>) -> fmt::Result {
-        let (file, line) = (Shown(self.file), self.line);
-        write!(f, "{file}:{line}: Syntax")
+        write_no_event(f, self.file, self.line)
     }
 }
 
-/// A BOOL as a digit.
-fn bit_text(value: bool) -> &'static str
-    ensures { result.now ≡ bit_text value }
-{
-    if value { "1" } else { "0" }
+/// A value as a line has it.
+#[derive(Clone, Copy)]
+struct ShownValue(Value);
+
+impl Display for ShownValue {
+    ghost output = { λ v. Some (value_text v.0) };
+
+    fn fmt<W: fmt::Write>(&self, f: &mut Formatter<W>) -> fmt::Result {
+        match self.0 {
+            Value::Bool(true) => f.write_str("1"),
+            Value::Bool(false) => f.write_str("0"),
+            Value::Int(number) => write!(f, "{number}"),
+            Value::Time(milliseconds) => write!(f, "T#{milliseconds}ms"),
+        }
+    }
 }
 
 /// Writes that a variable isn't what the words expect.
@@ -174,13 +206,34 @@ fn write_difference<W: fmt::Write>(
     file: &str,
     name: &str,
     scan: usize,
-    value: bool,
+    value: Value,
+    expected: Value,
 ) -> fmt::Result
-    ensures { DisplaysOnOk W.write_str_gives f.old result (Some (difference_text file.now name.now scan value)) f.new }
+    ensures { DisplaysOnOk W.write_str_gives f.old result
+        (Some (difference_text file.now name.now scan value expected)) f.new }
 {
-    let (file, is, other) = (Shown(file), bit_text(value), bit_text(!value));
+    let (file, is, wanted) = (Shown(file), ShownValue(value), ShownValue(expected));
     write!(f, "{file}: {name} is {is} after ")?;
-    write!(f, "scan {scan}, expected {other}")
+    write!(f, "scan {scan}, expected {wanted}")
+}
+
+/// Writes the line on a variable that isn't what the words expect.
+pub fn write_difference_line<W: fmt::Write>(
+    f: &mut Formatter<W>,
+    file: &str,
+    difference: &Difference,
+) -> fmt::Result
+    ensures { DisplaysOnOk W.write_str_gives f.old result (Some (difference_line file.now difference.now)) f.new }
+{
+    let name = difference.name.as_str();
+    write_difference(
+        f,
+        file,
+        name,
+        difference.scan,
+        difference.value,
+        difference.expected,
+    )
 }
 
 /// The line on a variable that isn't what the words expect.
@@ -194,7 +247,122 @@ impl Display for DifferenceLine<'_> {
     ghost output = { λ d. Some (difference_line d.file.now d.difference.now) };
 
     fn fmt<W: fmt::Write>(&self, f: &mut Formatter<W>) -> fmt::Result {
-        let Difference { name, scan, value } = self.difference;
-        write_difference(f, self.file, name.as_str(), *scan, *value)
+        write_difference_line(f, self.file, self.difference)
+    }
+}
+
+/// Why words of the command line are refused that its grammar allows.
+#[derive(Clone, Copy, Debug)]
+pub enum WordRefusal<'a> {
+    /// A word of a run is no ADDRESS=VALUE.
+    NoFieldInput,
+    /// Two words give one address its value.
+    AddressTwice,
+    /// The plant has no resource of this name.
+    NoResource(&'a str),
+    /// There is no kind of fault of this name.
+    NoKind(&'a str),
+    /// `-` stands in the place of a file.
+    NoFile,
+    /// The names are neither all of a drawing nor all of a plant, or what is asked of a drawing is asked of plants alone.
+    NoSubject,
+    /// A file is read, and would be written for an option.
+    WrittenOver {
+        path: &'a str,
+        option: &'a str,
+    },
+    /// A file is written for an option, and would be for another one.
+    WrittenTwice {
+        path: &'a str,
+        first: &'a str,
+        option: &'a str,
+    },
+}
+
+/// Writes a word, and why it is refused.
+fn write_named<W: fmt::Write>(f: &mut Formatter<W>, name: &str, why: &str) -> fmt::Result
+    ensures { DisplaysOnOk W.write_str_gives f.old result (Some (name_refused name.now why.now)) f.new }
+{
+    let name = Shown(name);
+    write!(f, "plc: {name}: {why}")
+}
+
+/// Writes that a file would be written over.
+fn write_written_over<W: fmt::Write>(f: &mut Formatter<W>, path: &str, option: &str) -> fmt::Result
+    ensures { DisplaysOnOk W.write_str_gives f.old result (Some (written_over path.now option.now)) f.new }
+{
+    write_named(f, path, "this file is read: give another name to ")?;
+    f.write_str(option)
+}
+
+/// Writes that a file would be written twice.
+fn write_written_twice<W: fmt::Write>(
+    f: &mut Formatter<W>,
+    path: &str,
+    first: &str,
+    option: &str,
+) -> fmt::Result
+    ensures { DisplaysOnOk W.write_str_gives f.old result (Some (written_twice path.now first.now option.now)) f.new }
+{
+    write_named(f, path, "this file is written for ")?;
+    write!(f, "{first}: give another name to {option}")
+}
+
+/// Writes the line on words that are refused.
+pub fn write_word_refusal<W: fmt::Write>(
+    f: &mut Formatter<W>,
+    refusal: WordRefusal<'_>,
+) -> fmt::Result
+    ensures { DisplaysOnOk W.write_str_gives f.old result (Some (word_refusal refusal.entry)) f.new }
+{
+    match refusal {
+        WordRefusal::NoFieldInput => {
+            f.write_str("plc: a word is no ADDRESS=VALUE such as %IX0=1 or %IW2=-7")
+        }
+        WordRefusal::AddressTwice => f.write_str("plc: two words give one address its value"),
+        WordRefusal::NoResource(name) => {
+            write_named(f, name, "the plant has no resource of this name")
+        }
+        WordRefusal::NoKind(name) => write_named(
+            f,
+            name,
+            "there is no kind of fault of this name; plc explain lists all",
+        ),
+        WordRefusal::NoFile => f.write_str(
+            "plc: -: only a schedule is read from standard input; a file of this name is ./-",
+        ),
+        WordRefusal::NoSubject => f.write_str(
+            "plc: names without a dot are of a drawing, names R.P.V of a plant, and a question is about one of them; --no-restarts and --most-waiting are of plants",
+        ),
+        WordRefusal::WrittenOver { path, option } => write_written_over(f, path, option),
+        WordRefusal::WrittenTwice {
+            path,
+            first,
+            option,
+        } => write_written_twice(f, path, first, option),
+    }
+}
+
+impl Display for WordRefusal<'_> {
+    ghost output = { λ r. Some (word_refusal r) };
+
+    fn fmt<W: fmt::Write>(&self, f: &mut Formatter<W>) -> fmt::Result {
+        write_word_refusal(f, *self)
+    }
+}
+
+/// A word of the command line, and its fault, of which a lower crate tells.
+#[derive(Clone, Copy)]
+pub(crate) struct RefusedWord<'a, F> {
+    pub word: &'a str,
+    pub fault: F,
+}
+
+impl<F: Display> Display for RefusedWord<'_, F> {
+    ghost output = { λ r. option_map (λ told. codes "plc: " ++ shown r.word.now ++ codes ": " ++ told) (F.output r.fault) };
+
+    fn fmt<W: fmt::Write>(&self, f: &mut Formatter<W>) -> fmt::Result {
+        let (word, fault) = (Shown(self.word), &self.fault);
+        write!(f, "plc: {word}: {fault}")
     }
 }

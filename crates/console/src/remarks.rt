@@ -1,7 +1,7 @@
 //! What is told of the whole of a text that is refused: that it begins with a byte order mark, or is no text for the command.
 
 ghost use Rattle.std.specs.Prelude.{◌≡◌};
-ghost use Rattle.console.specs.Remarks.{begins_with_mark, remark_of, remark_of_drawing, remark_of_plant};
+ghost use Rattle.console.specs.Steps.Remarks.{begins_with_mark, remark_of, remark_of_drawing, remark_of_plant};
 
 use crate::shown::Shown;
 use std::io;

@@ -106,7 +106,7 @@ impl<'a> TextRequest<'a> {
         }
     }
 
-    /// The words NAME=BITS and NAME==BITS.
+    /// The words NAME=VALUES and NAME==VALUES.
     pub fn words(&self) -> &[&'a str]
         ensures { map (λ w. w.now) result.now ≡ words_in self.now }
     {

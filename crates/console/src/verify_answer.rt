@@ -7,9 +7,10 @@ ghost use Rattle.console.specs.Verifying.{are_of_plant, are_plain, asked_questio
 ghost use Rattle.console.specs.Endings.{EndsVerify, IsDrawingVerified, IsPlantVerified, EndsVerdicts, status_of_plant_verdicts};
 
 use crate::command_fault::CommandFault;
-use crate::faults::{print_failure, print_fault_of_text, print_fault_of_word};
+use crate::faults::{print_failure, print_fault_of_text, print_fault_of_word, print_word_refusal};
 use crate::files::file_text;
 use crate::piped::Piped;
+use crate::refusals::WordRefusal;
 use crate::request::VerifyRequest;
 use crate::shell_word::shell_word;
 use crate::status::{CLAIM_FAILS, DONE, UNDECIDED, WORD_REFUSED};
@@ -79,9 +80,6 @@ fn subject_of(request: &VerifyRequest<'_>) -> Subject
 
 /// Of how many waiting images the order is kept, unless the words say it.
 const MOST_WAITING: u32 = 8;
-
-const NEITHER: &str =
-    "names without a dot are of a drawing, names R.P.V of a plant, and a question is about one of them; --no-restarts and --most-waiting are of plants";
 
 /// Writes what is true of the claims about the drawing in the text. The file is the word that stands for it before the words
 /// for `plc eval`. How far the search is is told meanwhile.
@@ -294,9 +292,6 @@ pub fn answer_verify<R: Files + Clock + Print + Eprint + AllocGlobal>(
             Ok(text) => answer_plant(rt, told, request, text.as_str()),
             Err(status) => Ok(status),
         },
-        Subject::Neither => {
-            eprintln!(rt; "plc: {NEITHER}")?;
-            Ok(WORD_REFUSED)
-        }
+        Subject::Neither => print_word_refusal(rt, WordRefusal::NoSubject),
     }
 }

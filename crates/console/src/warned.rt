@@ -1,7 +1,8 @@
 //! Warnings: what is lawful, and most likely not meant.
 
 ghost use Rattle.std.specs.Prelude.{◌≡◌, IfOk, MatchOption};
-ghost use Rattle.console.specs.Warned.{AreDrawingWarnings, ArePlantWarnings, IsNoDrawing, IsNoPlantEither, EndsWarned, IsDrawingQuiet, IsPlantQuiet, IsQuiet, IsStatusBehind, is_plant_quiet, strict_status};
+ghost use Rattle.console.specs.Warned.{AreDrawingWarnings, ArePlantWarnings, IsNoDrawing, IsNoPlantEither, EndsWarned, IsDrawingQuiet, IsPlantQuiet, IsQuiet, is_plant_quiet, strict_status};
+ghost use Rattle.console.specs.Steps.WarnedEnds.{IsStatusBehind};
 ghost use Rattle.console.specs.CommandLine.{strictness_of};
 
 use crate::command_fault::CommandFault;

@@ -1,4 +1,4 @@
--- What is told of each kind of fault.
+-- What is told of each kind of fault, and of each kind of warning.
 use Rattle.std.specs.Prelude.{ℕ, List, Option, Some, None}
 use Rattle.ladder_text.specs.declared.draw_fault.DrawFaultKind.{DrawFaultKind}
 use Rattle.ladder_text.specs.declared.draw_fault.DrawFaultKind.TheVariants as draw
@@ -10,6 +10,8 @@ use Rattle.plant.specs.declared.plant_fault.PlantFaultKind.{PlantFaultKind}
 use Rattle.plant.specs.declared.plant_fault.PlantFaultKind.TheVariants as plant
 use Rattle.plant.specs.declared.plant_fault.BodyFault.{BodyFault}
 use Rattle.plant.specs.declared.plant_fault.BodyFault.TheVariants as body
+use Rattle.warnings.specs.Sentences.{sentence_of}
+use Rattle.warnings.specs.declared.warning.WarningKind.TheVariants as warning
 use Rattle.guidance.specs.declared.table.TheConstants as table
 use Rattle.guidance.specs.declared.topic.Topic.{Topic}
 use Rattle.guidance.specs.declared.topic.Topic.TheVariants as topic
@@ -23,7 +25,7 @@ pub record Told : Type 0 where
 abbrev pub told : List ℕ → List ℕ → List ℕ → Told
 told sentence example mended = record { sentence = sentence; example = example; mended = mended }
 
--- what the table of the code has for each kind
+-- what the table of the code has for each kind, and of a warning the crate of warnings says
 abbrev pub told_of : Topic → Told
 told_of topic.NotAscii = told table.NOT_ASCII.now table.NOT_ASCII_REFUSED.now table.NOT_ASCII_MENDED.now
 told_of topic.TooLarge = told table.TOO_LARGE.now table.TOO_LARGE_REFUSED.now table.TOO_LARGE_MENDED.now
@@ -61,6 +63,14 @@ told_of topic.TooMany = told table.TOO_MANY.now table.TOO_MANY_REFUSED.now table
 told_of topic.TooLong = told table.TOO_LONG.now table.TOO_LONG_REFUSED.now table.TOO_LONG_MENDED.now
 told_of topic.ScheduleSyntax =
     told table.SCHEDULE_SYNTAX.now table.SCHEDULE_SYNTAX_REFUSED.now table.SCHEDULE_SYNTAX_MENDED.now
+told_of topic.DoubleCoil =
+    told (sentence_of warning.DoubleCoil) table.DOUBLE_COIL_WARNED.now table.DOUBLE_COIL_MENDED.now
+told_of topic.MistypedContact =
+    told (sentence_of warning.MistypedContact) table.MISTYPED_CONTACT_WARNED.now table.MISTYPED_CONTACT_MENDED.now
+told_of topic.NeverRead =
+    told (sentence_of warning.NeverRead) table.NEVER_READ_WARNED.now table.NEVER_READ_MENDED.now
+told_of topic.UnboundInput =
+    told table.UNBOUND_INPUT.now table.UNBOUND_INPUT_WARNED.now table.UNBOUND_INPUT_MENDED.now
 
 -- the kind of fault of a drawing, which is none for want of memory
 abbrev pub of_drawing : DrawFaultKind → Option Topic

@@ -1,5 +1,5 @@
 ghost use Rattle.std.specs.Prelude.{◌≡◌};
-ghost use Rattle.guidance.specs.Steps.Advices.{layer_text};
+ghost use Rattle.guidance.specs.Steps.Advices.{heading_of, layer_text};
 
 /// What is refused.
 #[derive(Clone, Copy)]
@@ -16,6 +16,10 @@ pub enum Layer {
     Plan,
     /// The text of a schedule.
     Schedule,
+    /// Nothing: a drawing is warned of.
+    WarnedDrawing,
+    /// Nothing: a plant is warned of.
+    WarnedPlant,
 }
 
 impl Layer {
@@ -30,11 +34,23 @@ impl Layer {
             Layer::Plant => "in a plant",
             Layer::Plan => "in the plan of a plant",
             Layer::Schedule => "in a schedule",
+            Layer::WarnedDrawing => "as a warning of a drawing",
+            Layer::WarnedPlant => "as a warning of a plant",
+        }
+    }
+
+    /// What becomes of a text of this kind.
+    pub fn heading(self) -> &'static str
+        ensures { result.now ≡ heading_of self }
+    {
+        match self {
+            Layer::WarnedDrawing | Layer::WarnedPlant => "Warned of",
+            _ => "Refused",
         }
     }
 }
 
-/// What is told of one kind of fault.
+/// What is told of one kind of fault or warning.
 #[derive(Clone, Copy)]
 pub struct Advice {
     pub layer: Layer,

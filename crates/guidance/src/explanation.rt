@@ -8,8 +8,8 @@ fn push_topic(text: &mut String, topic: Topic) -> Result<(), AllocError> {
     let advice = topic.advice();
     let kind = advice.kind;
     let place = advice.layer.text();
-    let sentence = advice.sentence;
-    write!(text, "{kind} {place}:\n{sentence}\n\nRefused:\n\n")?;
+    let (sentence, heading) = (advice.sentence, advice.layer.heading());
+    write!(text, "{kind} {place}:\n{sentence}\n\n{heading}:\n\n")?;
     push_example(text, advice.example)?;
     text.push_str("\nMended:\n\n")?;
     push_example(text, advice.mended)
@@ -57,8 +57,8 @@ fn push_kinds(text: &mut String, occasion: Occasion) -> Result<(), AllocError> {
     Ok(())
 }
 
-/// What is told of the kinds of this name, in whatever case: of faults of texts layer by layer, then of what happens. It is
-/// empty where there is none.
+/// What is told of the kinds of this name, in whatever case: of faults of texts layer by layer, of warnings, then of what
+/// happens. It is empty where there is none.
 pub fn explain(alloc: Global, kind: &str) -> Result<String, AllocError> {
     let mut text = String::new(alloc);
     for topic in &TOPICS {

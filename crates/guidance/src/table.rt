@@ -1,4 +1,5 @@
-//! What is told of each kind of fault: what is wrong and how it is mended, a text with this fault, and the text mended.
+//! What is told of each kind of fault: what is wrong and how it is mended, a text with this fault, and the text mended; and
+//! the same of each kind of warning, but for what its crate says of it.
 //! What is no text stands in parentheses. The guides in docs/ say the same.
 
 pub const NOT_ASCII: &str =
@@ -373,3 +374,49 @@ EVAL R1.FAST %IX0=1";
 
 pub const SCHEDULE_SYNTAX_MENDED: &str = "\
 EVAL R1.FAST 10 %IX0=1";
+
+pub const DOUBLE_COIL_WARNED: &str = "\
+|  A    Y
++--| |--( )
+|  B    Y
++--| |--( )";
+
+pub const DOUBLE_COIL_MENDED: &str = "\
+|  A     Y
++--| |+--( )
+|  B  |
++--| |+";
+
+pub const MISTYPED_CONTACT_WARNED: &str = "\
+|  START  MOTOR
++--| |----( )
+|  MOTAR  LAMP
++--| |----( )";
+
+pub const MISTYPED_CONTACT_MENDED: &str = "\
+|  START  MOTOR
++--| |----( )
+|  MOTOR  LAMP
++--| |----( )";
+
+pub const NEVER_READ_WARNED: &str = "\
+PROGRAM P
+VAR A, M : BOOL; END_VAR
+|  A    M
++--| |--( )
+END_PROGRAM";
+
+pub const NEVER_READ_MENDED: &str = "\
+PROGRAM P
+VAR A : BOOL; END_VAR
+VAR_OUTPUT M : BOOL; END_VAR
+|  A    M
++--| |--( )
+END_PROGRAM";
+
+pub const UNBOUND_INPUT: &str =
+    "An instance doesn't bind this input, which so keeps its first value, FALSE or 0. Bind it, or take it out of VAR_INPUT.";
+
+pub const UNBOUND_INPUT_WARNED: &str = "PROGRAM A WITH FAST : COUNT;";
+
+pub const UNBOUND_INPUT_MENDED: &str = "PROGRAM A WITH FAST : COUNT(UP := %IX0);";

@@ -8,8 +8,9 @@ use ladder_text::DrawFaultKind;
 use name_faults::BindKind;
 use network::GraphFaultKind;
 use plant::{BodyFault, PlantFault, PlantFaultKind};
+use warnings::WarningKind;
 
-/// A kind of fault of a text, by the layer that refuses it.
+/// A kind of fault of a text, by the layer that refuses it, or of what is warned of.
 #[derive(Clone, Copy)]
 pub enum Topic {
     NotAscii,
@@ -41,10 +42,14 @@ pub enum Topic {
     TooMany,
     TooLong,
     ScheduleSyntax,
+    DoubleCoil,
+    MistypedContact,
+    NeverRead,
+    UnboundInput,
 }
 
 /// All kinds, in the order of the layers.
-pub const TOPICS: [Topic; 29] = [
+pub const TOPICS: [Topic; 33] = [
     Topic::NotAscii,
     Topic::TooLarge,
     Topic::NoLeftRail,
@@ -74,6 +79,10 @@ pub const TOPICS: [Topic; 29] = [
     Topic::TooMany,
     Topic::TooLong,
     Topic::ScheduleSyntax,
+    Topic::DoubleCoil,
+    Topic::MistypedContact,
+    Topic::NeverRead,
+    Topic::UnboundInput,
 ];
 
 impl Topic {
@@ -284,6 +293,34 @@ impl Topic {
                 sentence: table::SCHEDULE_SYNTAX,
                 example: table::SCHEDULE_SYNTAX_REFUSED,
                 mended: table::SCHEDULE_SYNTAX_MENDED,
+            },
+            Topic::DoubleCoil => Advice {
+                layer: Layer::WarnedDrawing,
+                kind: "DoubleCoil",
+                sentence: WarningKind::DoubleCoil.sentence(),
+                example: table::DOUBLE_COIL_WARNED,
+                mended: table::DOUBLE_COIL_MENDED,
+            },
+            Topic::MistypedContact => Advice {
+                layer: Layer::WarnedDrawing,
+                kind: "MistypedContact",
+                sentence: WarningKind::MistypedContact.sentence(),
+                example: table::MISTYPED_CONTACT_WARNED,
+                mended: table::MISTYPED_CONTACT_MENDED,
+            },
+            Topic::NeverRead => Advice {
+                layer: Layer::WarnedPlant,
+                kind: "NeverRead",
+                sentence: WarningKind::NeverRead.sentence(),
+                example: table::NEVER_READ_WARNED,
+                mended: table::NEVER_READ_MENDED,
+            },
+            Topic::UnboundInput => Advice {
+                layer: Layer::WarnedPlant,
+                kind: "UnboundInput",
+                sentence: table::UNBOUND_INPUT,
+                example: table::UNBOUND_INPUT_WARNED,
+                mended: table::UNBOUND_INPUT_MENDED,
             },
         }
     }

@@ -6,4 +6,5 @@ mod further;
 mod more;
 mod plant_place;
 
+pub use further::further_faults;
 pub use more::more_with;

@@ -1,3 +1,4 @@
+pub mod Replacing
 pub mod RunExplaining
 pub mod AuditExplaining
 pub mod KeeperNames

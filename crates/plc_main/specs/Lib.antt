@@ -4,4 +4,5 @@ pub mod NodeCommand
 pub mod Clashes
 pub mod UsedFiles
 pub mod Files
+pub mod Steps
 pub mod JournalHead

@@ -15,15 +15,19 @@ NamedFile = List ℕ × Option (List ℕ)
 abbrev pub named : FileUse → NamedFile
 named file = (file.path.now, option_map (λ o. o.now) file.option)
 
--- a file that is read, where it isn't standard input
+-- a file that is read, or standard input where that is `-`
+abbrev pub read_any : List ℕ → List NamedFile
+read_any path = (path, None) ∷ []
+
+-- a file that is read; none is where that is `-`
 abbrev pub read : List ℕ → List NamedFile
-read path = if bytes_eq path (codes "-") then [] else (path, None) ∷ []
+read path = if bytes_eq path (codes "-") then [] else read_any path
 
 abbrev pub read_if_given : Option (Bor (List ℕ)) → List NamedFile
 read_if_given None = []
 read_if_given (Some path) = read path.now
 
--- a file that is written for an option
+-- a file that is written for an option, or the folder of state
 abbrev pub written : Option (Bor (List ℕ)) → List ℕ → List NamedFile
 written None option = []
 written (Some path) option = (path.now, Some option) ∷ []
@@ -32,14 +36,17 @@ written (Some path) option = (path.now, Some option) ∷ []
 abbrev pub traces : TraceFiles → List NamedFile
 traces files = written files.vcd (codes "--vcd") ++ written files.svg (codes "--svg")
 
--- those that a command reads, and then those that it writes; none where it never writes any
+-- those that a command reads, the folder of its state, and then those that it writes; none where it never writes any.
+-- A node reads standard input too.
 abbrev pub files_of : Request → List NamedFile
 files_of (OfText request) = read (file_of request) ++ traces (files_in request)
 files_of (Verify request) = []
-files_of (Sim request) = read request.plant.now ++ read request.schedule.now ++ traces request.files
-files_of (Run request) = read request.plant.now ++ traces request.files
+files_of (Sim request) = read request.plant.now ++ read_any request.schedule.now ++ traces request.files
+files_of (Run request) =
+    read request.plant.now ++ written request.state (codes "--state") ++ traces request.files
 files_of (Node request) =
-    read request.plant.now ++ read_if_given request.field ++ written request.journal (codes "--journal")
+    read request.plant.now ++ read_any (codes "-") ++ read_if_given request.field
+    ++ written request.state (codes "--state") ++ written request.journal (codes "--journal")
 files_of (Explain kind) = []
 files_of (Page file) = []
 files_of (Audit request) = []

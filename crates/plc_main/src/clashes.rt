@@ -2,7 +2,7 @@
 
 ghost use Rattle.std.specs.Prelude.{◌≡◌};
 ghost use Rattle.std.specs.List.{find};
-ghost use Rattle.plc_main.specs.Clashes.{are_one, clash, first_clash, is_same};
+ghost use Rattle.plc_main.specs.Clashes.{are_one, bears_state_name, clash, ends_in, first_clash, is_of_state, is_same, keeps};
 
 /// What the system knows a file by: the device and the number of what stands at a path; where nothing does, those of its
 /// folder, and its name there.
@@ -14,15 +14,44 @@ pub struct Identity<'a> {
     pub name: &'a str,
 }
 
+/// Whether a text ends in another one.
+fn ends_in(text: &str, end: &str) -> bool
+    ensures { result ≡ ends_in text.now end.now }
+{
+    text.ends_with(end)
+}
+
+/// Whether a file of this name, in a folder of state, may be one of the files of state.
+fn bears_state_name(name: &str) -> bool
+    ensures { result ≡ bears_state_name name.now }
+{
+    ends_in(name, ".inc")
+        || ends_in(name, ".ret")
+        || ends_in(name, ".lock")
+        || ends_in(name, ".tmp")
+}
+
 impl Identity<'_> {
     fn is_same(&self, other: &Identity<'_>) -> bool
         ensures { result ≡ is_same self.now other.now }
     {
         self.device == other.device && self.number == other.number && self.name == other.name
     }
+
+    /// Whether a file of state may stand at this place in the folder.
+    fn keeps(&self, place: &Identity<'_>) -> bool
+        ensures { result ≡ keeps self.now place.now }
+    {
+        let folder = Identity {
+            device: place.device,
+            number: place.number,
+            name: "",
+        };
+        self.is_same(&folder) && bears_state_name(place.name)
+    }
 }
 
-/// A file that a command reads, or writes for an option.
+/// A file that a command reads, or writes for an option; or the folder of its state.
 #[derive(Clone, Copy)]
 pub struct FileUse<'a> {
     pub path: &'a str,
@@ -30,6 +59,8 @@ pub struct FileUse<'a> {
     pub option: Option<&'static str>,
     /// None: the system doesn't know it.
     pub identity: Option<Identity<'a>>,
+    /// Where it is written: its folder, and its name there. None: the system doesn't know them, or it isn't written.
+    pub place: Option<Identity<'a>>,
 }
 
 /// Whether two paths are known to be of one file.
@@ -42,11 +73,22 @@ fn are_one(first: &FileUse<'_>, second: &FileUse<'_>) -> bool
     }
 }
 
-/// Whether two files are one, and it is written.
+/// Whether a file is written as one of the files of state in a folder.
+fn is_of_state(folder: &FileUse<'_>, file: &FileUse<'_>) -> bool
+    ensures { result ≡ is_of_state folder.now file.now }
+{
+    match (&folder.identity, &file.place) {
+        (Some(folder), Some(place)) => folder.keeps(place),
+        _ => false,
+    }
+}
+
+/// Whether two files are one, and it is written, or the first is the folder of state, and the second one of its files.
 fn clash(first: &FileUse<'_>, second: &FileUse<'_>) -> bool
     ensures { result ≡ clash first.now second.now }
 {
-    are_one(first, second) && (first.option.is_some() || second.option.is_some())
+    (are_one(first, second) && (first.option.is_some() || second.option.is_some()))
+        || is_of_state(first, second)
 }
 
 /// The first of the other files with which one clashes.

@@ -1,9 +1,11 @@
 //! The program `plc`.
 #![tactic(auto)]
 
+mod answering;
 mod audit_command;
 mod clashes;
 mod journal_head;
+mod new_beside;
 mod node_command;
 mod run_command;
 mod running_alone;
@@ -11,38 +13,32 @@ mod told_run;
 mod trace_files;
 mod used_files;
 
-ghost use Rattle.std.specs.Prelude.{◌≡◌, ◌&&◌, All, length, map, not, string_bytes, vec_len, IfOk, IfErr};
+ghost use Rattle.std.specs.Prelude.{◌≡◌, All, length, map, string_bytes, vec_len, IfOk};
 ghost use Rattle.evaluation.specs.InputTexts.{IsRead};
 ghost use Rattle.text_lines.specs.LineParts.{resource_text};
 ghost use Rattle.text_commands.specs.Rows.{texts};
 ghost use Rattle.console.specs.FieldWords.{one_text_of};
 ghost use Rattle.plc_main.specs.AuditCommand.{AreNamed};
-ghost use Rattle.plc_main.specs.RunText.{WritesAskedRun, ExplainsRun};
-ghost use Rattle.plc_main.specs.Files.{EndsApart, EndsRequest, EndsWords};
-ghost use Rattle.console.specs.declared.request.Request.TheVariants as asked;
 
+use answering::{Terminals, answer_words};
 use audit::JournalFile;
 use audit_command::audit_text;
-use clashes::{FileUse, first_clash};
 use console::{
-    Answered, AuditRequest, CommandFault, FAILED, Pace, Prepared, Request, RunRequest, Shown,
-    SimRequest, TextRequest, WORD_REFUSED, answer_kind, answer_kinds, answer_page, answer_schedule,
-    answer_text, answer_verify, file_bytes, file_plant, given_words, prepare, print_failure,
-    print_fault, print_given_fault, print_usage, read_words, wanted_for,
+    Answered, AuditRequest, CommandFault, FAILED, Pace, Prepared, RunRequest, file_bytes,
+    file_plant, given_words, prepare, print_failure, print_fault, print_given_fault,
 };
 use keepers::{
     BadLine, FileKeeper, FolderLock, Keeper, KeeperFault, LockFault, MemoryKeeper, SystemFolder,
 };
 use node::{ClockGate, FreeGate, Gate, PacedGate};
-use node_command::answer_node;
 use node_loop::{ReaderEnds, read_field, read_input};
 use node_reports::RunFault;
 use plant::{Plant, TaskRef};
-use run_command::{Ran, run_text};
+use run_command::{Ran, obey_run};
 use running_alone::Inputs;
 use std::alloc::{AllocError, Global};
 use std::env::VarError;
-use std::io::{IsTerminal, Write};
+use std::io::IsTerminal;
 use std::process::ExitCode;
 use std::rt::{Clock, Env, Files};
 use std::sync::{Arc, Mutex, Wait};
@@ -51,8 +47,7 @@ use std::{env, fs, io, thread};
 use text_commands::plan_of;
 use text_lines::{OnTerminal, resource_name};
 use told_run::{ToldGate, UntoldWriter};
-use trace_files::{SystemFiles, TextFiles, write_files};
-use used_files::files_of;
+use trace_files::SystemFiles;
 
 /// How often a command looks, at most, whether it may go: with `--paced` or `--clock`.
 const TURNS: u64 = 10_000_000;
@@ -100,40 +95,6 @@ fn keepers_in(
         keepers.push(keeper_in(alloc, host, plant, resource, folder)?)?;
     }
     Ok(keepers)
-}
-
-/// Runs a plant up to the moment that is asked for, and writes what its threads did; whether there was a fault in them, and
-/// the texts for the files that are asked for.
-fn obey_run<R: AllocGlobal + Threads + Wait + Sync, K: Keeper, G: Gate, W: Write>(
-    rt: &R,
-    request: &RunRequest<'_>,
-    prepared: Prepared,
-    keepers: Vec<K>,
-    gate: &G,
-    writer: &mut W,
-) -> Result<Ran, CommandFault>
-    requires keepers { vec_len keepers ≡ length prepared.plant.value.resources }
-    requires words { IsRead (one_text_of request.now.words.items) prepared.inputs }
-    ensures ok { IfOk result
-        (WritesAskedRun K.last K.raise_gives K.kept_gives keepers.items prepared.plant.value request.now
-        (W.contents writer.old) (W.contents writer.new)) }
-    ensures fault { IfErr result
-        (ExplainsRun K.last K.raise_gives K.kept_gives keepers.items prepared.plant.value request.now.until prepared.inputs
-        (W.contents writer.old) (W.contents writer.new)) }
-{
-    let Prepared { plant, inputs } = prepared;
-    let wanted = wanted_for(request.plant, request.files);
-    run_text(
-        rt,
-        rt.alloc(),
-        plant,
-        request.until,
-        inputs,
-        keepers,
-        gate,
-        wanted,
-        writer,
-    )
 }
 
 /// Runs a plant with these keepers, through a gate, and writes what its threads did; whether there was a fault in them.
@@ -404,168 +365,6 @@ fn answer_audit<R: Files + Print + Eprint + AllocGlobal>(
         Ok(true) => Ok(0),
         Ok(false) => Ok(FAILED),
         Err(fault) => print_fault(rt, "", "", &[], fault),
-    }
-}
-
-/// Which of the standard streams are terminals, and whether standard output may have colors unless the words say it.
-#[derive(Clone, Copy)]
-struct Terminals {
-    output: bool,
-    errors: bool,
-    colors: bool,
-}
-
-impl Terminals {
-    /// `uncolored` is whether no colors are wanted.
-    fn of(output: bool, errors: bool, uncolored: bool) -> Terminals
-        ensures { result ≡ record { output = output; errors = errors; colors = output && not uncolored } }
-    {
-        Terminals {
-            output,
-            errors,
-            colors: output && !uncolored,
-        }
-    }
-
-    /// Whether it is told on standard error how far the lines on standard output are.
-    fn tells_lines(self) -> bool
-        ensures { result ≡ (self.errors && not self.output) }
-    {
-        self.errors && !self.output
-    }
-}
-
-/// Obeys a command of one text, and writes the files of its trace; the status.
-fn obey_text<R: Files + Clock + Print + Eprint + AllocGlobal, F: TextFiles>(
-    rt: &R,
-    terminals: Terminals,
-    request: &TextRequest<'_>,
-    to: &mut F,
-) -> io::Result<u8>
-    ensures { IfOk result
-        (EndsRequest terminals.colors (asked.Text request.now) (F.came to.old) (F.came to.new)) }
-{
-    let answered = answer_text(rt, terminals.colors, terminals.tells_lines(), request)?;
-    write_files(to, request.files(), answered)
-}
-
-/// Does a schedule, and writes the files of its trace; the status.
-fn obey_sim<R: Files + Clock + Input + Print + Eprint + AllocGlobal, F: TextFiles>(
-    rt: &R,
-    terminals: Terminals,
-    request: &SimRequest<'_>,
-    to: &mut F,
-) -> io::Result<u8>
-    ensures { IfOk result
-        (EndsRequest terminals.colors (asked.Sim request.now) (F.came to.old) (F.came to.new)) }
-{
-    let answered = answer_schedule(rt, terminals.tells_lines(), request)?;
-    write_files(to, request.files, answered)
-}
-
-/// Runs a plant, and writes the files of its trace; the status.
-fn obey_threads<
-    R: Files + Clock + Print + Eprint + AllocGlobal + Threads + Wait + Sync,
-    F: TextFiles,
->(
-    rt: &R,
-    host: &HostRuntime,
-    terminals: Terminals,
-    request: &RunRequest<'_>,
-    to: &mut F,
-) -> io::Result<u8>
-    ensures { IfOk result
-        (EndsRequest terminals.colors (asked.Run request.now) (F.came to.old) (F.came to.new)) }
-{
-    let answered = answer_run(rt, host, terminals.errors, request)?;
-    write_files(to, request.files, answered)
-}
-
-/// Obeys a request; the status.
-fn obey_request<
-    R: Files + Clock + Input + Print + Eprint + AllocGlobal + Threads + Wait + Sync,
-    F: TextFiles,
-    S: FnOnce(Inputs, ReaderEnds) -> bool,
->(
-    rt: &R,
-    host: &HostRuntime,
-    terminals: Terminals,
-    request: &Request<'_>,
-    to: &mut F,
-    readers: S,
-) -> io::Result<u8>
-    requires { (inputs : _) → (ends : _) → S.pre readers inputs ends }
-    ensures { IfOk result (EndsRequest terminals.colors request.now (F.came to.old) (F.came to.new)) }
-{
-    match request {
-        Request::Text(request) => obey_text(rt, terminals, request, to),
-        Request::Verify(request) => answer_verify(rt, terminals.errors, request),
-        Request::Sim(request) => obey_sim(rt, terminals, request, to),
-        Request::Run(request) => obey_threads(rt, host, terminals, request, to),
-        Request::Node(request) => answer_node(rt, host, request, readers),
-        Request::Audit(request) => answer_audit(rt, request),
-        Request::Page(file) => answer_page(rt, file),
-        Request::Explain(Some(kind)) => answer_kind(rt, kind),
-        Request::Explain(None) => answer_kinds(rt),
-    }
-}
-
-/// Tells that a file that is written is read, or is another one that is written; the status.
-fn print_clash<R: Eprint>(rt: &R, first: &FileUse<'_>, second: &FileUse<'_>) -> io::Result<u8>
-    ensures { IfOk result (λ status. status ≡ 2) }
-{
-    let (path, option) = (Shown(second.path), second.option.unwrap_or(""));
-    match first.option {
-        None => eprintln!(rt; "plc: {path}: this file is read: give another name to {option}")?,
-        Some(other) => eprintln!(rt;
-            "plc: {path}: this file is written for {other}: give another name to {option}"
-        )?,
-    }
-    Ok(WORD_REFUSED)
-}
-
-/// Obeys a request, unless a file that it writes is another one of its files; the status.
-fn obey_apart<
-    R: Files + Clock + Input + Print + Eprint + AllocGlobal + Threads + Wait + Sync,
-    F: TextFiles,
-    S: FnOnce(Inputs, ReaderEnds) -> bool,
->(
-    rt: &R,
-    host: &HostRuntime,
-    terminals: Terminals,
-    request: &Request<'_>,
-    to: &mut F,
-    readers: S,
-) -> io::Result<u8>
-    requires { (inputs : _) → (ends : _) → S.pre readers inputs ends }
-    ensures { IfOk result (EndsApart terminals.colors request.now (F.came to.old) (F.came to.new)) }
-{
-    let files = files_of(rt, rt.alloc(), request)?;
-    if let Some((first, second)) = first_clash(&files) {
-        return print_clash(rt, &first, &second);
-    }
-    obey_request(rt, host, terminals, request, to, readers)
-}
-
-/// Reads the words of the command line, and obeys them; the status.
-fn answer_words<
-    R: Files + Clock + Input + Print + Eprint + AllocGlobal + Threads + Wait + Sync,
-    F: TextFiles,
-    S: FnOnce(Inputs, ReaderEnds) -> bool,
->(
-    rt: &R,
-    host: &HostRuntime,
-    terminals: Terminals,
-    words: &[String],
-    to: &mut F,
-    readers: S,
-) -> io::Result<u8>
-    requires { (inputs : _) → (ends : _) → S.pre readers inputs ends }
-    ensures { IfOk result (EndsWords terminals.colors (map (λ word. string_bytes word) words.now) (F.came to.old) (F.came to.new)) }
-{
-    match read_words(rt.alloc(), words) {
-        Ok(request) => obey_apart(rt, host, terminals, &request, to, readers),
-        Err(error) => print_usage(rt, &error),
     }
 }
 

@@ -1,7 +1,9 @@
 ghost use Rattle.std.specs.Prelude.{◌≡◌, length, vec_len, IfOk, IfErr};
-ghost use Rattle.plc_main.specs.RunText.{WritesReport, ExplainsRun};
+ghost use Rattle.evaluation.specs.InputTexts.{IsRead};
+ghost use Rattle.console.specs.FieldWords.{one_text_of};
+ghost use Rattle.plc_main.specs.RunText.{WritesAskedRun, WritesReport, ExplainsRun};
 
-use console::CommandFault;
+use console::{CommandFault, Prepared, RunRequest, wanted_for};
 use evaluation::Inputs;
 use keepers::Keeper;
 use node::{Gate, run_threads};
@@ -51,4 +53,38 @@ pub fn run_text<R: Threads + Wait + Sync, K: Keeper, G: Gate, W: Write>(
     let texts = entry_texts(alloc, wanted, &plant, report.book.entries())?;
     let faulty = tell_report(alloc, plant, &report, writer)?;
     Ok(Ran { faulty, texts })
+}
+
+/// Runs a plant up to the moment that is asked for, and writes what its threads did; whether there was a fault in them, and
+/// the texts for the files that are asked for.
+pub fn obey_run<R: AllocGlobal + Threads + Wait + Sync, K: Keeper, G: Gate, W: Write>(
+    rt: &R,
+    request: &RunRequest<'_>,
+    prepared: Prepared,
+    keepers: Vec<K>,
+    gate: &G,
+    writer: &mut W,
+) -> Result<Ran, CommandFault>
+    requires keepers { vec_len keepers ≡ length prepared.plant.value.resources }
+    requires words { IsRead (one_text_of request.now.words.items) prepared.inputs }
+    ensures ok { IfOk result
+        (WritesAskedRun K.last K.raise_gives K.kept_gives keepers.items prepared.plant.value request.now
+        (W.contents writer.old) (W.contents writer.new)) }
+    ensures fault { IfErr result
+        (ExplainsRun K.last K.raise_gives K.kept_gives keepers.items prepared.plant.value request.now.until prepared.inputs
+        (W.contents writer.old) (W.contents writer.new)) }
+{
+    let Prepared { plant, inputs } = prepared;
+    let wanted = wanted_for(request.plant, request.files);
+    run_text(
+        rt,
+        rt.alloc(),
+        plant,
+        request.until,
+        inputs,
+        keepers,
+        gate,
+        wanted,
+        writer,
+    )
 }

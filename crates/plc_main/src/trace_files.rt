@@ -1,13 +1,14 @@
 //! The files of a trace.
 
-ghost use Rattle.std.specs.Prelude.{◌≡◌, ◌++◌, [], ◌∷◌, IfOk, List, None, Option, codes, string_bytes};
+ghost use Rattle.std.specs.Prelude.{◌≡◌, ◌++◌, [], ◌∷◌, IfOk, List, None, Option, string_bytes};
 ghost use Rattle.std.specs.Option.{option_map};
-ghost use Rattle.keepers.specs.KnownFiles.{IsReplacing};
 ghost use Rattle.plc_main.specs.Files.{EndsFiles, FileText, due, files_due, with_files};
+ghost use Rattle.plc_main.specs.Steps.Replacing.{IsFreeName, IsReplacedBeside, name_beside};
 
+use crate::new_beside::NewBeside;
 use console::{Answered, FAILED, TraceFiles};
-use keepers::{Folder, FolderFault, SystemFolder};
-use std::alloc::Global;
+use keepers::{Folder, FolderFault};
+use std::alloc::{AllocError, Global};
 use std::io;
 use traces::TraceTexts;
 
@@ -21,16 +22,44 @@ pub trait TextFiles {
         ensures { IfOk result (λ put. came self.new ≡ with_files (came self.old) ((path.now, text.now) ∷ [])) };
 }
 
-/// Puts a text in the place of what a file of a folder holds, by way of a file beside it.
+/// How many names there are for a temporary file.
+const NAMES: u32 = 10;
+
+/// A name for a temporary file beside a file; they count from 0.
+fn name_beside(alloc: Global, name: &str, k: u32) -> Result<String, AllocError>
+    ensures { IfOk result (λ temporary. string_bytes temporary ≡ name_beside name.now k) }
+{
+    if k == 0 {
+        return format!(in alloc; "{name}.tmp");
+    }
+    format!(in alloc; "{name}.{k}.tmp")
+}
+
+/// The first name for a temporary file at which nothing stands. Failed: there is none.
+#[tactic(auto, using(crate::proofs::Replacing::is_free_name))]
+fn free_name<F: Folder>(alloc: Global, folder: &F, name: &str) -> Result<String, FolderFault>
+    ensures { IfOk result (λ free. IsFreeName (F.file folder.now) name.now (string_bytes free)) }
+{
+    for k in 0..NAMES {
+        let temporary = name_beside(alloc, name, k)?;
+        if let Ok(None) = folder.read(temporary.as_str(), 0) {
+            return Ok(temporary);
+        }
+    }
+    Err(FolderFault::Failed)
+}
+
+/// Puts a text in the place of what a file of a folder holds, by way of a file beside it, at whose name nothing stood.
+#[tactic(auto, using(crate::proofs::Replacing::replaced_beside, crate::proofs::Replacing::not_begun))]
 fn keep_text<F: Folder>(
     alloc: Global,
     folder: &mut F,
     name: &str,
     text: &str,
 ) -> Result<(), FolderFault>
-    ensures { IsReplacing (F.file folder.old) (F.file folder.new) name.now (name.now ++ codes ".tmp") text.now result }
+    ensures { IsReplacedBeside (F.file folder.old) (F.file folder.new) name.now text.now result }
 {
-    let temporary = format!(in alloc; "{name}.tmp")?;
+    let temporary = free_name(alloc, folder, name)?;
     folder.replace(name, temporary.as_str(), text.as_bytes())
 }
 
@@ -46,7 +75,7 @@ pub fn folder_and_name(path: &str) -> (&str, &str) {
 /// Writes a text as the file of this path. What is there and no file is a fault.
 fn store(host: &HostRuntime, path: &str, text: &str) -> Result<(), FolderFault> {
     let (folder, name) = folder_and_name(path);
-    let mut folder = SystemFolder::new(host.clone()?, folder)?;
+    let mut folder = NewBeside::new(host, folder)?;
     folder.read(name, 0)?;
     keep_text(host.alloc(), &mut folder, name, text)
 }

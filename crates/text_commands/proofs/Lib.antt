@@ -1,12 +1,16 @@
 pub mod VariableLines
 pub mod Scanning
 pub mod WordRows
+pub mod SeriesValues
+pub mod SeriesWords
+pub mod SettingWords
 pub mod Explaining
 pub mod Counting
 pub mod PlanExplaining
 pub mod PlantRefusing
 pub mod Tracing
 pub mod Drawing
+pub mod DrawnText
 pub mod Showing
 pub mod Charting
 pub mod Expecting

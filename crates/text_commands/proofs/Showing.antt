@@ -15,8 +15,7 @@ use Rattle.scan_steps.specs.First.{slot_first}
 use Rattle.power_flow.specs.StateValue.{StateValue}
 use Rattle.power_flow.specs.LadderValue.{LadderValue}
 use Rattle.power_flow.specs.Shown.{ShowsPower}
-use Rattle.text_commands.specs.Rows.{RowValue, scans_of}
-use Rattle.text_commands.specs.EvalText.{set_before}
+use Rattle.text_commands.specs.Series.{SeriesValue, set_before}
 use Rattle.text_commands.specs.Shown.{IsShown}
 use Rattle.text_commands.specs.Shown.IsShown.{begun, after}
 use Rattle.text_commands.specs.Trace.{IsTrace}
@@ -25,20 +24,20 @@ use Rattle.text_commands.specs.Steps.Testing.{slots_of}
 use Rattle.text_commands.specs.Steps.Showing.{IsShownScan, StopsShown}
 
 -- scans that are shown are a trace
-pub shown_traced : (drawing : List ℕ) (color : Bool) (ds : List Declaration) (networks : List Diagram) (dt : ℕ) (rows : List RowValue) (states : List (List Slot)) (slots : List Slot) (memories : List Bool)
+pub shown_traced : (drawing : List ℕ) (color : Bool) (ds : List Declaration) (networks : List Diagram) (dt : ℕ) (rows : List SeriesValue) (states : List (List Slot)) (slots : List Slot) (memories : List Bool)
     (text : List ℕ) → IsShown drawing color ds networks dt rows states slots memories text → IsTrace ds networks dt rows states slots memories
 shown_traced drawing color ds networks dt rows states slots memories text (begun long off) = no_scan long off
 shown_traced drawing color ds networks dt rows states slots memories text (after {states = before_states} {slots = s} {slots' = t} {memories = m} {memories' = o} {text = before_text} on before shows) =
     next_scan (shown_traced drawing color ds networks dt rows before_states s m before_text before) (shows_scan ds dt networks (set_before rows (length before_states) s) m t o on shows)
 
 -- before the first scan nothing is shown
-pub shown_begun : (drawing : List ℕ) (color : Bool) (ds : List Declaration) (networks : List Diagram) (dt : ℕ) (rows : List RowValue) (slots : List Slot) (memories : List Bool)
+pub shown_begun : (drawing : List ℕ) (color : Bool) (ds : List Declaration) (networks : List Diagram) (dt : ℕ) (rows : List SeriesValue) (slots : List Slot) (memories : List Bool)
     → slots ≡ map (λ e. slot_first e.declared) ds → length memories ≡ sum_by (λ d. length d.elements) networks → All (λ m. m ≡ false) memories
     → IsShown drawing color ds networks dt rows [] slots memories []
 shown_begun drawing color ds networks dt rows slots memories e long off = rw e (begun long off)
 
 -- the next scan, with its line and its drawing
-pub shown_more : (drawing : List ℕ) (color : Bool) (l : LadderValue) (dt : ℕ) (rows : List RowValue) (k : ℕ) (states : List (List Slot)) (s set scanned : StateValue) (text more : List ℕ)
+pub shown_more : (drawing : List ℕ) (color : Bool) (l : LadderValue) (dt : ℕ) (rows : List SeriesValue) (k : ℕ) (states : List (List Slot)) (s set scanned : StateValue) (text more : List ℕ)
     → IsShown drawing color l.declarations l.networks dt rows states s.slots s.memories text → length states ≡ k → set ≡ record s { slots = set_before rows k s.slots }
     → IsShownScan drawing color l dt set scanned more
     → IsShown drawing color l.declarations l.networks dt rows (states ++ scanned.slots ∷ []) scanned.slots scanned.memories (text ++ more)
@@ -55,26 +54,26 @@ pub slots_more : (states states' : List StateValue) (scanned copy : StateValue) 
 slots_more states states' scanned copy same more = rw (more, same) (map-append (λ (t : StateValue). t.slots) states (scanned ∷ []))
 
 -- where memory was refused, the whole text of some scans went out
-pub shown_behind : (drawing : List ℕ) (color : Bool) (ds : List Declaration) (networks : List Diagram) (dt : ℕ) (rows : List RowValue) (states : List (List Slot)) (slots : List Slot) (memories : List Bool)
-    (text : List ℕ) (old new : Option (List ℕ)) → length states ≤ scans_of rows → IsShown drawing color ds networks dt rows states slots memories text → Appends old new text
-    → StopsShown drawing color ds networks dt rows Memory old new
-shown_behind drawing color ds networks dt rows states slots memories text old new few shown appended = record {
+pub shown_behind : (drawing : List ℕ) (color : Bool) (ds : List Declaration) (networks : List Diagram) (dt : ℕ) (rows : List SeriesValue) (states : List (List Slot)) (slots : List Slot) (memories : List Bool)
+    (text : List ℕ) (scans : ℕ) (old new : Option (List ℕ)) → length states ≤ scans → IsShown drawing color ds networks dt rows states slots memories text → Appends old new text
+    → StopsShown drawing color ds networks dt rows scans Memory old new
+shown_behind drawing color ds networks dt rows states slots memories text scans old new few shown appended = record {
   made = record { states = states; slots = slots; memories = memories; text = text; shown = shown; few = few };
   stopped = (length text, rw (take-length text) appended);
 }
 
-pub shown_at_first : (drawing : List ℕ) (color : Bool) (ds : List Declaration) (networks : List Diagram) (dt : ℕ) (rows : List RowValue) (old : Option (List ℕ))
-    → StopsShown drawing color ds networks dt rows Memory old old
-shown_at_first drawing color ds networks dt rows old =
+pub shown_at_first : (drawing : List ℕ) (color : Bool) (ds : List Declaration) (networks : List Diagram) (dt : ℕ) (rows : List SeriesValue) (scans : ℕ) (old : Option (List ℕ))
+    → StopsShown drawing color ds networks dt rows scans Memory old old
+shown_at_first drawing color ds networks dt rows scans old =
     let memories = replicate (sum_by (λ (d : Diagram). length d.elements) networks) false in
-    shown_behind drawing color ds networks dt rows [] (map (λ (e : Declaration). slot_first e.declared) ds) memories [] old old (omega arith)
+    shown_behind drawing color ds networks dt rows [] (map (λ (e : Declaration). slot_first e.declared) ds) memories [] scans old old (omega arith)
     (begun (length-replicate _ false) (All-replicate (λ (m : Bool). m ≡ false) (sum_by (λ (d : Diagram). length d.elements) networks) false refl)) (Appends-nil old)
 
 -- a part of the last text was written, and not all of it
-pub shown_within : (drawing : List ℕ) (color : Bool) (ds : List Declaration) (networks : List Diagram) (dt : ℕ) (rows : List RowValue) (states : List (List Slot)) (slots : List Slot) (memories : List Bool)
-    (text more : List ℕ) (old mid new : Option (List ℕ)) → length states ≤ scans_of rows → IsShown drawing color ds networks dt rows states slots memories (text ++ more) → Appends old mid text
-    → SendsLess more mid new → StopsShown drawing color ds networks dt rows Write old new
-shown_within drawing color ds networks dt rows states slots memories text more old mid new few shown before less =
+pub shown_within : (drawing : List ℕ) (color : Bool) (ds : List Declaration) (networks : List Diagram) (dt : ℕ) (rows : List SeriesValue) (states : List (List Slot)) (slots : List Slot) (memories : List Bool)
+    (text more : List ℕ) (scans : ℕ) (old mid new : Option (List ℕ)) → length states ≤ scans → IsShown drawing color ds networks dt rows states slots memories (text ++ more) → Appends old mid text
+    → SendsLess more mid new → StopsShown drawing color ds networks dt rows scans Write old new
+shown_within drawing color ds networks dt rows states slots memories text more scans old mid new few shown before less =
     let long = length-append text more in
     record {
       made = record { states = states; slots = slots; memories = memories; text = text ++ more; shown = shown; few = few };

@@ -6,15 +6,17 @@ use Rattle.std.proofs.lemmas.Option.{slice_get-get_or}
 use Rattle.std.specs.Borrow.{Bor}
 use Rattle.std.specs.Prelude.{All, Some, not, slice_get}
 use Rattle.std.specs.List.{AllZip, filter}
-use Rattle.lists.proofs.Zips.{zip_push}
+use Rattle.lists.proofs.Zips.{zip_back, zip_push}
 use Rattle.declared_names.specs.declared.declarations.Declaration.{Declaration}
 use Rattle.text_commands.specs.declared.word_fault.WordFault.{WordFault}
 use Rattle.text_commands.specs.declared.text_command_fault.TextCommandFault.{TextCommandFault}
 use Rattle.text_commands.specs.declared.text_command_fault.TextCommandFault.TheVariants.{Text, Word, Write, Memory}
-use Rattle.text_commands.specs.Rows.{RowValue, IsRow, IsBoolAt, texts}
-use Rattle.text_commands.specs.Expectations.{IsExpected, IsFirstRefusedOf, IsRefusedBehind, SpellTest, is_expectation}
-use Rattle.text_commands.specs.Steps.Testing.{AddsWord, IsNewPlace, RefusesWordBehind, RefusesTest}
-use Rattle.text_commands.proofs.WordRows.{all_bool, apart_push, word_at, zip_at}
+use Rattle.text_commands.specs.Rows.{name_in, texts}
+use Rattle.text_commands.specs.Series.{SeriesValue, IsOfVariable, IsSetting}
+use Rattle.text_commands.specs.Expectations.{IsExpected, IsFirstRefusedOf, IsRefusedBehind, SpellTest, expected_in, is_expectation}
+use Rattle.text_commands.specs.Steps.Testing.{AddsWord, IsNewPlace, RefusesWord, RefusesTest}
+use Rattle.text_commands.proofs.WordRows.{word_at}
+use Rattle.text_commands.proofs.SettingWords.{apart_more, series_of_variable, settings_of_variables}
 
 one_in : {X : Type 0} (p : X → Bool) (x : X) → p x ≡ true → filter p (x ∷ []) ≡ x ∷ []
 one_in p x e = rw e refl
@@ -28,30 +30,30 @@ filter_in p xs x e = filter-append p xs (x ∷ []) ∙ ap (λ l. filter p xs ++ 
 filter_out : {X : Type 0} (p : X → Bool) (xs : List X) (x : X) → p x ≡ false → filter p (xs ++ x ∷ []) ≡ filter p xs
 filter_out p xs x e = filter-append p xs (x ∷ []) ∙ ap (λ l. filter p xs ++ l) (one_out p x e) ∙ append-nil (filter p xs)
 
-add_row : (ds : List Declaration) (ws : List (List ℕ)) (w : List ℕ) (rows expected : List RowValue) (row : RowValue) → SpellTest ds ws rows expected → is_expectation w ≡ false → IsRow ds w row
+add_row : (ds : List Declaration) (ws : List (List ℕ)) (w : List ℕ) (rows expected : List SeriesValue) (row : SeriesValue) → SpellTest ds ws rows expected → is_expectation w ≡ false → IsSetting ds w row
     → IsNewPlace rows row.place → SpellTest ds (ws ++ w ∷ []) (rows ++ row ∷ []) expected
 add_row ds ws w rows expected row test is row_is new = record {
   set = record {
-    each = subst (λ l. AllZip (IsRow ds) l (rows ++ row ∷ [])) (sym (filter_in (λ v. not (is_expectation v)) ws w (ap not is))) (zip_push (IsRow ds) _ rows w row test.set.each row_is);
-    apart = apart_push rows row test.set.apart new;
+    each = subst (λ l. AllZip (IsSetting ds) l (rows ++ row ∷ [])) (sym (filter_in (λ v. not (is_expectation v)) ws w (ap not is))) (zip_push (IsSetting ds) _ rows w row test.set.each row_is);
+    apart = apart_more rows row test.set.apart new;
   };
   each = subst (λ l. AllZip (IsExpected ds) l expected) (sym (filter_out (λ v. is_expectation v) ws w is)) test.each;
   apart = test.apart;
 }
 
-add_expectation : (ds : List Declaration) (ws : List (List ℕ)) (w : List ℕ) (rows expected : List RowValue) (row : RowValue) → SpellTest ds ws rows expected → is_expectation w ≡ true → IsExpected ds w row
+add_expectation : (ds : List Declaration) (ws : List (List ℕ)) (w : List ℕ) (rows expected : List SeriesValue) (row : SeriesValue) → SpellTest ds ws rows expected → is_expectation w ≡ true → IsExpected ds w row
     → IsNewPlace expected row.place → SpellTest ds (ws ++ w ∷ []) rows (expected ++ row ∷ [])
 add_expectation ds ws w rows expected row test is row_is new = record {
   set = record {
-    each = subst (λ l. AllZip (IsRow ds) l rows) (sym (filter_out (λ v. not (is_expectation v)) ws w (ap not is))) test.set.each;
+    each = subst (λ l. AllZip (IsSetting ds) l rows) (sym (filter_out (λ v. not (is_expectation v)) ws w (ap not is))) test.set.each;
     apart = test.set.apart;
   };
   each = subst (λ l. AllZip (IsExpected ds) l (expected ++ row ∷ [])) (sym (filter_in (λ v. is_expectation v) ws w is)) (zip_push (IsExpected ds) _ expected w row test.each row_is);
-  apart = apart_push expected row test.apart new;
+  apart = apart_more expected row test.apart new;
 }
 
 -- one word more was read
-pub word_added : (ds : List Declaration) (words : List (Bor (List ℕ))) (n : ℕ) (d : Bor (List ℕ)) (rows expected rows' expected' : List RowValue) → n < length words
+pub word_added : (ds : List Declaration) (words : List (Bor (List ℕ))) (n : ℕ) (d : Bor (List ℕ)) (rows expected rows' expected' : List SeriesValue) → n < length words
     → SpellTest ds (take n (texts words)) rows expected → AddsWord ds (get_or words n d).now rows expected rows' expected' → SpellTest ds (take (n + 1) (texts words)) rows' expected'
 word_added ds words n d rows expected rows' expected' lt test adds =
     let texts-long = length-map words (λ (w : Bor (List ℕ)). w.now) in
@@ -66,7 +68,7 @@ word_added ds words n d rows expected rows' expected' lt test adds =
     subst (λ l. SpellTest ds l rows' expected') (sym more) made
 
 -- the words before were read, and this one is refused
-first_refused_of : (ds : List Declaration) (words : List (Bor (List ℕ))) (n : ℕ) (d : Bor (List ℕ)) (rows expected : List RowValue) (fault : WordFault) → n < length words
+first_refused_of : (ds : List Declaration) (words : List (Bor (List ℕ))) (n : ℕ) (d : Bor (List ℕ)) (rows expected : List SeriesValue) (fault : WordFault) → n < length words
     → SpellTest ds (take n (texts words)) rows expected → fault.number ≡ n → IsRefusedBehind ds rows expected (get_or words n d).now fault.kind → IsFirstRefusedOf ds (texts words) fault
 first_refused_of ds words n d rows expected fault lt test is refused =
     let texts-long = length-map words (λ (w : Bor (List ℕ)). w.now) in
@@ -81,20 +83,22 @@ first_refused_of ds words n d rows expected fault lt test is refused =
       refused = refused;
     }
 
-pub test_refused : (ds : List Declaration) (words : List (Bor (List ℕ))) (n : ℕ) (d : Bor (List ℕ)) (rows expected : List RowValue) (fault : TextCommandFault) → n < length words
-    → SpellTest ds (take n (texts words)) rows expected → RefusesWordBehind ds rows expected n (get_or words n d).now fault → RefusesTest ds (texts words) fault
+pub test_refused : (ds : List Declaration) (words : List (Bor (List ℕ))) (n : ℕ) (d : Bor (List ℕ)) (rows expected : List SeriesValue) (fault : TextCommandFault) → n < length words
+    → SpellTest ds (take n (texts words)) rows expected → RefusesWord (IsRefusedBehind ds rows expected (get_or words n d).now) n fault → RefusesTest ds (texts words) fault
 test_refused ds words n d rows expected (Text fault) lt test refused = refused
 test_refused ds words n d rows expected (Word fault) lt test refused = first_refused_of ds words n d rows expected fault lt test refused.0 refused.1
 test_refused ds words n d rows expected Write lt test refused = refused
 test_refused ds words n d rows expected Memory lt test refused = tt
 
 -- no word is read yet
-pub none_read : (ds : List Declaration) (words : List (List ℕ)) (rows expected : List RowValue) → rows ≡ [] → expected ≡ [] → SpellTest ds (take 0 words) rows expected
+pub none_read : (ds : List Declaration) (words : List (List ℕ)) (rows expected : List SeriesValue) → rows ≡ [] → expected ≡ [] → SpellTest ds (take 0 words) rows expected
 none_read ds words rows expected no_rows none = rw (no_rows, none) (record { set = record { each = tt; apart = λ j k d jt kt same. absurd (omega arith) }; each = tt; apart = λ j k d jt kt same. absurd (omega arith) })
 
--- each row is of a BOOL variable, and so is each expectation
-pub rows_bool : (ds : List Declaration) (words : List (List ℕ)) (rows expected : List RowValue) → SpellTest ds words rows expected → All (λ row. IsBoolAt ds row.place) rows
-rows_bool ds words rows expected test = all_bool ds _ rows test.set
+-- what is set and what is expected is of variables that are declared
+pub rows_declared : (ds : List Declaration) (words : List (List ℕ)) (rows expected : List SeriesValue) → SpellTest ds words rows expected → All (IsOfVariable ds) rows
+rows_declared ds words rows expected test = settings_of_variables ds _ rows test.set
 
-pub expected_bool : (ds : List Declaration) (words : List (List ℕ)) (rows expected : List RowValue) → SpellTest ds words rows expected → All (λ row. IsBoolAt ds row.place) expected
-expected_bool ds words rows expected test k d lt = (zip_at (IsExpected ds) (filter is_expectation words) expected k [] d test.each lt).bool
+pub expected_declared : (ds : List Declaration) (words : List (List ℕ)) (rows expected : List SeriesValue) → SpellTest ds words rows expected → All (IsOfVariable ds) expected
+expected_declared ds words rows expected test k d lt =
+    let found = zip_back (IsExpected ds) (filter is_expectation words) expected test.each k (get_or expected k d) (slice_get-get_or expected k d lt) in
+    series_of_variable ds (name_in found.0) (expected_in found.0) (get_or expected k d) found.2

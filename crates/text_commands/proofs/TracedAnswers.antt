@@ -15,7 +15,7 @@ use Rattle.traces.specs.Tracks.{TrackValue}
 use Rattle.traces.specs.ValueChanges.{dump_of}
 use Rattle.traces.specs.Diagram.{diagram_of}
 use Rattle.traces.specs.Wanted.{AreTexts, is_nothing}
-use Rattle.text_commands.specs.Rows.{RowValue}
+use Rattle.text_commands.specs.Series.{SeriesValue}
 use Rattle.text_commands.specs.Expectations.{SpellTest, test_scans}
 use Rattle.text_commands.specs.EvalText.{IsLadderOfDrawing}
 use Rattle.text_commands.specs.TestText.{IsOutcome}
@@ -43,7 +43,7 @@ untraced wanted step moments tracks texts is dump diagram =
     }
 
 -- the parts of a trace, with its texts
-pub traced_whole : (drawing : List ℕ) (ds : List Declaration) (networks : List Diagram) (dt : ℕ) (form : Form) (wanted : Wanted) (rows expected : List RowValue) (scans : ℕ) (states : List StateValue) (text : List ℕ)
+pub traced_whole : (drawing : List ℕ) (ds : List Declaration) (networks : List Diagram) (dt : ℕ) (form : Form) (wanted : Wanted) (rows expected : List SeriesValue) (scans : ℕ) (states : List StateValue) (text : List ℕ)
     (traced : Traced) → scans ≡ test_scans rows expected → IsFormTrace form drawing ds networks dt rows scans states text → IsOutcome ds expected (slots_of states) traced.difference
     → AreTexts wanted (step_of dt) (length states) (tracks_of ds (slots_of states)) traced.texts → IsTracedTest drawing ds networks dt form wanted rows expected text traced
 traced_whole drawing ds networks dt form wanted rows expected scans states text traced many is outcome texts =
@@ -60,7 +60,7 @@ traced_whole drawing ds networks dt form wanted rows expected scans states text 
     }
 
 -- a test of which all was traced and written
-pub traced_written : (drawing : List ℕ) (words : List (List ℕ)) (dt : ℕ) (form : Form) (wanted : Wanted) (old new : Option (List ℕ)) (ds : List Declaration) (networks : List Diagram) (rows expected : List RowValue)
+pub traced_written : (drawing : List ℕ) (words : List (List ℕ)) (dt : ℕ) (form : Form) (wanted : Wanted) (old new : Option (List ℕ)) (ds : List Declaration) (networks : List Diagram) (rows expected : List SeriesValue)
     (text : List ℕ) (traced : Traced) → IsLadderOfDrawing drawing ds networks → SpellTest ds words rows expected → IsTracedTest drawing ds networks dt form wanted rows expected text traced → Appends old new text
     → WritesTraced drawing words dt form wanted old new traced
 traced_written drawing words dt form wanted old new ds networks rows expected text traced ladder read is appended = record {

@@ -1,5 +1,5 @@
 -- Scans follow one another in a trace.
-use Rattle.std.proofs.Common.{◌≡◌, ℕ, ◌+◌, ◌<◌, ◌≤◌, ◌++◌, List, [], ◌∷◌, Bool, false, All, length, map, take, sum_by, get_or, refl, sym, ap, subst, ◌∙◌, arith}
+use Rattle.std.proofs.Common.{◌≡◌, ℕ, ◌+◌, ◌<◌, ◌++◌, List, [], ◌∷◌, Bool, false, All, length, map, take, sum_by, get_or, sym, ap, subst, ◌∙◌}
 use Rattle.std.proofs.lemmas.List.{length-append, length-map, map-append, take_more, append-nil}
 use Rattle.std.proofs.lemmas.List.Concat.{flat_map-append}
 use Rattle.std.specs.List.{flat_map}
@@ -9,22 +9,19 @@ use Rattle.scan_steps.specs.declared.slot.Slot.{Slot}
 use Rattle.scan_steps.specs.First.{slot_first}
 use Rattle.power_flow.specs.StateValue.{StateValue}
 use Rattle.power_flow.specs.Scan.{ScanMeaning}
-use Rattle.text_commands.specs.Rows.{RowValue}
-use Rattle.text_commands.specs.Lines.{line_of}
-use Rattle.text_commands.specs.EvalText.{Scanned, set_before}
-use Rattle.text_commands.specs.EvalText.Scanned.{begun, after}
+use Rattle.text_commands.specs.Series.{SeriesValue, set_before}
 use Rattle.text_commands.specs.Trace.{IsTrace}
 use Rattle.text_commands.specs.Trace.IsTrace.{begun as no_scan, after as next_scan}
 use Rattle.text_commands.specs.Steps.Testing.{slots_of}
 
 -- before the first scan there is no state
-pub trace_begun : (ds : List Declaration) (networks : List Diagram) (dt : ℕ) (rows : List RowValue) (states : List StateValue) (slots : List Slot) (memories : List Bool)
+pub trace_begun : (ds : List Declaration) (networks : List Diagram) (dt : ℕ) (rows : List SeriesValue) (states : List StateValue) (slots : List Slot) (memories : List Bool)
     → states ≡ [] → slots ≡ map (λ e. slot_first e.declared) ds → length memories ≡ sum_by (λ d. length d.elements) networks → All (λ m. m ≡ false) memories
     → IsTrace ds networks dt rows (slots_of states) slots memories
 trace_begun ds networks dt rows states slots memories none e long off = rw (none, e) (no_scan long off)
 
 -- one scan more
-pub trace_more : (ds : List Declaration) (networks : List Diagram) (dt : ℕ) (rows : List RowValue) (k : ℕ) (states states' : List StateValue) (s set scanned copy : StateValue)
+pub trace_more : (ds : List Declaration) (networks : List Diagram) (dt : ℕ) (rows : List SeriesValue) (k : ℕ) (states states' : List StateValue) (s set scanned copy : StateValue)
     → IsTrace ds networks dt rows (slots_of states) s.slots s.memories → length states ≡ k → set ≡ record s { slots = set_before rows k s.slots }
     → ScanMeaning ds dt networks set.slots set.memories scanned.slots scanned.memories → copy ≡ scanned → states' ≡ states ++ copy ∷ []
     → IsTrace ds networks dt rows (slots_of states') scanned.slots scanned.memories
@@ -36,21 +33,6 @@ trace_more ds networks dt rows k states states' s set scanned copy before long i
 
 pub one_longer : (states states' : List StateValue) (copy : StateValue) (k : ℕ) → length states ≡ k → states' ≡ states ++ copy ∷ [] → length states' ≡ k + 1
 one_longer states states' copy k long more = ap length more ∙ length-append states (copy ∷ []) ∙ ap (λ n. n + 1) long
-
--- scans that were written line by line are a trace
-pub scanned_traced : (ds : List Declaration) (networks : List Diagram) (dt : ℕ) (rows : List RowValue) (k : ℕ) (slots : List Slot) (memories : List Bool) (text : List ℕ)
-    → Scanned ds networks dt rows k slots memories text
-    → (states : List (List Slot)) × IsTrace ds networks dt rows states slots memories × (length states ≡ k) × (text ≡ flat_map (line_of ds) states)
-scanned_traced ds networks dt rows k slots memories text (begun long off) = ([], no_scan long off, refl, refl)
-scanned_traced ds networks dt rows k slots memories text (after {k = n} {slots = s} {slots' = t} {memories = m} {memories' = o} {text = before_text} before meaning) =
-    let before_trace = scanned_traced ds networks dt rows n s m before_text before in
-    let states = before_trace.0 in
-    let there = subst (λ (i : ℕ). ScanMeaning ds dt networks (set_before rows i s) m t o) (sym before_trace.2) meaning in (
-      states ++ t ∷ [],
-      next_scan before_trace.1 there,
-      length-append states (t ∷ []) ∙ ap (λ i. i + 1) before_trace.2,
-      ap (λ l. l ++ line_of ds t) before_trace.3 ∙ ap (λ l. flat_map (line_of ds) states ++ l) (sym (append-nil (line_of ds t))) ∙ sym (flat_map-append (line_of ds) states (t ∷ [])),
-    )
 
 -- what each state adds, one state more
 pub states_more : {A : Type 0} (f : List Slot → List A) (states : List StateValue) (i : ℕ) (d : StateValue) → i < length states

@@ -5,13 +5,13 @@ use Rattle.std.proofs.lemmas.List.{get_or-map, get_or_append_left, take_more, ge
 use Rattle.std.proofs.lemmas.Bool.{cases_lt}
 use Rattle.std.proofs.lemmas.Option.{slice_get-get_or}
 use Rattle.std.specs.Borrow.{Bor}
-use Rattle.std.specs.Prelude.{All, Any, Some, slice_get}
+use Rattle.std.specs.Prelude.{Any, Some, slice_get}
 use Rattle.std.specs.List.{AllZip}
 use Rattle.lists.proofs.Zips.{zip_length, zip_push}
 use Rattle.declared_names.specs.declared.declarations.Declaration.{Declaration}
 use Rattle.text_commands.specs.declared.word_fault.WordFaultKind.{WordFaultKind}
-use Rattle.text_commands.specs.declared.word_fault.WordFaultKind.TheVariants.{NoVariable, BadDigits, Twice}
-use Rattle.text_commands.specs.Rows.{RowValue, IsRow, SpellRows, AreOfDistinctVariables, IsBoolAt, IsRefusedFor, IsFirstRefused, texts}
+use Rattle.text_commands.specs.declared.word_fault.WordFaultKind.TheVariants.{NoVariable, BadDigits, BadNumbers, BadDurations, Twice}
+use Rattle.text_commands.specs.Rows.{RowValue, IsRow, SpellRows, AreOfDistinctVariables, IsRefusedFor, IsFirstRefused, texts}
 
 pub zip_at : {X Y : Type 0} (R : X → Y → Type 0) (xs : List X) (ys : List Y) (i : ℕ) (d : X) (e : Y) → AllZip R xs ys → i < length ys → R (get_or xs i d) (get_or ys i e)
 zip_at R [] [] i d e each lt = absurd (omega arith)
@@ -57,6 +57,8 @@ refuse_twice ds words n d before row lt each is (j, s, within, at, same) rows ar
 pub refused_behind : (ds : List Declaration) (rows : List RowValue) (word : List ℕ) (kind : WordFaultKind) → IsRefusedFor ds [] word kind → IsRefusedFor ds rows word kind
 refused_behind ds rows word NoVariable refused = refused
 refused_behind ds rows word BadDigits refused = refused
+refused_behind ds rows word BadNumbers refused = refused
+refused_behind ds rows word BadDurations refused = refused
 refused_behind ds rows word Twice (row, is, (j, other, within, at, same)) = absurd (omega arith)
 
 -- the words before are rows, and this one is refused
@@ -108,7 +110,3 @@ apart_push before row apart new j k d within inside same =
         let last : l - length before ≡ 0 = omega arith in
         let right : get_or (before ++ row ∷ []) l d ≡ row = get_or-append_right before (row ∷ []) l d late ∙ ap (λ m. get_or (row ∷ []) m d) last in
         (i, get_or before i d, early, get_or-itself before i d early, rw (get_or_append_left before (row ∷ []) d i early, right) at same')
-
--- each row is of a BOOL variable
-pub all_bool : (ds : List Declaration) (words : List (List ℕ)) (rows : List RowValue) → SpellRows ds words rows → All (λ row. IsBoolAt ds row.place) rows
-all_bool ds words rows are k d lt = (zip_at (IsRow ds) words rows k [] d are.each lt).bool

@@ -1,5 +1,6 @@
 -- What `plc eval` writes.
-use Rattle.std.specs.Prelude.{◌≡◌, ◌≢◌, ℕ, ◌+◌, ◌++◌, ◌==◌, ◌≤◌, ◌⊎◌, List, [], Bool, false, Option, Some, None, All, length, map, fold, sum_by, slice_get, slice_set}
+use Rattle.std.specs.Prelude.{◌≡◌, ◌≢◌, ℕ, ◌⊎◌, List, Option, length}
+use Rattle.std.specs.List.{flat_map}
 use Rattle.std.specs.Io.KnownBytes.{Appends, Keeps}
 use Rattle.ladder_rows.specs.Rows.{rows_of}
 use Rattle.ladder_text.specs.Places.{layout_of}
@@ -13,14 +14,9 @@ use Rattle.network.specs.Links.{Diagram}
 use Rattle.network.specs.GraphValue.{GraphValue}
 use Rattle.network.specs.Networks.{AreNetworks, HasFaultlessNetworks, IsFirstGraphFaultAt, GraphFaultLiesAt}
 use Rattle.network.specs.declared.fault.GraphFault.{GraphFault}
-use Rattle.std_blocks.specs.declared.value.Value.TheVariants.{Bool as BoolValue}
 use Rattle.declared_names.specs.declared.declarations.Declaration.{Declaration}
-use Rattle.scan_steps.specs.declared.slot.Slot.{Slot}
-use Rattle.scan_steps.specs.declared.slot.Slot.TheVariants.{Variable}
-use Rattle.scan_steps.specs.First.{slot_first}
 use Rattle.name_faults.specs.Guess.{AreGuessed}
 use Rattle.name_faults.specs.Binding.{CanBind}
-use Rattle.power_flow.specs.Scan.{ScanMeaning}
 use Rattle.power_flow.specs.LadderValue.{diagrams as diagrams_of}
 use Rattle.name_faults.specs.Findings.{IsFirstBindFault}
 use Rattle.name_faults.specs.declared.bind_fault.BindFault.{BindFault}
@@ -29,7 +25,9 @@ use Rattle.text_commands.specs.declared.text_command_fault.TextCommandFault.{Tex
 use Rattle.text_commands.specs.declared.text_command_fault.TextCommandFault.TheVariants.{Text, Word, Write, Memory}
 use Rattle.text_commands.specs.declared.text_fault.TextFault.{TextFault}
 use Rattle.text_commands.specs.declared.text_fault.TextFault.TheVariants.{Draw, Graph, Bind, Plant, TooLong}
-use Rattle.text_commands.specs.Rows.{RowValue, SpellRows, SpellNoRows, IsFirstRefused, scans_of}
+use Rattle.text_commands.specs.Rows.{SpellNoRows, IsFirstRefused}
+use Rattle.text_commands.specs.Series.{SeriesValue, SpellSettings, SpellNoSettings, IsFirstRefusedSetting, scans_of}
+use Rattle.text_commands.specs.Trace.{SomeTrace}
 use Rattle.text_commands.specs.Lines.{line_of}
 use Rattle.text_commands.specs.Comments.{without_comments}
 use Rattle.text_lines.specs.Sending.{Stops}
@@ -59,75 +57,54 @@ IsLadderOfDrawing drawing ds networks =
     IsLadderOfText drawing ds networks
     ⊎ (IsIllDrawn (rows_of drawing) × IsLadderOfText (without_comments drawing) ds networks)
 
--- a variable is set to a digit, if there is one
-abbrev pub set_digit : List Slot → ℕ → Option ℕ → List Slot
-set_digit slots place None = slots
-set_digit slots place (Some digit) = slice_set slots place (Variable (BoolValue (digit == 49)))
-
--- before scan k, counted from 0, the variable of each row is set to digit k, or left alone
-abbrev pub set_before : List RowValue → ℕ → List Slot → List Slot
-set_before rows k slots = fold (λ slots' row. set_digit slots' row.place (slice_get row.digits k)) slots rows
-
--- After some scans: how many, what stands at each name, the memories, and the text so far. All begins as declared and
--- with memories OFF. Each scan has the meaning of the networks after the digits are set, and adds one line of the
--- variables.
-pub data Scanned (ds : List Declaration) (networks : List Diagram) (dt : ℕ) (rows : List RowValue)
-    : ℕ → List Slot → List Bool → List ℕ → Type 0 where
-  begun : {memories : List Bool} → length memories ≡ sum_by (λ d. length d.elements) networks
-      → All (λ m. m ≡ false) memories
-      → Scanned ds networks dt rows 0 (map (λ e. slot_first e.declared) ds) memories []
-  after : {k : ℕ} {slots slots' : List Slot} {memories memories' : List Bool} {text : List ℕ}
-      → Scanned ds networks dt rows k slots memories text
-      → ScanMeaning ds dt networks (set_before rows k slots) memories slots' memories'
-      → Scanned ds networks dt rows (k + 1) slots' memories' (text ++ line_of ds slots')
-
--- some of the scans that the rows ask for, and their text
-pub record SomeScans (ds : List Declaration) (networks : List Diagram) (dt : ℕ) (rows : List RowValue) : Type 0 where
-  pub scans : ℕ
-  pub few : scans ≤ scans_of rows
-  pub slots : List Slot
-  pub memories : List Bool
-  pub text : List ℕ
-  pub scanned : Scanned ds networks dt rows scans slots memories text
-
--- all scans were made, and their text was written
-pub record WritesScans (ds : List Declaration) (networks : List Diagram) (dt : ℕ) (rows : List RowValue)
+-- so many scans were made, and a line of the variables was written after each
+pub record WritesScans (ds : List Declaration) (networks : List Diagram) (dt : ℕ) (rows : List SeriesValue) (scans : ℕ)
     (old new : Option (List ℕ)) : Type 0 where
-  pub made : SomeScans ds networks dt rows
-  pub all : made.scans ≡ scans_of rows
-  pub appended : Appends old new made.text
+  pub made : SomeTrace ds networks dt rows scans
+  pub all : length made.states ≡ scans
+  pub appended : Appends old new (flat_map (line_of ds) made.states)
 
--- the text of some scans didn't go out whole
-pub record StopsScans (ds : List Declaration) (networks : List Diagram) (dt : ℕ) (rows : List RowValue)
+-- the lines of some scans didn't go out whole
+pub record StopsScans (ds : List Declaration) (networks : List Diagram) (dt : ℕ) (rows : List SeriesValue) (scans : ℕ)
     (fault : SendFault) (old new : Option (List ℕ)) : Type 0 where
-  pub made : SomeScans ds networks dt rows
-  pub stopped : Stops fault made.text old new
+  pub made : SomeTrace ds networks dt rows scans
+  pub stopped : Stops fault (flat_map (line_of ds) made.states) old new
 
--- the ladder of the drawing, and the rows that the words are for it
+-- the ladder of the drawing, and the variables that the words set before its scans
 pub record Asked (drawing : List ℕ) (words : List (List ℕ)) : Type 0 where
   pub declarations : List Declaration
   pub networks : List Diagram
   pub ladder : IsLadderOfDrawing drawing declarations networks
-  pub rows : List RowValue
-  pub read : SpellRows declarations words rows
+  pub rows : List SeriesValue
+  pub read : SpellSettings declarations words rows
 
 -- the text of all scans of the drawing was written
 abbrev pub WritesAll : List ℕ → List (List ℕ) → ℕ → Option (List ℕ) → Option (List ℕ) → Type 0
 WritesAll drawing words dt old new =
-    (asked : Asked drawing words) × WritesScans asked.declarations asked.networks dt asked.rows old new
+    (asked : Asked drawing words)
+    × WritesScans asked.declarations asked.networks dt asked.rows (scans_of asked.rows) old new
 
 -- the text of some of its scans didn't go out whole
 abbrev pub StopsSome : SendFault → List ℕ → List (List ℕ) → ℕ → Option (List ℕ) → Option (List ℕ) → Type 0
 StopsSome fault drawing words dt old new =
-    (asked : Asked drawing words) × StopsScans asked.declarations asked.networks dt asked.rows fault old new
+    (asked : Asked drawing words)
+    × StopsScans asked.declarations asked.networks dt asked.rows (scans_of asked.rows) fault old new
 
--- the words are no rows of the drawing's ladder, and this is the first fault
+-- the words are no rows of digits for the drawing's ladder, and this is the first fault
 pub record RefusesWords (drawing : List ℕ) (words : List (List ℕ)) (fault : WordFault) : Type 0 where
   pub declarations : List Declaration
   pub networks : List Diagram
   pub ladder : IsLadderOfDrawing drawing declarations networks
   pub refused : SpellNoRows declarations words
   pub first : IsFirstRefused declarations words fault
+
+-- the words set nothing that the drawing's ladder has, and this is the first fault
+pub record RefusesSettings (drawing : List ℕ) (words : List (List ℕ)) (fault : WordFault) : Type 0 where
+  pub declarations : List Declaration
+  pub networks : List Diagram
+  pub ladder : IsLadderOfDrawing drawing declarations networks
+  pub refused : SpellNoSettings declarations words
+  pub first : IsFirstRefusedSetting declarations words fault
 
 -- the drawing's networks have no fault, and their names can't be bound; this is the first fault
 pub record RefusesNamesOf (drawing : List ℕ) (fault : BindFault) : Type 0 where
@@ -167,6 +144,6 @@ RefusesDrawing drawing fault =
 -- why there was a fault, and what was written before: nothing before a fault of the text or of the words
 abbrev pub Explains : List ℕ → List (List ℕ) → ℕ → Option (List ℕ) → Option (List ℕ) → TextCommandFault → Type 0
 Explains drawing words dt old new (Text fault) = RefusesDrawing drawing fault × Keeps old new
-Explains drawing words dt old new (Word fault) = RefusesWords drawing words fault × Keeps old new
+Explains drawing words dt old new (Word fault) = RefusesSettings drawing words fault × Keeps old new
 Explains drawing words dt old new Write = StopsSome sending.Write drawing words dt old new
 Explains drawing words dt old new Memory = Keeps old new ⊎ StopsSome sending.Memory drawing words dt old new

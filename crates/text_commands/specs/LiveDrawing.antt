@@ -1,6 +1,7 @@
 -- What `plc eval --show` writes behind the line of a scan: the drawing with what has power in it.
 use Rattle.std.specs.Prelude.{ℕ, ◌-◌, ◌++◌, if◌then◌else◌, List, [], ◌∷◌, Bool, codes, encode_utf8, map, slice_index_or, slice_set}
 use Rattle.std.specs.List.{flat_map}
+use Rattle.std.specs.Str.{chars}
 use Rattle.words.specs.Lines.{lines_of}
 use Rattle.drawings.specs.declared.place.Place.{Place}
 use Rattle.network.specs.declared.element.Element.{Element}
@@ -9,9 +10,13 @@ use Rattle.network.specs.Links.{Diagram}
 use Rattle.text_commands.specs.declared.live_drawing.Sign.{Sign}
 use Rattle.text_commands.specs.declared.live_drawing.Sign.TheVariants.{Drawn, LiveWire, LiveUpright}
 
--- the lines of a text, each sign as it stands there
+-- the characters of a line, each as it stands there
+abbrev pub drawn_line : List ℕ → List Sign
+drawn_line line = map (λ c. Drawn c) (chars line)
+
+-- the lines of a text as they stand there
 abbrev pub drawn_lines : List ℕ → List (List Sign)
-drawn_lines text = map (λ line. map (λ c. Drawn c) line) (lines_of text)
+drawn_lines text = map drawn_line (lines_of text)
 
 -- these lines with another sign at a place; rows and columns count from 1
 abbrev pub with_sign : Place → Sign → List (List Sign) → List (List Sign)

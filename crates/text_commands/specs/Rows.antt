@@ -1,5 +1,5 @@
--- What the words NAME=BITS say.
-use Rattle.std.specs.Prelude.{◌≡◌, ℕ, ◌<◌, ◌≤◌, ◌==◌, ◌||◌, ◌⊎◌, List, Bool, true, false, Some, IsTrue, All, Any, length, take, slice_get, slice_index_or, fold, max, map}
+-- What the words NAME=BITS say, as `plc verify` has them.
+use Rattle.std.specs.Prelude.{◌≡◌, ℕ, ◌<◌, ◌≤◌, ◌==◌, ◌||◌, ◌⊎◌, List, Bool, true, false, Some, IsTrue, All, Any, length, take, slice_get, slice_index_or, map}
 use Rattle.std.specs.Borrow.{Bor}
 use Rattle.std.specs.List.{position_or_len, before_first, after_first, AllZip}
 use Rattle.declared_names.specs.declared.declarations.Declaration.{Declaration}
@@ -10,7 +10,7 @@ use Rattle.declared_names.specs.declared.declarations.Kind.TheVariants as kind
 use Rattle.declared_names.specs.Names.{place_of}
 use Rattle.text_commands.specs.declared.word_fault.WordFault.{WordFault}
 use Rattle.text_commands.specs.declared.word_fault.WordFaultKind.{WordFaultKind}
-use Rattle.text_commands.specs.declared.word_fault.WordFaultKind.TheVariants.{NoVariable, BadDigits, Twice}
+use Rattle.text_commands.specs.declared.word_fault.WordFaultKind.TheVariants.{NoVariable, BadDigits, BadNumbers, BadDurations, Twice}
 
 -- the place of a BOOL variable, and a digit for each of the first scans
 pub record RowValue : Type 0 where
@@ -86,6 +86,8 @@ NamesBool ds word = (place : ℕ) × (place_of ds (name_in word) ≡ Some place)
 abbrev pub IsRefusedFor : List Declaration → List RowValue → List ℕ → WordFaultKind → Type 0
 IsRefusedFor ds rows word NoVariable = HasEquals word × (NamesBool ds word → ⊥)
 IsRefusedFor ds rows word BadDigits = (HasEquals word → ⊥) ⊎ (NamesBool ds word × (AreDigits (digits_in word) → ⊥))
+IsRefusedFor ds rows word BadNumbers = ⊥
+IsRefusedFor ds rows word BadDurations = ⊥
 IsRefusedFor ds rows word Twice = (row : RowValue) × IsRow ds word row × Any (λ other. other.place ≡ row.place) rows
 
 -- the fault is of the first word that is refused: those before it are rows
@@ -95,10 +97,6 @@ pub record IsFirstRefused (ds : List Declaration) (words : List (List ℕ)) (fau
   pub rows : List RowValue
   pub before : SpellRows ds (take fault.number words) rows
   pub refused : IsRefusedFor ds rows word fault.kind
-
--- as many scans as the longest row has digits, and one if there are no rows
-abbrev pub scans_of : List RowValue → ℕ
-scans_of rows = fold (λ most row. max most (length row.digits)) 1 rows
 
 -- the texts of a list of words
 abbrev pub texts : List (Bor (List ℕ)) → List (List ℕ)

@@ -3,6 +3,7 @@
 pub mod Refusing
 pub mod Joining
 pub mod Rows
+pub mod Series
 pub mod Testing
 pub mod Showing
 pub mod Tracing

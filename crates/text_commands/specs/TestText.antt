@@ -1,10 +1,9 @@
--- What `plc eval` writes and tells, in each form, with words NAME==BITS or without.
-use Rattle.std.specs.Prelude.{◌≡◌, ℕ, ◌+◌, ◌<◌, ◌==◌, ◌⊎◌, if◌then◌else◌, List, Bool, true, false, Option, Some, None, IsTrue, All, take, length, slice_get, string_bytes}
+-- What `plc eval` writes and tells, in each form, with words NAME==VALUES or without.
+use Rattle.std.specs.Prelude.{◌≡◌, ◌≢◌, ℕ, ◌+◌, ◌<◌, ◌⊎◌, List, Bool, true, false, Option, Some, None, IsTrue, All, take, length, slice_get, string_bytes}
 use Rattle.std.specs.List.{flat_map}
 use Rattle.std.specs.Io.KnownBytes.{Appends, Keeps}
 use Rattle.network.specs.Links.{Diagram}
 use Rattle.std_blocks.specs.declared.value.Value.{Value}
-use Rattle.std_blocks.specs.declared.value.Value.TheVariants.{Bool as BoolValue, Int as IntValue, Time as TimeValue}
 use Rattle.declared_names.specs.declared.declarations.Declaration.{Declaration}
 use Rattle.scan_steps.specs.declared.slot.Slot.{Slot}
 use Rattle.scan_steps.specs.Slots.{variable_at}
@@ -17,7 +16,7 @@ use Rattle.text_commands.specs.declared.text_command_fault.TextCommandFault.TheV
 use Rattle.text_commands.specs.declared.difference.Difference.{Difference}
 use Rattle.text_commands.specs.declared.form.Form.{Form}
 use Rattle.text_commands.specs.declared.form.Form.TheVariants.{Rows, Drawings, Chart}
-use Rattle.text_commands.specs.Rows.{RowValue}
+use Rattle.text_commands.specs.Series.{SeriesValue}
 use Rattle.text_commands.specs.Lines.{line_of}
 use Rattle.text_commands.specs.Chart.{chart_of}
 use Rattle.text_commands.specs.Shown.{IsShown}
@@ -25,55 +24,53 @@ use Rattle.text_commands.specs.Trace.{SomeTrace}
 use Rattle.text_commands.specs.Expectations.{SpellTest, IsFirstRefusedOf, test_scans}
 use Rattle.text_commands.specs.EvalText.{IsLadderOfDrawing, RefusesDrawing}
 
--- what a BOOL is, where a digit asks for the other value
-abbrev pub other_than : Option ℕ → Option Value → Option Bool
-other_than None value = None
-other_than (Some digit) None = None
-other_than (Some digit) (Some (BoolValue true)) = if digit == 49 then None else Some true
-other_than (Some digit) (Some (BoolValue false)) = if digit == 49 then Some false else None
-other_than (Some digit) (Some (IntValue n)) = None
-other_than (Some digit) (Some (TimeValue t)) = None
+-- After scan k, counted from 0, a variable has this value, and another one is expected. Behind its last value nothing is
+-- expected of it.
+pub record IsOtherAt (row : SeriesValue) (k : ℕ) (slots : List Slot) (value wanted : Value) : Type 0 where
+  pub wants : slice_get row.values k ≡ Some wanted
+  pub is : variable_at slots row.place ≡ Some value
+  pub other : value ≢ wanted
 
--- what the variable of a row is after scan k, counted from 0, where the row expects the other value of it; behind its last
--- digit a row expects nothing
-abbrev pub other_value : ℕ → List Slot → RowValue → Option Bool
-other_value k slots row = other_than (slice_get row.digits k) (variable_at slots row.place)
-
--- after scan k all is as expected
-abbrev pub AgreesAt : List RowValue → ℕ → List Slot → Type 0
-AgreesAt expected k slots = All (λ row. other_value k slots row ≡ None) expected
+-- after scan k no variable has another value than is expected
+abbrev pub AgreesAt : List SeriesValue → ℕ → List Slot → Type 0
+AgreesAt expected k slots = All (λ row. (value wanted : Value) → IsOtherAt row k slots value wanted → ⊥) expected
 
 -- after each of the first so many scans all is as expected
-abbrev pub AgreesBefore : List RowValue → List (List Slot) → ℕ → Type 0
+abbrev pub AgreesBefore : List SeriesValue → List (List Slot) → ℕ → Type 0
 AgreesBefore expected states scans =
     (k : ℕ) (slots : List Slot) → k < scans → slice_get states k ≡ Some slots → AgreesAt expected k slots
 
--- the first row, in the order of the words, that expects another value after scan k than there is
-pub record IsFirstOther (expected : List RowValue) (k : ℕ) (slots : List Slot) (place : ℕ) (value : Bool) : Type 0 where
+-- the first variable, in the order of the words, of which another value is expected after scan k than it has
+pub record IsFirstOther (expected : List SeriesValue) (k : ℕ) (slots : List Slot) (place : ℕ) (value wanted : Value)
+    : Type 0 where
   pub number : ℕ
-  pub row : RowValue
+  pub row : SeriesValue
   pub at : slice_get expected number ≡ Some row
   pub place_is : place ≡ row.place
-  pub other : other_value k slots row ≡ Some value
+  pub other : IsOtherAt row k slots value wanted
   pub before : AgreesAt (take number expected) k slots
 
--- The first difference: by scan, and then by the order of the words. Its name is that of the declaration; scans count
--- from 1.
-pub record IsFirstDifference (ds : List Declaration) (expected : List RowValue) (states : List (List Slot))
+-- A difference after scan k: the first by the order of the words. Its name is that of the declaration; scans count from 1.
+pub record IsDifferenceAt (ds : List Declaration) (expected : List SeriesValue) (k : ℕ) (slots : List Slot)
+    (found : Difference) : Type 0 where
+  pub declaration : Declaration
+  pub place : ℕ
+  pub declared : slice_get ds place ≡ Some declaration
+  pub first : IsFirstOther expected k slots place found.value found.expected
+  pub name : string_bytes found.name ≡ declaration.name
+  pub scan : found.scan ≡ k + 1
+
+-- the first difference, by scan
+pub record IsFirstDifference (ds : List Declaration) (expected : List SeriesValue) (states : List (List Slot))
     (found : Difference) : Type 0 where
   pub k : ℕ
   pub slots : List Slot
   pub at : slice_get states k ≡ Some slots
-  pub declaration : Declaration
-  pub place : ℕ
-  pub declared : slice_get ds place ≡ Some declaration
-  pub first : IsFirstOther expected k slots place found.value
   pub before : AgreesBefore expected states k
-  pub name : string_bytes found.name ≡ declaration.name
-  pub scan : found.scan ≡ k + 1
+  pub here : IsDifferenceAt ds expected k slots found
 
 -- all is as expected, or this is the first difference
-abbrev pub IsOutcome : List Declaration → List RowValue → List (List Slot) → Option Difference → Type 0
+abbrev pub IsOutcome : List Declaration → List SeriesValue → List (List Slot) → Option Difference → Type 0
 IsOutcome ds expected states None = AgreesBefore expected states (length states)
 IsOutcome ds expected states (Some found) = IsFirstDifference ds expected states found
 
@@ -85,7 +82,7 @@ is_chart Chart = true
 
 -- what is written of the scans of a trace: a line for each scan; the same, with the drawing behind each line; or a line for
 -- each variable
-abbrev pub IsTextOf : Form → List ℕ → {ds : List Declaration} → {networks : List Diagram} → {dt : ℕ} → {rows : List RowValue}
+abbrev pub IsTextOf : Form → List ℕ → {ds : List Declaration} → {networks : List Diagram} → {dt : ℕ} → {rows : List SeriesValue}
     → {most : ℕ} → SomeTrace ds networks dt rows most → List ℕ → Type 0
 IsTextOf Rows drawing {ds} made text = text ≡ flat_map (line_of ds) made.states
 IsTextOf (Drawings color) drawing {ds} {networks} {dt} {rows} made text =
@@ -97,8 +94,8 @@ pub record AskedTest (drawing : List ℕ) (words : List (List ℕ)) : Type 0 whe
   pub declarations : List Declaration
   pub networks : List Diagram
   pub ladder : IsLadderOfDrawing drawing declarations networks
-  pub rows : List RowValue
-  pub expected : List RowValue
+  pub rows : List SeriesValue
+  pub expected : List SeriesValue
   pub read : SpellTest declarations words rows expected
 
 -- all scans were made, their text was written, and this is what came of what was expected

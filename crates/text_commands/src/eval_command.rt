@@ -1,14 +1,18 @@
 ghost use Rattle.std.specs.Prelude.{◌≡◌, List, OnOk, IfOk, IfErr, All, slice_get};
 ghost use Rattle.declared_names.specs.declared.declarations.Declaration.{Declaration};
 ghost use Rattle.scan_steps.specs.Slots.{AreSlotsOf};
-ghost use Rattle.text_commands.specs.Rows.{IsBoolAt, texts};
-ghost use Rattle.text_commands.specs.EvalText.{IsLadderOfDrawing, IsLadderOfText, WritesScans, StopsScans, WritesAll, Explains, set_digit, set_before};
+ghost use Rattle.text_commands.specs.Rows.{texts};
+ghost use Rattle.text_commands.specs.Series.{IsOfVariable, set_before, set_value};
+ghost use Rattle.text_commands.specs.EvalText.{IsLadderOfDrawing, IsLadderOfText, StopsScans, WritesAll, Explains};
+ghost use Rattle.text_commands.specs.Steps.Testing.{WritesRun};
 ghost use Rattle.text_commands.specs.Steps.Refusing.{RefusesLadder, RefusesLadderOfText};
 
 use crate::comments::without_comments;
+use crate::difference::Difference;
+use crate::expectations::found_after;
 use crate::line::state_line;
-use crate::row::Row;
-use crate::rows::{read_rows, scan_count};
+use crate::series::Series;
+use crate::settings::{read_settings, scan_count};
 use crate::text_command_fault::TextCommandFault;
 use crate::text_fault::TextFault;
 use declared_names::Declarations;
@@ -19,7 +23,6 @@ use network::Graph;
 use power_flow::{Ladder, State};
 use std::alloc::Global;
 use std::io::Write;
-use std_blocks::Value;
 use text_lines::{SendFault, write_text};
 
 /// The ladder of a text as it stands, its names declared by their use.
@@ -48,21 +51,21 @@ pub fn read_ladder(alloc: Global, drawing: &str) -> Result<Ladder, TextCommandFa
     }
 }
 
-/// Sets the variable of a row to its digit for scan k, counted from 0, if it has one.
-fn set_row(row: &Row<'_>, k: usize, state: &mut State)
-    requires { (ds : List Declaration) × AreSlotsOf ds state.old.slots × IsBoolAt ds row.now.place }
+/// Sets a variable to its value for scan k, counted from 0, if it has one.
+fn set_row(row: &Series<'_>, k: usize, state: &mut State)
+    requires { (ds : List Declaration) × AreSlotsOf ds state.old.slots × IsOfVariable ds row.now }
     ensures slots { state.new
-        ≡ record state.old { slots = set_digit state.old.slots row.now.place (slice_get row.now.digits k) } }
+        ≡ record state.old { slots = set_value state.old.slots row.now.place (slice_get row.now.values k) } }
     ensures declared { (ds : List Declaration) → AreSlotsOf ds state.old.slots → AreSlotsOf ds state.new.slots }
 {
-    if let Some(digit) = row.digit(k) {
-        let _set = state.set(row.place(), Value::Bool(digit == b'1'));
+    if let Some(value) = row.value(k) {
+        let _set = state.set(row.place(), value);
     }
 }
 
-/// Sets the variable of each row to its digit for scan k, counted from 0, if it has one.
-pub fn set_rows(rows: &[Row<'_>], k: usize, state: &mut State)
-    requires { (ds : List Declaration) × AreSlotsOf ds state.old.slots × All (λ row. IsBoolAt ds row.place) rows.now }
+/// Sets each variable to its value for scan k, counted from 0, if it has one.
+pub fn set_rows(rows: &[Series<'_>], k: usize, state: &mut State)
+    requires { (ds : List Declaration) × AreSlotsOf ds state.old.slots × All (IsOfVariable ds) rows.now }
     ensures slots { state.new ≡ record state.old { slots = set_before rows.now k state.old.slots } }
     ensures declared { (ds : List Declaration) → AreSlotsOf ds state.old.slots → AreSlotsOf ds state.new.slots }
 {
@@ -71,36 +74,43 @@ pub fn set_rows(rows: &[Row<'_>], k: usize, state: &mut State)
     }
 }
 
-/// Makes the scans that the rows ask for, and writes a line after each.
+/// Makes so many scans, and writes a line after each; the first difference from what is expected, if there is one.
 pub fn write_scans<W: Write>(
     alloc: Global,
     ladder: &Ladder,
-    rows: &[Row<'_>],
+    rows: &[Series<'_>],
+    expected: &[Series<'_>],
+    scans: usize,
     dt: u32,
     writer: &mut W,
-) -> Result<(), SendFault>
-    requires { All (λ row. IsBoolAt ladder.now.declarations row.place) rows.now }
-    ensures ok { OnOk result
-        (WritesScans ladder.now.declarations ladder.now.networks dt rows.now
+) -> Result<Option<Difference>, SendFault>
+    requires rows { All (IsOfVariable ladder.now.declarations) rows.now }
+    requires expected { All (IsOfVariable ladder.now.declarations) expected.now }
+    ensures ok { IfOk result
+        (WritesRun ladder.now.declarations ladder.now.networks dt rows.now expected.now scans
         (W.contents writer.old) (W.contents writer.new)) }
     ensures stopped { IfErr result
-        (λ fault. StopsScans ladder.now.declarations ladder.now.networks dt rows.now fault
+        (λ fault. StopsScans ladder.now.declarations ladder.now.networks dt rows.now scans fault
         (W.contents writer.old) (W.contents writer.new)) }
 {
     let mut state = ladder.initial(alloc)?;
-    for k in 0..scan_count(rows) {
+    let mut found = None;
+    for k in 0..scans {
         set_rows(rows, k, &mut state);
         ladder.scan(&mut state, dt);
         let line = state_line(alloc, ladder.declarations(), &state)?;
         write_text(writer, line.as_str())?;
+        found = found_after(found, alloc, ladder.declarations(), expected, k, &state)?;
     }
-    Ok(())
+    Ok(found)
 }
 
 /// Writes the values of all variables after each scan of a drawing, one line a scan.
 ///
-/// A word NAME=BITS sets its variable before scan k to the k-th digit. There are as many scans as the longest
-/// row has digits, and one without words. `dt` is the time between two scans in milliseconds.
+/// A word NAME=VALUES sets its variable before scan k to the k-th value, and behind the last one sets nothing. VALUES are
+/// items with commas between, V or V*COUNT; V is 1 to 1,000 digits 0 or 1 for a BOOL, a value each, a number for an INT, a
+/// duration for a TIME. A word has at most 1,000,000 values. There are as many scans as the longest has values, and one
+/// without words. `dt` is the time between two scans in milliseconds.
 /// `Text` and `Word` come before anything is written. After `Write` what went out is a prefix and
 /// not all, after `Memory` a prefix.
 pub fn eval<W: Write>(
@@ -116,6 +126,8 @@ pub fn eval<W: Write>(
         (Explains drawing.now (texts words.now) dt (W.contents writer.old) (W.contents writer.new)) }
 {
     let ladder = read_ladder(alloc, drawing)?;
-    let rows = read_rows(alloc, ladder.declarations(), words)?;
-    Ok(write_scans(alloc, &ladder, &rows, dt, writer)?)
+    let rows = read_settings(alloc, ladder.declarations(), words)?;
+    let scans = scan_count(&rows);
+    write_scans(alloc, &ladder, &rows, &[], scans, dt, writer)?;
+    Ok(())
 }

@@ -1,8 +1,7 @@
-ghost use Rattle.std.specs.Prelude.{◌≡◌, ◌-◌, OnOk, IfOk, drop, false, length, map, min, slice_get, slice_set, unwrap_or};
+ghost use Rattle.std.specs.Prelude.{◌≡◌, ◌-◌, OnOk, IfOk, drop, false, length, min, slice_get, slice_set, unwrap_or};
 ghost use Rattle.words.specs.Lines.{without_last};
 ghost use Rattle.text_lines.specs.Growing.{GrowsBy};
-ghost use Rattle.text_commands.specs.declared.live_drawing.Sign.TheVariants.{Drawn};
-ghost use Rattle.text_commands.specs.LiveDrawing.{drawn_lines, line_text, live_drawing, live_lines, live_text, sign_text, with_element, with_power, with_sign};
+ghost use Rattle.text_commands.specs.LiveDrawing.{drawn_line, drawn_lines, line_text, live_drawing, live_lines, live_text, sign_text, with_element, with_power, with_sign};
 
 use drawings::Place;
 use network::Element;
@@ -14,7 +13,7 @@ use std::marker::Model;
 #[derive(Clone, Copy)]
 pub enum Sign {
     /// As it stands in the text.
-    Drawn(u8),
+    Drawn(char),
     /// A wire that has power.
     LiveWire,
     /// A place of an upright that has power.
@@ -38,12 +37,12 @@ impl Model for Line {
 
 impl Line {
     /// A line as it stands in the text.
-    fn drawn(alloc: Global, text: &[u8]) -> Result<Line, AllocError>
-        ensures { IfOk result (λ line. line ≡ map (λ c. Drawn c) text.now) }
+    fn drawn(alloc: Global, text: &str) -> Result<Line, AllocError>
+        ensures { IfOk result (λ line. line ≡ drawn_line text.now) }
     {
         let mut signs = Vec::with_capacity(alloc, text.len())?;
-        for byte in text {
-            signs.push(Sign::Drawn(*byte))?;
+        for sign in text.chars() {
+            signs.push(Sign::Drawn(sign))?;
         }
         Ok(Line { signs })
     }
@@ -59,13 +58,13 @@ impl Line {
     }
 }
 
-/// The text without its last byte, where that is `byte`.
-fn without_last(byte: u8, text: &[u8]) -> &[u8]
-    ensures { result.now ≡ without_last byte text.now }
+/// The text without the line feed at its end, which begins no further line.
+fn without_feed(text: &str) -> &str
+    ensures { result.now ≡ without_last 10 text.now }
 {
-    match text {
-        [front @ .., last] if *last == byte => front,
-        _ => text,
+    match text.strip_suffix('\n') {
+        Some(front) => front,
+        None => text,
     }
 }
 
@@ -74,7 +73,7 @@ fn drawn_lines(alloc: Global, drawing: &str) -> Result<Vec<Line>, AllocError>
     ensures { IfOk result (λ lines. lines.items ≡ drawn_lines drawing.now) }
 {
     let mut lines = Vec::new(alloc);
-    for line in without_last(b'\n', drawing.as_bytes()).split(|b| *b == b'\n') {
+    for line in without_feed(drawing).split('\n') {
         lines.push(Line::drawn(alloc, line)?)?;
     }
     Ok(lines)
@@ -167,7 +166,7 @@ fn push_sign(text: &mut String, sign: Sign, color: bool) -> Result<(), AllocErro
     ensures { OnOk result (GrowsBy text.old text.new (sign_text color sign)) }
 {
     match sign {
-        Sign::Drawn(byte) => text.push(char::from(byte)),
+        Sign::Drawn(sign) => text.push(sign),
         Sign::LiveWire => push_live(text, "=", color),
         Sign::LiveUpright => push_live(text, "#", color),
     }

@@ -1,7 +1,6 @@
 ghost use Rattle.std.specs.Prelude.{◌≡◌, ◌↔◌, IfOk, IfErr, OnErr, IsTrue, MatchOption, ℕ, [], Any, Some, slice_get};
 ghost use Rattle.declared_names.specs.Names.{place_of};
 ghost use Rattle.text_commands.specs.Rows.{RowValue, IsRow, IsBoolAt, IsRefusedFor, AreDigits, digits_in, is_bool, is_zero_or_one, name_in};
-ghost use Rattle.text_commands.specs.Expectations.{IsExpected, IsRefusedExpectation};
 
 use crate::word_fault::WordFaultKind;
 use declared_names::{Declarations, Declared, Kind};
@@ -73,7 +72,8 @@ fn bool_place(declarations: &Declarations, name: &str) -> Option<usize>
 
 const MOST_DIGITS: usize = 1000;
 
-fn are_digits(text: &str) -> bool
+/// Whether a text is 1 to 1,000 digits 0 or 1.
+pub(crate) fn are_digits(text: &str) -> bool
     ensures { IsTrue result ↔ AreDigits text.now }
 {
     let most = MOST_DIGITS;
@@ -89,25 +89,6 @@ pub fn split_at_equals(text: &str) -> (&str, &str)
         Some(parts) => parts,
         None => (text, ""),
     }
-}
-
-/// Reads a word NAME==BITS as what is expected of a declared BOOL variable.
-pub fn read_expectation<'a>(
-    declarations: &Declarations,
-    word: &'a str,
-) -> Result<Row<'a>, WordFaultKind>
-    ensures ok { IfOk result (IsExpected declarations.now word.now) }
-    ensures kind { IfErr result (IsRefusedExpectation declarations.now [] word.now) }
-{
-    let (name, behind) = split_at_equals(word);
-    let (_, digits) = split_at_equals(behind);
-    let Some(place) = bool_place(declarations, name) else {
-        return Err(WordFaultKind::NoVariable);
-    };
-    if !are_digits(digits) {
-        return Err(WordFaultKind::BadDigits);
-    }
-    Ok(Row { place, digits })
 }
 
 /// Reads a word as the row of a declared BOOL variable.

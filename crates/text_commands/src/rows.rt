@@ -1,5 +1,5 @@
 ghost use Rattle.std.specs.Prelude.{◌≡◌, ◌↔◌, ◌⊎◌, IfOk, IfErr, IsTrue, ℕ, List, Any, fold, length};
-ghost use Rattle.text_commands.specs.Rows.{RowValue, SpellRows, scans_of, texts};
+ghost use Rattle.text_commands.specs.Rows.{RowValue, SpellRows, texts};
 ghost use Rattle.text_commands.specs.Steps.Refusing.{RefusesRows};
 
 use crate::row::{Row, read_row};
@@ -9,7 +9,7 @@ use declared_names::Declarations;
 use std::alloc::Global;
 
 /// Whether a row is of the variable at a place.
-pub fn has_place(rows: &[Row<'_>], place: usize) -> bool
+fn has_place(rows: &[Row<'_>], place: usize) -> bool
     ensures { IsTrue result ↔ Any (λ row. row.place ≡ place) rows.now }
 {
     rows.iter().any(|row| row.place() == place)
@@ -37,15 +37,4 @@ pub fn read_rows<'a>(
         rows.push(row)?;
     }
     Ok(rows)
-}
-
-/// As many scans as the longest row has digits, and one if there are no rows.
-pub fn scan_count(rows: &[Row<'_>]) -> usize
-    ensures { result ≡ scans_of rows.now }
-{
-    let mut most = 1;
-    for row in rows {
-        most = most.max(row.digits().len());
-    }
-    most
 }

@@ -1,13 +1,15 @@
-ghost use Rattle.std.specs.Prelude.{OnOk, IfOk, IfErr, All, string_bytes};
+ghost use Rattle.std.specs.Prelude.{IfOk, IfErr, All, string_bytes};
 ghost use Rattle.power_flow.specs.LadderValue.{Fits};
-ghost use Rattle.text_commands.specs.Rows.{IsBoolAt};
+ghost use Rattle.text_commands.specs.Series.{IsOfVariable};
 ghost use Rattle.text_commands.specs.Steps.Showing.{IsShownScan, IsShownTrace, StopsShown, WritesShown};
 
+use crate::difference::Difference;
 use crate::eval_command::set_rows;
+use crate::expectations::found_after;
 use crate::line::state_line;
 use crate::live_drawing::push_drawing;
-use crate::row::Row;
-use crate::rows::scan_count;
+use crate::series::Series;
+use crate::test_words::TestWords;
 use power_flow::{Ladder, State};
 use std::alloc::{AllocError, Global};
 use std::io::Write;
@@ -38,12 +40,12 @@ pub fn trace_drawings(
     alloc: Global,
     ladder: &Ladder,
     drawing: &str,
-    rows: &[Row<'_>],
+    rows: &[Series<'_>],
     scans: usize,
     dt: u32,
     color: bool,
 ) -> Result<(Vec<State>, String), AllocError>
-    requires { All (λ row. IsBoolAt ladder.now.declarations row.place) rows.now }
+    requires { All (IsOfVariable ladder.now.declarations) rows.now }
     ensures { IfOk result (λ made. IsShownTrace drawing.now color ladder.now.declarations ladder.now.networks dt rows.now
         scans made.0.items (string_bytes made.1)) }
 {
@@ -59,29 +61,41 @@ pub fn trace_drawings(
     Ok((states, text))
 }
 
-/// Makes the scans that the rows ask for, and writes after each its line and its drawing.
+/// Makes so many scans, and writes after each its line and its drawing; the first difference from what is expected, if there
+/// is one.
 pub fn write_drawings<W: Write>(
     alloc: Global,
     ladder: &Ladder,
     drawing: &str,
-    rows: &[Row<'_>],
+    test: &TestWords<'_>,
+    scans: usize,
     dt: u32,
     color: bool,
     writer: &mut W,
-) -> Result<(), SendFault>
-    requires { All (λ row. IsBoolAt ladder.now.declarations row.place) rows.now }
-    ensures ok { OnOk result
-        (WritesShown drawing.now color ladder.now.declarations ladder.now.networks dt rows.now
-        (W.contents writer.old) (W.contents writer.new)) }
+) -> Result<Option<Difference>, SendFault>
+    requires rows { All (IsOfVariable ladder.now.declarations) test.now.rows.items }
+    requires expected { All (IsOfVariable ladder.now.declarations) test.now.expected.items }
+    ensures ok { IfOk result
+        (WritesShown drawing.now color ladder.now.declarations ladder.now.networks dt test.now.rows.items
+        test.now.expected.items scans (W.contents writer.old) (W.contents writer.new)) }
     ensures stopped { IfErr result
-        (λ fault. StopsShown drawing.now color ladder.now.declarations ladder.now.networks dt rows.now fault
+        (λ fault. StopsShown drawing.now color ladder.now.declarations ladder.now.networks dt test.now.rows.items scans fault
         (W.contents writer.old) (W.contents writer.new)) }
 {
     let mut state = ladder.initial(alloc)?;
-    for k in 0..scan_count(rows) {
-        set_rows(rows, k, &mut state);
+    let mut found = None;
+    for k in 0..scans {
+        set_rows(&test.rows, k, &mut state);
         let text = shown_scan(alloc, ladder, drawing, &mut state, dt, color)?;
         write_text(writer, text.as_str())?;
+        found = found_after(
+            found,
+            alloc,
+            ladder.declarations(),
+            &test.expected,
+            k,
+            &state,
+        )?;
     }
-    Ok(())
+    Ok(found)
 }

@@ -1,6 +1,7 @@
 ghost use Rattle.std.specs.Prelude.{◌≡◌, IfOk, IfErr, All, string_bytes};
 ghost use Rattle.std.specs.List.{flat_map};
-ghost use Rattle.text_commands.specs.Rows.{IsBoolAt, texts};
+ghost use Rattle.text_commands.specs.Rows.{texts};
+ghost use Rattle.text_commands.specs.Series.{IsOfVariable};
 ghost use Rattle.text_commands.specs.Lines.{line_of};
 ghost use Rattle.text_commands.specs.Chart.{chart_of};
 ghost use Rattle.text_commands.specs.TestText.{WritesTest, ExplainsTest};
@@ -11,7 +12,7 @@ use crate::difference::Difference;
 use crate::eval_command::{read_ladder, set_rows, write_scans};
 use crate::expectations::first_difference;
 use crate::form::Form;
-use crate::row::Row;
+use crate::series::Series;
 use crate::shown_scans::{trace_drawings, write_drawings};
 use crate::test_words::{TestWords, read_test_words, test_scan_count};
 use crate::text_command_fault::TextCommandFault;
@@ -24,11 +25,11 @@ use text_lines::write_text;
 fn trace_scans(
     alloc: Global,
     ladder: &Ladder,
-    rows: &[Row<'_>],
+    rows: &[Series<'_>],
     scans: usize,
     dt: u32,
 ) -> Result<Vec<State>, AllocError>
-    requires { All (λ row. IsBoolAt ladder.now.declarations row.place) rows.now }
+    requires { All (IsOfVariable ladder.now.declarations) rows.now }
     ensures { IfOk result
         (λ states. IsTraceOf ladder.now.declarations ladder.now.networks dt rows.now scans states.items) }
 {
@@ -46,11 +47,11 @@ fn trace_scans(
 fn trace_rows(
     alloc: Global,
     ladder: &Ladder,
-    rows: &[Row<'_>],
+    rows: &[Series<'_>],
     scans: usize,
     dt: u32,
 ) -> Result<(Vec<State>, String), AllocError>
-    requires { All (λ row. IsBoolAt ladder.now.declarations row.place) rows.now }
+    requires { All (IsOfVariable ladder.now.declarations) rows.now }
     ensures { IfOk result (λ made. IsTraceOf ladder.now.declarations ladder.now.networks dt rows.now scans made.0.items
         × (string_bytes made.1 ≡ flat_map (line_of ladder.now.declarations) (slots_of made.0.items))) }
 {
@@ -63,11 +64,11 @@ fn trace_rows(
 fn trace_chart(
     alloc: Global,
     ladder: &Ladder,
-    rows: &[Row<'_>],
+    rows: &[Series<'_>],
     scans: usize,
     dt: u32,
 ) -> Result<(Vec<State>, String), AllocError>
-    requires { All (λ row. IsBoolAt ladder.now.declarations row.place) rows.now }
+    requires { All (IsOfVariable ladder.now.declarations) rows.now }
     ensures { IfOk result (λ made. IsTraceOf ladder.now.declarations ladder.now.networks dt rows.now scans made.0.items
         × (string_bytes made.1 ≡ chart_of ladder.now.declarations (slots_of made.0.items))) }
 {
@@ -81,12 +82,12 @@ pub(crate) fn trace_form(
     alloc: Global,
     ladder: &Ladder,
     drawing: &str,
-    rows: &[Row<'_>],
+    rows: &[Series<'_>],
     scans: usize,
     dt: u32,
     form: Form,
 ) -> Result<(Vec<State>, String), AllocError>
-    requires { All (λ row. IsBoolAt ladder.now.declarations row.place) rows.now }
+    requires { All (IsOfVariable ladder.now.declarations) rows.now }
     ensures { IfOk result (λ made. IsFormTrace form drawing.now ladder.now.declarations ladder.now.networks dt rows.now
         scans made.0.items (string_bytes made.1)) }
 {
@@ -108,8 +109,8 @@ fn trace_test(
     dt: u32,
     form: Form,
 ) -> Result<(String, Option<Difference>), AllocError>
-    requires rows { All (λ row. IsBoolAt ladder.now.declarations row.place) test.now.rows.items }
-    requires expected { All (λ row. IsBoolAt ladder.now.declarations row.place) test.now.expected.items }
+    requires rows { All (IsOfVariable ladder.now.declarations) test.now.rows.items }
+    requires expected { All (IsOfVariable ladder.now.declarations) test.now.expected.items }
     ensures { IfOk result (λ made. IsTestTrace drawing.now ladder.now.declarations ladder.now.networks dt form
         test.now.rows.items test.now.expected.items (string_bytes made.0) made.1) }
 {
@@ -121,10 +122,11 @@ fn trace_test(
 
 /// Evaluates a drawing, and looks whether all is as the words expect; the first difference, if there is one.
 ///
-/// A word NAME=BITS sets its variable before scan k to the k-th digit, and a word NAME==BITS tells what it is to be after
-/// it; behind the last digit nothing is set, and nothing expected. There are as many scans as the longest of all words has
-/// digits, and one without words. `dt` is the time between two scans in milliseconds. The form says what is written of the
-/// scans. Where a chart is asked for or something is expected, nothing is written before the last scan.
+/// A word NAME=VALUES sets its variable before scan k to the k-th value, and a word NAME==VALUES tells what it is to be after
+/// it; behind the last value nothing is set, and nothing expected. There are as many scans as the longest of all words has
+/// values, and one without words; VALUES are as [`eval`](crate::eval) has them. `dt` is the time between two scans in
+/// milliseconds. The form says what is written of the scans, each as it comes. Where a chart is asked for, nothing is written
+/// before the last scan.
 ///
 /// `Text` and `Word` come before anything is written. After `Write` what went out is a prefix and not all, after `Memory`
 /// a prefix.
@@ -143,20 +145,19 @@ pub fn eval_test<W: Write>(
 {
     let ladder = read_ladder(alloc, drawing)?;
     let test = read_test_words(alloc, ladder.declarations(), words)?;
-    if test.expected.is_empty() {
-        match form {
-            Form::Rows => {
-                write_scans(alloc, &ladder, &test.rows, dt, writer)?;
-                return Ok(None);
-            }
-            Form::Drawings { color } => {
-                write_drawings(alloc, &ladder, drawing, &test.rows, dt, color, writer)?;
-                return Ok(None);
-            }
-            Form::Chart => {}
+    let scans = test_scan_count(&test);
+    match form {
+        Form::Rows => {
+            let (rows, expected) = (&test.rows, &test.expected);
+            Ok(write_scans(alloc, &ladder, rows, expected, scans, dt, writer)?)
+        }
+        Form::Drawings { color } => Ok(write_drawings(
+            alloc, &ladder, drawing, &test, scans, dt, color, writer,
+        )?),
+        Form::Chart => {
+            let (text, found) = trace_test(alloc, &ladder, drawing, &test, dt, form)?;
+            write_text(writer, text.as_str())?;
+            Ok(found)
         }
     }
-    let (text, found) = trace_test(alloc, &ladder, drawing, &test, dt, form)?;
-    write_text(writer, text.as_str())?;
-    Ok(found)
 }

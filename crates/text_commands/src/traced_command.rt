@@ -1,5 +1,6 @@
 ghost use Rattle.std.specs.Prelude.{IfOk, IfErr, All, string_bytes};
-ghost use Rattle.text_commands.specs.Rows.{IsBoolAt, texts};
+ghost use Rattle.text_commands.specs.Rows.{texts};
+ghost use Rattle.text_commands.specs.Series.{IsOfVariable};
 ghost use Rattle.text_commands.specs.TestText.{ExplainsTest};
 ghost use Rattle.text_commands.specs.Traced.{WritesTraced};
 ghost use Rattle.text_commands.specs.Steps.Tracing.{IsTracedTest};
@@ -28,8 +29,8 @@ fn trace_whole(
     form: Form,
     wanted: Wanted<'_>,
 ) -> Result<(String, Traced), AllocError>
-    requires rows { All (λ row. IsBoolAt ladder.now.declarations row.place) test.now.rows.items }
-    requires expected { All (λ row. IsBoolAt ladder.now.declarations row.place) test.now.expected.items }
+    requires rows { All (IsOfVariable ladder.now.declarations) test.now.rows.items }
+    requires expected { All (IsOfVariable ladder.now.declarations) test.now.expected.items }
     ensures { IfOk result (λ made. IsTracedTest drawing.now ladder.now.declarations ladder.now.networks dt form wanted.entry
         test.now.rows.items test.now.expected.items (string_bytes made.0) made.1) }
 {

@@ -1,12 +1,16 @@
 use thiserror::Error;
 
-/// What is wrong with a word NAME=BITS.
+/// What is wrong with a word NAME=VALUES, NAME==VALUES or NAME=BIT.
 #[derive(Clone, Copy, Debug, PartialEq, Eq, Error)]
 pub enum WordFaultKind {
     #[error("the drawing has no BOOL variable of this name")]
     NoVariable,
     #[error("BITS are 1 to 1,000 digits, each 0 or 1")]
     BadDigits,
+    #[error("an INT takes numbers from -32768 to 32767, parted by commas")]
+    BadNumbers,
+    #[error("a TIME takes durations up to T#2147483647ms, parted by commas")]
+    BadDurations,
     #[error("another word names the same variable")]
     Twice,
 }

@@ -10,11 +10,11 @@ use Rattle.network.specs.Links.{place}
 use Rattle.warnings.specs.declared.warning.Warning.{Warning}
 use Rattle.warnings.specs.declared.warning.WarningKind.TheVariants.{DoubleCoil}
 use Rattle.warnings.specs.Found.{small, stores_always, stores_into, double_at, doubles, warning_at}
-use Rattle.warnings.specs.Steps.{AreStored, TakesStored, double_with}
+use Rattle.warnings.specs.Steps.Stored.{HasStored, TakesStored, double_with}
 
 -- a set of what later coils store into tells what they tell
 pub double_is : (first_line : ℕ) (e : Element) (later : List Element) (set : BTreeSet (String Global))
-    → AreStored later set → double_with first_line e set ≡ double_at first_line e later
+    → HasStored later set → double_with first_line e set ≡ double_at first_line e later
 double_is first_line (Wire at) later set are = refl
 double_is first_line (Join at) later set are = refl
 double_is first_line (Upright at) later set are = refl
@@ -25,7 +25,7 @@ double_is first_line (Box b) later set are = refl
 
 -- one element more
 pub stored_more : (e : Element) (later : List Element) (old new : BTreeSet (String Global))
-    → AreStored later old → TakesStored old e new → AreStored (e ∷ later) new
+    → HasStored later old → TakesStored old e new → HasStored (e ∷ later) new
 stored_more e later old new are takes q = takes q ∙ ap (λ b. stores_into q e || b) (are q)
 
 -- a warning or none, turned round
@@ -43,7 +43,7 @@ double_flips first_line (Box b) later = refl
 
 -- what is told so far, from the last element back, with one element more
 pub told_more : (first_line : ℕ) (e : Element) (later : List Element) (set : BTreeSet (String Global)) (old new : List Warning)
-    → AreStored later set → old ≡ reverse (doubles first_line later) → new ≡ old ++ double_with first_line e set
+    → HasStored later set → old ≡ reverse (doubles first_line later) → new ≡ old ++ double_with first_line e set
     → new ≡ reverse (doubles first_line (e ∷ later))
 told_more first_line e later set old new are was adds =
     adds ∙ ap (λ (ws : List Warning). ws ++ double_with first_line e set) was

@@ -10,6 +10,7 @@ mod of_drawing;
 mod of_plant;
 mod of_text;
 mod overwritten;
+mod small_name;
 mod small_names;
 mod unbound;
 mod warning;

@@ -6,9 +6,9 @@ ghost use Rattle.std.specs.BTreeSet.{contains_text};
 ghost use Rattle.declared_names.specs.declared.declarations.Declaration.{Declaration};
 ghost use Rattle.warnings.specs.Found.{is_among, small};
 ghost use Rattle.warnings.specs.NeverRead.{is_local_one, is_local, unread, unread_at_pin, unread_at, never_read};
-ghost use Rattle.warnings.specs.Steps.{AreSmall};
+ghost use Rattle.warnings.specs.Steps.NameSets.{AreSmall};
 
-use crate::names::read_of;
+use crate::names::{NameUse, names_of};
 use crate::small_names::{small, small_names};
 use crate::warning::{Warning, WarningKind};
 use declared_names::{Declarations, Declared};
@@ -154,7 +154,7 @@ pub fn never_read(
 ) -> Result<Vec<Warning>, AllocError>
     ensures { IfOk result (λ found. found.items ≡ never_read first_line declarations.now (map (λ e. e.now) elements.now)) }
 {
-    let read = small_names(alloc, &read_of(alloc, elements)?)?;
+    let read = small_names(alloc, &names_of(alloc, NameUse::Read, elements)?)?;
     let mut found = Vec::new(alloc);
     for element in elements {
         push_unread_at(&mut found, first_line, declarations, &read, element)?;

@@ -4,7 +4,7 @@ ghost use Rattle.std.specs.Prelude.{◌≡◌, ◌++◌, ◌||◌, IfOk, OnOk, �
 ghost use Rattle.std.specs.BTreeSet.{contains_text};
 ghost use Rattle.std.specs.Str.{bytes_eq};
 ghost use Rattle.warnings.specs.Found.{small, stores_always, doubles};
-ghost use Rattle.warnings.specs.Steps.{TakesStored, double_with};
+ghost use Rattle.warnings.specs.Steps.Stored.{TakesStored, double_with};
 
 use crate::small_names::small;
 use crate::warning::{Warning, WarningKind};

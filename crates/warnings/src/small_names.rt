@@ -2,8 +2,9 @@
 
 ghost use Rattle.std.specs.Prelude.{◌≡◌, IfOk, string_bytes, map};
 ghost use Rattle.warnings.specs.Found.{small};
-ghost use Rattle.warnings.specs.Steps.{AreSmall};
+ghost use Rattle.warnings.specs.Steps.NameSets.{AreSmall, AnswerAsSmall};
 
+use crate::small_name::SmallName;
 use std::alloc::{AllocError, Global};
 use std::collections::BTreeSet;
 
@@ -25,4 +26,15 @@ pub fn small_names(alloc: Global, names: &[&str]) -> Result<BTreeSet<String>, Al
         let _ = set.insert(small(alloc, name)?)?;
     }
     Ok(set)
+}
+
+/// Each of these names in small letters, as often as it comes.
+pub fn all_small(alloc: Global, names: &[&str]) -> Result<Vec<SmallName>, AllocError>
+    ensures { IfOk result (λ all. AnswerAsSmall (map (λ n. n.now) names.now) all.items) }
+{
+    let mut all = Vec::with_capacity(alloc, names.len())?;
+    for name in names {
+        all.push(SmallName::of(alloc, name)?)?;
+    }
+    Ok(all)
 }

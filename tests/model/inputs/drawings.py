@@ -1,15 +1,18 @@
 """Well-drawn drawings of all elements, by chance."""
+import re
 from dataclasses import dataclass, field
 
 from rules.blocks import inputs_of, outputs_of
 from rules.words import BLOCK_TYPES
 
 from .pieces import Branch, Piece, Side, beside, box, fork, in_a_row, symbol, wire
+from .test_words import is_of_values, refused_word, value_words, with_items
 from .traces import trace_words
 
 TIMERS, COUNTERS = ("TP", "TON", "TOF"), ("CTU", "CTD", "CTUD")
 CONTACTS = ["| |"] * 5 + ["|/|"] * 3 + ["|P|", "|N|", "|p|", "|n|"]
-COMMENTS = ["(* pump 1 *)"] * 3 + ["(**)", "   (* A | B ( ) *)  ", "(* C *) A", "(* A *) (* B *)", "(*)", "(* a", "\t(* b *)", "|(* c *)", "// d"]
+COMMENTS = ["(* pump 1 *)"] * 3 + ["(**)", "(* Größe ½ *)", "   (* A | B ( ) *)  ", "(* C *) A", "(* A *) (* B *)", "(*)", "(* a", "\t(* b *)", "|(* c *)", "// d"]
+SYMBOLS = r"\|[ /PN]\||\([ /SRPN]\)"
 COILS = ["( )"] * 4 + ["(/)", "(S)", "(R)", "(P)", "(N)", "(s)", "(r)"]
 
 
@@ -281,7 +284,23 @@ def drawing(chance, names=None):
     for name in chance.sample(bits, min(len(bits), chance.choice([0, 0, 1, 2]))):
         words.append(f"{cased(chance, name)}=={digits(chance, chance.randint(1, min(scans, 4)))}")
     words += ["--chart"] * (chance.random() < 0.3)
-    return {"it.ladder": text}, [words]
+    return {"it.ladder": text}, [further_words(chance, words, bits, operands_of(text, names))]
+
+
+def further_words(chance, words, bits, operands):
+    """The words, most often with repeats and with values of operands, and now and then with one that is refused."""
+    if chance.random() < 0.65:
+        words = with_items(chance, words) + value_words(chance, [(cased(chance, name), kind) for name, kind in operands])
+    if chance.random() < 0.05 and (bits or operands):
+        name, kind = chance.choice([*((it, "BOOL") for it in bits), *operands])
+        words = [it for it in words if not is_of_values(it)] + [refused_word(chance, cased(chance, name), kind)]
+    return words
+
+
+def operands_of(text, names):
+    """The INT and TIME names that stand at the pins of a drawing."""
+    drawn = re.findall(r"[\w.]+", re.sub(SYMBOLS, " ", text.upper()))
+    return [(it, kind) for kind in ("INT", "TIME") for it in names.reads[kind] if it in drawn]
 
 
 def traced(chance):

@@ -18,6 +18,7 @@ from .refusal import Refusal
 from .run import Run, do_in_turns, lines_of_run
 from .scan import Ladder, State
 from .schedule import MOST_U32, events_of
+from .test_words import BadWord, tests_of
 from .traces import Track, diagram, dump
 from .warnings import warnings_of, warnings_of_plant
 from . import verify_plant
@@ -25,7 +26,6 @@ from .verify import MOST_INPUTS, TIMERS, Search, line_of, premises, stored_names
 
 REFUSED_TEXT, REFUSED_WORDS, NO_FILE, DIFFERS, UNDECIDED = 1, 2, 3, 4, 5
 CLAIM_FAILS = DIFFERS
-MOST_DIGITS = 1000
 
 
 @dataclass
@@ -230,12 +230,15 @@ def evaluate(write, files, paths, options, more):
         raise Refused(REFUSED_WORDS)
     ladder = files.ladder(paths[0])
     variables = [it for it in ladder.declarations if it.role != "Instance"]
-    rows, expected = rows_of(more, [it for it in variables if it.kind == "BOOL"])
+    try:
+        given, expected = tests_of(more, variables)
+    except BadWord:
+        raise Refused(REFUSED_WORDS) from None
     state, traced, live = State(ladder.declarations), [], []
-    for scan in range(max(map(len, [*rows.values(), *expected.values()]), default=1)):
-        for name, digits in rows.items():
-            if scan < len(digits):
-                state.set(name, digits[scan] == "1")
+    for scan in range(max(map(len, [*given.values(), *expected.values()]), default=1)):
+        for name, values in given.items():
+            if scan < len(values):
+                state.set(name, values[scan])
         ladder.scan(state, options.get("--dt", 0))
         traced.append({words.fold(it.name): state.get(it.name) for it in variables})
         live.append(ladder.live_signs(state))
@@ -294,26 +297,11 @@ def chart_of(variables, traced):
 def first_difference(variables, expected, traced):
     """The first one by scan, and then by word; None where all is as expected."""
     declared = {words.fold(it.name): it.name for it in variables}
-    for scan, values in enumerate(traced):
-        for name, digits in expected.items():
-            if scan < len(digits) and values[name] != (digits[scan] == "1"):
-                return f"{declared[name]} is {words.shown(values[name])} after scan {scan + 1}, expected {digits[scan]}"
+    for scan, found in enumerate(traced):
+        for name, values in expected.items():
+            if scan < len(values) and found[name] != values[scan]:
+                return f"{declared[name]} is {words.shown(found[name])} after scan {scan + 1}, expected {words.shown(values[scan])}"
     return None
-
-
-def rows_of(given, variables):
-    """The digits of each variable that is named by a word NAME=BITS, and of each by a word NAME==BITS."""
-    rows, expected = {}, {}
-    for word in given:
-        name, _, digits = word.partition("=")
-        name = words.fold(name)
-        of_kind = expected if digits.startswith("=") else rows
-        digits = digits.removeprefix("=")
-        is_known = any(words.fold(it.name) == name for it in variables)
-        if not is_known or name in of_kind or not digits or digits.strip("01") or len(digits) > MOST_DIGITS:
-            raise Refused(REFUSED_WORDS)
-        of_kind[name] = digits
-    return rows, expected
 
 
 OF_PLANTS = {"--no-restarts", "--most-waiting"}
@@ -361,15 +349,13 @@ def verify_drawing(write, files, paths, options, more):
     ladder = files.ladder(paths[0])
     bits = [words.fold(it.name) for it in ladder.declarations if it.role != "Instance" and it.kind == "BOOL"]
     stored = stored_names(ladder.drawing)
-    rows, expected = rows_of(more, [it for it in ladder.declarations if words.fold(it.name) in bits])
+    held = held_of(more, bits)
     claims = [words.fold(it) for it in options["--never"]]
     given = [words.fold(it) for it in options.get("--given", ())]
-    free = [it for it in bits if it not in stored and it not in rows]
-    is_held = not expected and all(len(digits) == 1 and name not in stored for name, digits in rows.items())
+    free = [it for it in bits if it not in stored and it not in held]
     is_timed = options.get("--dt", 0) or not any(it.role == "Instance" and it.kind in TIMERS for it in ladder.declarations)
-    if not is_held or not {*claims, *given} <= stored & set(bits) or len(free) > MOST_INPUTS or not is_timed:
+    if stored & set(held) or not {*claims, *given} <= stored & set(bits) or len(free) > MOST_INPUTS or not is_timed:
         raise Refused(REFUSED_WORDS)
-    held = {name: digits == "1" for name, digits in rows.items()}
     found = Search(ladder, options.get("--dt", 0), free, held, claims, given, options.get("--most-states", 1_000_000))
     found.search()
     for name in options["--never"]:
@@ -379,6 +365,18 @@ def verify_drawing(write, files, paths, options, more):
         write("given " + ", ".join(told))
     warnings = warnings_of(ladder.drawing, ladder.networks)
     end_with_warnings(paths[0], warnings, options, CLAIM_FAILS if found.runs else UNDECIDED if found.depth is not None else 0)
+
+
+def held_of(given, bits):
+    """The values of the BOOLs that words NAME=0 and NAME=1 hold."""
+    held = {}
+    for word in given:
+        name, _, digit = word.partition("=")
+        name = words.fold(name)
+        if name not in bits or name in held or digit not in ("0", "1"):
+            raise Refused(REFUSED_WORDS)
+        held[name] = digit == "1"
+    return held
 
 
 def check(write, files, paths, options, _more):

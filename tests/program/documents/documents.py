@@ -18,6 +18,8 @@ GUIDES = {
     "in a plant": ("PLANT.md", "When a text is refused"),
     "in the plan of a plant": ("PLANT.md", "When tasks are due"),
     "in a schedule": ("SCHEDULE.md", "When the schedule itself is refused"),
+    "as a warning of a drawing": ("DRAWING.md", "Warnings"),
+    "as a warning of a plant": ("PLANT.md", "Warnings"),
 }
 KINDS = {
     "in a drawing": "NotAscii TooLarge NoLeftRail BadBox BadMark Crossing NoSource NameMissing StrayName",
@@ -26,6 +28,8 @@ KINDS = {
     "in a plant": "Syntax Drawing Graph Bind NameTwice UnknownName WrongKind InputBoundTwice TooMany",
     "in the plan of a plant": "TooLong",
     "in a schedule": "Syntax",
+    "as a warning of a drawing": "DoubleCoil MistypedContact",
+    "as a warning of a plant": "NeverRead UnboundInput",
 }
 CONFIGURATION = """
 CONFIGURATION C
@@ -116,7 +120,8 @@ def without_indent(lines):
 
 def try_kind(where, kind, place):
     explained = run(f"./plc explain {kind}", place).stdout
-    form = rf"(?ms)^{kind} {where}:\n([^\n]*)\n\nRefused:\n\n(.*?)\n\nMended:\n\n(.*?)\n(?=\n[A-Z]|\Z)"
+    heading = "Warned of" if "warning" in where else "Refused"
+    form = rf"(?ms)^{kind} {where}:\n([^\n]*)\n\n{heading}:\n\n(.*?)\n\nMended:\n\n(.*?)\n(?=\n[A-Z]|\Z)"
     found = re.search(form, explained)
     name, title = GUIDES[where]
     guide = section(name, title, kind)
@@ -145,16 +150,18 @@ def whole_of(text):
 
 
 def try_example(where, kind, text, place, status):
-    """What stands under Refused is refused with just this kind, and what stands under Mended is read."""
+    """What stands under Refused is refused with just this kind, or warned of, and what stands under Mended is read."""
     whole = whole_of(text)
     with open(os.path.join(place, "example"), "w", encoding="utf-8") as file:
         file.write(whole)
     command = "check example" if whole != text else "sim examples/pair.plant example" if "schedule" in where else "eval example"
+    command += " --strict >/dev/null" if "warning" in where else ""
     ran = run(f"./plc {command}", place)
     first = ran.stdout.partition("\n")[0]
     inner = r"( \w+)?" if where == "in a plant" else ""
-    behind = r"(\w+ )?" if "drawing" in where and whole != text else ""
-    if ran.returncode != status or (status and not re.fullmatch(rf"example:[\d:]+ {behind}{kind}{inner}", first)):
+    behind = r"(\w+ )?" if "drawing" in where and "warning" not in where and whole != text else ""
+    others = re.findall(r"(?m)^example:[\d:]+ .*$", ran.stdout)[1:] if "warning" in where else []
+    if ran.returncode != status or others or (status and not re.fullmatch(rf"example:[\d:]+ {behind}{kind}{inner}", first)):
         told.append(f"{kind} {where}: its example is answered by {ran.returncode} {first}:\n{text}")
 
 

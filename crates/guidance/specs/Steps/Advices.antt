@@ -15,6 +15,19 @@ layer_text layer.Names = codes "at the names of a drawing"
 layer_text layer.Plant = codes "in a plant"
 layer_text layer.Plan = codes "in the plan of a plant"
 layer_text layer.Schedule = codes "in a schedule"
+layer_text layer.WarnedDrawing = codes "as a warning of a drawing"
+layer_text layer.WarnedPlant = codes "as a warning of a plant"
+
+-- what becomes of a text of a kind
+abbrev pub heading_of : Layer → List ℕ
+heading_of layer.Drawing = codes "Refused"
+heading_of layer.Networks = codes "Refused"
+heading_of layer.Names = codes "Refused"
+heading_of layer.Plant = codes "Refused"
+heading_of layer.Plan = codes "Refused"
+heading_of layer.Schedule = codes "Refused"
+heading_of layer.WarnedDrawing = codes "Warned of"
+heading_of layer.WarnedPlant = codes "Warned of"
 
 -- the layer of a kind
 abbrev pub layer_of : Topic → Layer
@@ -47,6 +60,10 @@ layer_of topic.InputBoundTwice = layer.Plant
 layer_of topic.TooMany = layer.Plant
 layer_of topic.TooLong = layer.Plan
 layer_of topic.ScheduleSyntax = layer.Schedule
+layer_of topic.DoubleCoil = layer.WarnedDrawing
+layer_of topic.MistypedContact = layer.WarnedDrawing
+layer_of topic.NeverRead = layer.WarnedPlant
+layer_of topic.UnboundInput = layer.WarnedPlant
 
 -- the name of a kind, as messages have it
 abbrev pub kind_text : Topic → List ℕ
@@ -79,6 +96,10 @@ kind_text topic.InputBoundTwice = codes "InputBoundTwice"
 kind_text topic.TooMany = codes "TooMany"
 kind_text topic.TooLong = codes "TooLong"
 kind_text topic.ScheduleSyntax = codes "Syntax"
+kind_text topic.DoubleCoil = codes "DoubleCoil"
+kind_text topic.MistypedContact = codes "MistypedContact"
+kind_text topic.NeverRead = codes "NeverRead"
+kind_text topic.UnboundInput = codes "UnboundInput"
 
 -- the advice is on this kind: it has its layer and its name, and the texts of the table
 pub record IsAdviceOn (t : Topic) (a : Advice) : Type 0 where

@@ -9,7 +9,9 @@ use Rattle.power_flow.specs.LadderValue.{LadderValue}
 use Rattle.power_flow.specs.Shown.{ShowsScan}
 use Rattle.text_lines.specs.Sending.{Stops}
 use Rattle.text_lines.specs.declared.send_fault.SendFault.{SendFault}
-use Rattle.text_commands.specs.Rows.{RowValue, scans_of}
+use Rattle.text_commands.specs.declared.difference.Difference.{Difference}
+use Rattle.text_commands.specs.Series.{SeriesValue}
+use Rattle.text_commands.specs.TestText.{IsOutcome}
 use Rattle.text_commands.specs.Lines.{line_of}
 use Rattle.text_commands.specs.LiveDrawing.{live_drawing}
 use Rattle.text_commands.specs.Shown.{IsShown}
@@ -23,7 +25,7 @@ IsShownScan drawing color l dt old new text =
 
 -- some scans, at most so many, and their text
 pub record SomeShown (drawing : List ℕ) (color : Bool) (ds : List Declaration) (networks : List Diagram) (dt : ℕ)
-    (rows : List RowValue) (most : ℕ) : Type 0 where
+    (rows : List SeriesValue) (most : ℕ) : Type 0 where
   pub states : List (List Slot)
   pub slots : List Slot
   pub memories : List Bool
@@ -32,21 +34,22 @@ pub record SomeShown (drawing : List ℕ) (color : Bool) (ds : List Declaration)
   pub few : length states ≤ most
 
 -- these are the states after each of so many scans, and their text
-abbrev pub IsShownTrace : List ℕ → Bool → List Declaration → List Diagram → ℕ → List RowValue → ℕ → List StateValue
+abbrev pub IsShownTrace : List ℕ → Bool → List Declaration → List Diagram → ℕ → List SeriesValue → ℕ → List StateValue
     → List ℕ → Type 0
 IsShownTrace drawing color ds networks dt rows scans states text =
     (made : SomeShown drawing color ds networks dt rows scans) × (made.states ≡ slots_of states)
     × (length states ≡ scans) × (made.text ≡ text)
 
--- the text of all scans was written
+-- the text of so many scans was written, and this came of what was expected
 pub record WritesShown (drawing : List ℕ) (color : Bool) (ds : List Declaration) (networks : List Diagram) (dt : ℕ)
-    (rows : List RowValue) (old new : Option (List ℕ)) : Type 0 where
-  pub made : SomeShown drawing color ds networks dt rows (scans_of rows)
-  pub all : length made.states ≡ scans_of rows
+    (rows expected : List SeriesValue) (scans : ℕ) (old new : Option (List ℕ)) (found : Option Difference) : Type 0 where
+  pub made : SomeShown drawing color ds networks dt rows scans
+  pub all : length made.states ≡ scans
   pub appended : Appends old new made.text
+  pub outcome : IsOutcome ds expected made.states found
 
 -- the text of some scans didn't go out whole
 pub record StopsShown (drawing : List ℕ) (color : Bool) (ds : List Declaration) (networks : List Diagram) (dt : ℕ)
-    (rows : List RowValue) (fault : SendFault) (old new : Option (List ℕ)) : Type 0 where
-  pub made : SomeShown drawing color ds networks dt rows (scans_of rows)
+    (rows : List SeriesValue) (scans : ℕ) (fault : SendFault) (old new : Option (List ℕ)) : Type 0 where
+  pub made : SomeShown drawing color ds networks dt rows scans
   pub stopped : Stops fault made.text old new

@@ -1,5 +1,4 @@
 use Rattle.std.proofs.Common.{inl, inr}
-use Rattle.text_commands.specs.CheckText.{IsPlantOf}
 use Rattle.text_commands.specs.Comments.{without_comments}
 use Rattle.text_commands.proofs.check_command.check.Goals as goal
 

@@ -1,14 +1,14 @@
 use Rattle.lists.proofs.Results.{kept_fault}
 use Rattle.text_commands.specs.Rows.{texts}
 use Rattle.text_commands.specs.EvalText.{Explains}
-use Rattle.text_commands.proofs.WordRows.{all_bool}
+use Rattle.text_commands.proofs.SettingWords.{settings_of_variables}
 use Rattle.text_commands.proofs.Explaining.{all_written, explain_rows, part_written}
 use Rattle.text_commands.proofs.eval_command.eval.Goals as goal
 
-pub write_scans-requires : goal.write_scans-requires
-write_scans-requires g c =
-    let read = rw (c.declarations.ensures.list, ← c.deref.ensures.value) at c.in_ok-rows.ensures.ok in
-    all_bool c.in_ok-ladder.ladder.declarations (texts c.args.words.now) c.deref.result.now read
+pub write_scans-requires-clause-rows : goal.write_scans-requires-clause-rows
+write_scans-requires-clause-rows g c =
+    let read = rw c.declarations.ensures.list at c.in_ok-rows.ensures.ok in
+    rw c.deref-2.ensures.value (settings_of_variables c.in_ok-ladder.ladder.declarations (texts c.args.words.now) c.in_ok-rows.rows.items read)
 
 pub returns-in_err-rows-clause-fault : goal.returns-in_err-rows-clause-fault
 returns-in_err-rows-clause-fault g c =
@@ -18,11 +18,15 @@ returns-in_err-rows-clause-fault g c =
 
 pub returns-in_err-write_scans-clause-fault : goal.returns-in_err-write_scans-clause-fault
 returns-in_err-write_scans-clause-fault g c =
-    let read = rw (c.declarations.ensures.list, ← c.deref.ensures.value) at c.in_ok-rows.ensures.ok in
-    part_written c.args.drawing.now (texts c.args.words.now) c.args.dt _ _ c.in_ok-ladder.ladder.declarations c.in_ok-ladder.ladder.networks c.deref.result.now c.in_err-write_scans.field-0.0 _ c.from_residual-in_err-write_scans.ensures.1
-    c.in_ok-ladder.ensures.ok read c.in_err-write_scans.ensures.stopped
+    let read = rw c.declarations.ensures.list at c.in_ok-rows.ensures.ok in
+    let many = rw c.deref.ensures.value at c.scan_count-scans.ensures in
+    let stopped = rw (c.deref-2.ensures.value, many) at c.in_err-write_scans.ensures.stopped in
+    part_written c.args.drawing.now (texts c.args.words.now) c.args.dt _ _ c.in_ok-ladder.ladder.declarations c.in_ok-ladder.ladder.networks c.in_ok-rows.rows.items c.in_err-write_scans.field-0.0 _
+    c.from_residual-in_err-write_scans.ensures.1 c.in_ok-ladder.ensures.ok read stopped
 
 pub returns-clause-ok : goal.returns-clause-ok
 returns-clause-ok g c =
-    let read = rw (c.declarations.ensures.list, ← c.deref.ensures.value) at c.in_ok-rows.ensures.ok in
-    all_written c.args.drawing.now (texts c.args.words.now) c.args.dt _ _ c.in_ok-ladder.ladder.declarations c.in_ok-ladder.ladder.networks c.deref.result.now c.in_ok-ladder.ensures.ok read c.in_ok-write_scans.ensures.ok
+    let read = rw c.declarations.ensures.list at c.in_ok-rows.ensures.ok in
+    let many = rw c.deref.ensures.value at c.scan_count-scans.ensures in
+    let written = rw (c.deref-2.ensures.value, many) at c.in_ok-write_scans.ensures.ok in
+    all_written c.args.drawing.now (texts c.args.words.now) c.args.dt _ _ c.in_ok-ladder.ladder.declarations c.in_ok-ladder.ladder.networks c.in_ok-rows.rows.items c.in_ok-ladder.ensures.ok read written.0

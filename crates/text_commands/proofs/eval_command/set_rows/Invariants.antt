@@ -1,7 +1,7 @@
 use Rattle.std.proofs.Common.{◌≡◌, List, take}
 use Rattle.declared_names.specs.declared.declarations.Declaration.{Declaration}
 use Rattle.scan_steps.specs.Slots.{AreSlotsOf}
-use Rattle.text_commands.specs.EvalText.{set_before}
+use Rattle.text_commands.specs.Series.{set_before}
 use Rattle.text_commands.proofs.eval_command.set_rows.Given as goal
 
 abbrev pub invariant-loop-row : goal.invariant-loop-row

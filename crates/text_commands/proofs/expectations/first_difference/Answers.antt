@@ -1,24 +1,20 @@
-use Rattle.std.proofs.Common.{refl}
-use Rattle.text_commands.proofs.Expecting.{agrees_after, other_bool, slots_at}
+use Rattle.std.proofs.Common.{◌≡◌, ◌≤◌, length, take, sym, ◌∙◌, subst, arith}
+use Rattle.std.proofs.lemmas.List.{length-map, length-take-le, take_all}
+use Rattle.text_commands.specs.TestText.{IsOutcome}
+use Rattle.text_commands.specs.Steps.Testing.{slots_of}
+use Rattle.text_commands.proofs.Expecting.{nothing_found, one_more_slots}
 use Rattle.text_commands.proofs.expectations.first_difference.Goals as goal
 
-pub name_at-requires : goal.name_at-requires
-name_at-requires c = other_bool c.args.declarations.now c.args.rows.now c.loop-k.k c.index-states-k.result.slots c.in-Some.place c.in-Some.value c.requires c.in-Some.ensures
-
-pub returns-in-Some : goal.returns-in-Some
-returns-in-Some c = record {
-  k = c.loop-k.k;
-  slots = c.index-states-k.result.slots;
-  at = slots_at c.args.states.now c.loop-k.k c.index-states-k.result c.loop-k-test.true c.index-states-k.is;
-  declaration = c.in_ok-name.ensures.0;
-  place = c.in-Some.place;
-  declared = c.in_ok-name.ensures.1;
-  first = c.in-Some.ensures;
-  before = c.loop-k.invariant;
-  name = c.in_ok-name.ensures.2;
-  scan = refl;
-}
+pub loop-k-init : goal.loop-k-init
+loop-k-init c = nothing_found c.args.expected.now
 
 pub loop-k-preserved : goal.loop-k-preserved
 loop-k-preserved c =
-    agrees_after c.args.rows.now c.args.states.now c.loop-k.k c.index-states-k.result c.loop-k-test.true c.index-states-k.is c.loop-k.invariant c.in_default.ensures
+    let before = take c.loop-k.k c.args.states.now in
+    let little : c.loop-k.k ≤ length c.args.states.now = omega arith in
+    let long : length (slots_of before) ≡ c.loop-k.k = length-map before _ ∙ length-take-le c.loop-k.k c.args.states.now little in
+    subst (λ l. IsOutcome c.args.declarations.now c.args.expected.now l c.in_ok-found.found) (sym (one_more_slots c.args.states.now c.loop-k.k c.index-states-k.result c.loop-k-test.true c.index-states-k.is))
+    (c.in_ok-found.ensures (slots_of before) long c.loop-k.invariant)
+
+pub returns : goal.returns
+returns c = subst (λ l. IsOutcome c.args.declarations.now c.args.expected.now (slots_of l) c.loop-k.found) (take_all c.loop-k.k c.args.states.now c.loop-k-test.false) c.loop-k.invariant

@@ -3,4 +3,4 @@ use Rattle.text_commands.specs.TestText.{AgreesAt}
 use Rattle.text_commands.proofs.expectations.first_other.Given as goal
 
 abbrev pub invariant-loop-row : goal.invariant-loop-row
-invariant-loop-row l = AgreesAt (take l.row-index l.rows) l.k l.state.slots
+invariant-loop-row l = AgreesAt (take l.row-index l.expected) l.k l.state.slots

@@ -4,7 +4,7 @@ use Rattle.lists.proofs.Results.{kept_fault}
 use Rattle.text_commands.specs.declared.text_command_fault.TextCommandFault.TheVariants.{Memory, Write}
 use Rattle.text_commands.specs.Rows.{texts}
 use Rattle.text_commands.specs.TestText.{ExplainsTest}
-use Rattle.text_commands.proofs.TestReading.{expected_bool, rows_bool}
+use Rattle.text_commands.proofs.TestReading.{expected_declared, rows_declared}
 use Rattle.text_commands.proofs.TestAnswers.{test_cut, test_words_refused}
 use Rattle.text_commands.proofs.TracedAnswers.{traced_written}
 use Rattle.text_commands.proofs.traced_command.eval_whole.Goals as eval_whole_goals
@@ -18,12 +18,12 @@ returns-in_err-test-clause-fault g c =
 pub trace_whole-requires-clause-rows : eval_whole_goals.trace_whole-requires-clause-rows
 trace_whole-requires-clause-rows g c =
     let read = rw c.declarations.ensures.list at c.in_ok-test.ensures.ok in
-    rows_bool c.in_ok-ladder.ladder.declarations (texts c.args.words.now) c.in_ok-test.test.rows.items c.in_ok-test.test.expected.items read
+    rows_declared c.in_ok-ladder.ladder.declarations (texts c.args.words.now) c.in_ok-test.test.rows.items c.in_ok-test.test.expected.items read
 
 pub trace_whole-requires-clause-expected : eval_whole_goals.trace_whole-requires-clause-expected
 trace_whole-requires-clause-expected g c =
     let read = rw c.declarations.ensures.list at c.in_ok-test.ensures.ok in
-    expected_bool c.in_ok-ladder.ladder.declarations (texts c.args.words.now) c.in_ok-test.test.rows.items c.in_ok-test.test.expected.items read
+    expected_declared c.in_ok-ladder.ladder.declarations (texts c.args.words.now) c.in_ok-test.test.rows.items c.in_ok-test.test.expected.items read
 
 pub returns-in_err-text-clause-fault : eval_whole_goals.returns-in_err-text-clause-fault
 returns-in_err-text-clause-fault g c =

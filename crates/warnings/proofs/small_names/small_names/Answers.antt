@@ -2,7 +2,7 @@ use Rattle.std.proofs.Common.{◌≡◌, ℕ, ◌+◌, List, [], ◌∷◌, ◌+
 use Rattle.std.proofs.lemmas.List.{take_more, map_push}
 use Rattle.std.proofs.lemmas.Map.Text.{btree_set_updates_text}
 use Rattle.std.specs.Prelude.{true, string_bytes}
-use Rattle.warnings.specs.Steps.{AreSmall}
+use Rattle.warnings.specs.Steps.NameSets.{AreSmall}
 use Rattle.warnings.proofs.SameNames.{small_more}
 use Rattle.warnings.proofs.small_names.small_names.Goals as goal
 

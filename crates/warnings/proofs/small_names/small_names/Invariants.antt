@@ -1,5 +1,5 @@
 use Rattle.std.proofs.Common.{map, take}
-use Rattle.warnings.specs.Steps.{AreSmall}
+use Rattle.warnings.specs.Steps.NameSets.{AreSmall}
 use Rattle.warnings.proofs.small_names.small_names.Given as goal
 
 abbrev pub invariant-loop-name : goal.invariant-loop-name

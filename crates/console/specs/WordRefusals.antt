@@ -1,0 +1,31 @@
+-- The line on words of the command line that are refused though its grammar allows them.
+use Rattle.std.specs.Prelude.{ℕ, ◌++◌, List, codes}
+use Rattle.console.specs.Refusals.{shown}
+use Rattle.console.specs.declared.refusals.WordRefusal.{WordRefusal}
+use Rattle.console.specs.declared.refusals.WordRefusal.TheVariants as word
+
+-- plc: NAME: why
+abbrev pub name_refused : List ℕ → List ℕ → List ℕ
+name_refused name why = codes "plc: " ++ shown name ++ codes ": " ++ why
+
+-- a file is read, and would be written for an option
+abbrev pub written_over : List ℕ → List ℕ → List ℕ
+written_over path option = name_refused path (codes "this file is read: give another name to ") ++ option
+
+-- a file is written for an option, and would be for another one
+abbrev pub written_twice : List ℕ → List ℕ → List ℕ → List ℕ
+written_twice path first option =
+    name_refused path (codes "this file is written for ") ++ (first ++ codes ": give another name to " ++ option)
+
+-- the line on each
+abbrev pub word_refusal : WordRefusal → List ℕ
+word_refusal word.NoFieldInput = codes "plc: a word is no ADDRESS=VALUE such as %IX0=1 or %IW2=-7"
+word_refusal word.AddressTwice = codes "plc: two words give one address its value"
+word_refusal (word.NoResource name) = name_refused name.now (codes "the plant has no resource of this name")
+word_refusal (word.NoKind name) = name_refused name.now (codes "there is no kind of fault of this name; plc explain lists all")
+word_refusal word.NoFile =
+    codes "plc: -: only a schedule is read from standard input; a file of this name is ./-"
+word_refusal word.NoSubject =
+    codes "plc: names without a dot are of a drawing, names R.P.V of a plant, and a question is about one of them; --no-restarts and --most-waiting are of plants"
+word_refusal (word.WrittenOver path option) = written_over path.now option.now
+word_refusal (word.WrittenTwice path first option) = written_twice path.now first.now option.now

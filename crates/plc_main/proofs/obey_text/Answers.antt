@@ -1,6 +1,0 @@
-use Rattle.std.proofs.lemmas.Result.{IfOk-weaker}
-use Rattle.plc_main.proofs.obey_text.Goals as goal
-
-pub returns : goal.returns
-returns g c =
-    IfOk-weaker c.write_files.result _ _ (λ status ended. (c.in_ok-answered.answered, c.in_ok-answered.ensures, ended)) (rw c.files.ensures at c.write_files.ensures)
