@@ -151,3 +151,25 @@ def waiting(seconds):
         "+--| |--|/|--( )",
     ]
     return "\n".join(made) + "\n"
+
+
+def line(*symbols):
+    """A rung of symbols, each a name and its sign."""
+    width = max(len(name) for name, _ in symbols) + 2
+    above = "".join("  " + name.ljust(width + 3) for name, _ in symbols).rstrip()
+    return f"|{above}\n+" + "-".join(f"--{sign}".ljust(width + 4, "-") for _, sign in symbols).rstrip("-")
+
+
+def row(*names):
+    """A rung of contacts, negated behind a slash, and a coil."""
+    return line(*((name.lstrip("/"), "|/|" if name.startswith("/") else "| |") for name in names[:-1]), (names[-1], "( )"))
+
+
+def drives(pairs):
+    """So many pairs of drives with inputs of their own, of which one waits for the other to be off: four rungs each, with a lamp, and
+    the claim that both never run."""
+    made = []
+    for k in range(pairs):
+        made += [row(f"ON{k}", f"/OFF{k}", f"/DOWN{k}", f"UP{k}"), row(f"START{k}", f"/STOP{k}", f"/UP{k}", f"DOWN{k}")]
+        made += [row(f"UP{k}", f"LAMP{k}"), row(f"UP{k}", f"DOWN{k}", f"BOTH{k}")]
+    return "\n".join(made) + "\n"

@@ -1,7 +1,7 @@
 """Plants to be timed."""
 import re
 
-from drawings import rungs
+from drawings import line, rungs
 
 RESOURCES = 16
 TASKS = 16
@@ -101,13 +101,6 @@ def working(count, rungs, instances=1):
         text += [f"    PROGRAM {name} WITH T : WORK(A := %IX0, B := %IX1);" for name in names]
         text.append("  END_RESOURCE")
     return "\n".join(text + ["END_CONFIGURATION"]) + "\n"
-
-
-def line(*symbols):
-    """A rung of symbols, each a name and its sign."""
-    width = max(len(name) for name, _ in symbols) + 2
-    above = "".join("  " + name.ljust(width + 3) for name, _ in symbols).rstrip()
-    return f"|{above}\n+" + "-".join(f"--{sign}".ljust(width + 4, "-") for _, sign in symbols).rstrip("-")
 
 
 def asker():

@@ -10,7 +10,6 @@ use Rattle.task_codes.specs.declared.task_ref.TaskRef.{TaskRef}
 use Rattle.evaluation.specs.Last.{left_by, same_task}
 use Rattle.evaluation.specs.Meaning.{Evaluated}
 use Rattle.evaluation.specs.Retained.{retained_values}
-use Rattle.book.specs.Book.{BookValue}
 use Rattle.node_reports.specs.declared.step.Step.{Step}
 use Rattle.node_reports.specs.declared.step.Step.TheVariants.{Took, Made, Restarted, Heard}
 use Rattle.node_reports.specs.declared.journal.Journal.{Journal}
@@ -21,6 +20,7 @@ use Rattle.audit.specs.declared.item.Item.{Item}
 use Rattle.audit.specs.declared.outcome.Outcome.{Outcome}
 use Rattle.audit.specs.declared.outcome.Outcome.TheVariants.{Done, Waits, Stops}
 use Rattle.audit.specs.Lines.{left_in, AreLeft, Takes, Hears}
+use Rattle.audit.specs.Steps.AuditedBook.{AuditedBook}
 use Rattle.audit.specs.Steps.Following.{Meets}
 
 abbrev task_of : Journal → ℕ → TaskRef
@@ -96,17 +96,17 @@ left_restarted old new ticket incarnation kept is are = subst (λ j. AreLeft j k
 same_left : (old new : StationValue) (kept : List (List Value)) → new ≡ old → AreLeft old.journal kept → AreLeft new.journal kept
 same_left old new kept same are = subst (λ (s : StationValue). AreLeft s.journal kept) (sym same) are
 
-pub left_taken : (old new : StationValue) (item : Item) (m : MessageValue) (outcome : Outcome) (kept : List (List Value)) (book : BookValue) → Meets book (Takes old new m) old new item outcome → AreLeft old.journal kept → AreLeft new.journal kept
-left_taken old new item m Done kept book (inl h) are = subst (λ j. AreLeft j kept) (sym h.1.received.noted) (left_still old.journal (Took h.1.evaluated) kept refl are)
-left_taken old new item m Done kept book (inr h) are = same_left old new kept h.3 are
-left_taken old new item m (Waits need) kept book h are = same_left old new kept h.0 are
-left_taken old new item m (Stops why) kept book h are = same_left old new kept h.0 are
+pub left_taken : (old new : StationValue) (item : Item) (m : MessageValue) (outcome : Outcome) (kept : List (List Value)) (b : AuditedBook) → Meets b (Takes old new m) old new item outcome → AreLeft old.journal kept → AreLeft new.journal kept
+left_taken old new item m Done kept b (inl h) are = subst (λ j. AreLeft j kept) (sym h.1.received.noted) (left_still old.journal (Took h.1.evaluated) kept refl are)
+left_taken old new item m Done kept b (inr h) are = same_left old new kept h.3 are
+left_taken old new item m (Waits need) kept b h are = same_left old new kept h.0 are
+left_taken old new item m (Stops why) kept b h are = same_left old new kept h.0 are
 
-pub left_heard : (old new : StationValue) (item : Item) (of incarnation : ℕ) (outcome : Outcome) (kept : List (List Value)) (book : BookValue) → Meets book (Hears old new of incarnation) old new item outcome → AreLeft old.journal kept → AreLeft new.journal kept
-left_heard old new item of incarnation Done kept book (inl h) are = subst (λ j. AreLeft j kept) (sym h.1.noted) (left_still old.journal (Heard of incarnation) kept refl are)
-left_heard old new item of incarnation Done kept book (inr h) are = same_left old new kept h.1 are
-left_heard old new item of incarnation (Waits need) kept book h are = same_left old new kept h.0 are
-left_heard old new item of incarnation (Stops why) kept book h are = same_left old new kept h.0 are
+pub left_heard : (old new : StationValue) (item : Item) (of incarnation : ℕ) (outcome : Outcome) (kept : List (List Value)) (b : AuditedBook) → Meets b (Hears old new of incarnation) old new item outcome → AreLeft old.journal kept → AreLeft new.journal kept
+left_heard old new item of incarnation Done kept b (inl h) are = subst (λ j. AreLeft j kept) (sym h.1.noted) (left_still old.journal (Heard of incarnation) kept refl are)
+left_heard old new item of incarnation Done kept b (inr h) are = same_left old new kept h.1 are
+left_heard old new item of incarnation (Waits need) kept b h are = same_left old new kept h.0 are
+left_heard old new item of incarnation (Stops why) kept b h are = same_left old new kept h.0 are
 
 -- what an evaluation leaves takes the place of what its task had
 pub left_noted : (p : PendingValue) (s : StationValue) (kept : List (List Value)) → IsNoted p s → p.made.name.task.resource ≡ p.journal.resource → AreLeft p.journal kept

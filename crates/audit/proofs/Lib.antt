@@ -1,5 +1,6 @@
 mod KeptLists
 mod Restarts
+mod Risen
 mod RunLines
 mod Starts
 mod LineTellings

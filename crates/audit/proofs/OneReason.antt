@@ -21,7 +21,7 @@ use Rattle.audit.specs.declared.needs.Need.{Need}
 use Rattle.audit.specs.declared.needs.Need.TheVariants.{Evaluation, Incarnation}
 use Rattle.audit.specs.declared.reason.Reason.{Reason}
 use Rattle.audit.specs.declared.reason.Reason.TheVariants as reason
-use Rattle.audit.specs.Reasons.{Course, begins, OpensOtherwise, IsOver, MayBeIn, IsNoLine, IsOther, Needs, maker_in, incarnation_of, IsUnfit, IsReason}
+use Rattle.audit.specs.Reasons.{Course, begins, OpensAsLeft, IsTooHigh, OpensOtherwise, IsGone, IsOver, MayBeIn, IsNoLine, IsOther, Needs, maker_in, incarnation_of, IsUnfit, IsReason}
 use Rattle.audit.specs.OneReason.{OneReason, AreMisfits}
 
 -- to which lines a reason belongs
@@ -121,19 +121,28 @@ above_not s item i begun (j, kept, is, above, other) =
     let same : j ≡ i = begun_as i j item kept is begun in
     (omega (arith, same, above.0), omega (arith, same, above.1))
 
+-- an incarnation that is too high is above the present one, and the line doesn't open otherwise
+high_above : (skipped : ℕ) (s : StationValue) (item : Item) (i : ℕ) → IsTooHigh skipped s item i → s.core.incarnation < i
+high_above skipped s item i (inl far) = omega (arith, far)
+high_above skipped s item i (inr h) = h.0.0
+
+high_left : (skipped : ℕ) (s : StationValue) (item : Item) (i : ℕ) → begins i item ≡ true → IsTooHigh skipped s item i → OpensOtherwise s item → ⊥
+high_left skipped s item i begun (inl far) other = absurd (omega (arith, far, (above_not s item i begun other).1))
+high_left skipped s item i begun (inr h) (j, kept, is, above, other) = other (subst (OpensAsLeft s) is h.1)
+
 one : (book : BookValue) (all : List Course) (s : StationValue) (item : Item) (why other : Reason) → IsReason book all s item why → IsReason book all s item other → (why ≡ other) ⊎ AreMisfits why other
 one book all s item reason.Syntax reason.Syntax a b = inl refl
 one book all s item reason.Syntax (reason.Misfit y) a b = absurd (no_line_unfit book s item y a b)
 one book all s item (reason.Misfit x) reason.Syntax a b = absurd (no_line_unfit book s item x b a)
 one book all s item (reason.Misfit x) (reason.Misfit y) a b = inr (x, y, refl, refl)
 one book all s item (reason.NotRisen i) (reason.NotRisen j) a b = inl (ap reason.NotRisen (one_begun i j item a.0 b.0))
-one book all s item (reason.NotRisen i) (reason.TooHigh j) a b = absurd (omega (arith, one_begun i j item a.0 b.0, a.1, b.1))
+one book all s item (reason.NotRisen i) (reason.TooHigh j) a b = absurd (omega (arith, one_begun i j item a.0 b.0, a.1, high_above _ s item j b.1))
 one book all s item (reason.NotRisen i) reason.Kept a b = absurd (omega (arith, a.1, (above_not s item i a.0 b).0))
-one book all s item (reason.TooHigh i) (reason.NotRisen j) a b = absurd (omega (arith, one_begun i j item a.0 b.0, a.1, b.1))
+one book all s item (reason.TooHigh i) (reason.NotRisen j) a b = absurd (omega (arith, one_begun i j item a.0 b.0, high_above _ s item i a.1, b.1))
 one book all s item (reason.TooHigh i) (reason.TooHigh j) a b = inl (ap reason.TooHigh (one_begun i j item a.0 b.0))
-one book all s item (reason.TooHigh i) reason.Kept a b = absurd (omega (arith, a.1, (above_not s item i a.0 b).1))
+one book all s item (reason.TooHigh i) reason.Kept a b = absurd (high_left _ s item i a.0 a.1 b)
 one book all s item reason.Kept (reason.NotRisen j) a b = absurd (omega (arith, b.1, (above_not s item j b.0 a).0))
-one book all s item reason.Kept (reason.TooHigh j) a b = absurd (omega (arith, b.1, (above_not s item j b.0 a).1))
+one book all s item reason.Kept (reason.TooHigh j) a b = absurd (high_left _ s item j b.0 b.1 a)
 one book all s item reason.Kept reason.Kept a b = inl refl
 one book all s item (reason.Differs name) (reason.Differs other) a b =
     inl (ap reason.Differs (sym a.3 ∙ ap (λ (m : MessageValue). m.name) (one_message item a.0 b.0 a.2.0 b.2.0) ∙ b.3))
@@ -152,14 +161,14 @@ one book all s item (reason.Unmade name) (reason.Waits need) a b =
     absurd (over_not_open (maker_in all need) (incarnation_of need) over b.1)
 one book all s item (reason.Unmade name) (reason.Missing need) a b =
     let same : Evaluation name ≡ need = one_need book all s item (Evaluation name) need a.0 b.0 in
-    absurd (b.1 (subst (λ n. IsOver (maker_in all n) (incarnation_of n)) same a.1))
+    absurd (b.1 (subst (λ n. IsGone (maker_in all n) n) same a.1))
 one book all s item (reason.Waits need) (reason.Unmade name) a b =
     let same : Evaluation name ≡ need = one_need book all s item (Evaluation name) need b.0 a.0 in
     let over : IsOver (maker_in all need) (incarnation_of need) = subst (λ n. IsOver (maker_in all n) (incarnation_of n)) same b.1 in
     absurd (over_not_open (maker_in all need) (incarnation_of need) over a.1)
 one book all s item (reason.Missing need) (reason.Unmade name) a b =
     let same : Evaluation name ≡ need = one_need book all s item (Evaluation name) need b.0 a.0 in
-    absurd (a.1 (subst (λ n. IsOver (maker_in all n) (incarnation_of n)) same b.1))
+    absurd (a.1 (subst (λ n. IsGone (maker_in all n) n) same b.1))
 one book all s item (reason.Waits need) (reason.Waits other) a b = inl (ap reason.Waits (one_need book all s item need other a.0 b.0))
 one book all s item (reason.Waits need) (reason.Missing other) a b =
     let same = one_need book all s item need other a.0 b.0 in

@@ -1,5 +1,5 @@
 -- A node and an audit do the same at each line.
-use Rattle.std.proofs.Common.{◌≡◌, ◌≢◌, ◌⊎◌, ℕ, zero, suc, ◌+◌, ◌<◌, ◌==◌, ◌&&◌, nat_lt, not, cond, Bool, true, false, inl, inr, List, [], ◌∷◌, ◌++◌, map, reverse, filter, length, get_or, Option, Some, None, refl, sym, ap, ◌∙◌, subst, arith, add-one}
+use Rattle.std.proofs.Common.{◌≡◌, ◌≢◌, ◌⊎◌, ℕ, zero, suc, ◌+◌, ◌<◌, ◌==◌, ◌&&◌, nat_lt, not, cond, Bool, true, false, inl, inr, List, [], ◌∷◌, map, reverse, filter, length, get_or, Option, Some, None, refl, sym, ap, ◌∙◌, subst, arith, add-one}
 use Rattle.std.specs.Prelude.{slice_set, slice_index}
 use Rattle.std.specs.Option.{option_map, option_and_then}
 use Rattle.std.specs.List.{zip}

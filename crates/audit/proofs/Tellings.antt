@@ -1,10 +1,11 @@
 -- What is shown of all resources, and what can't be.
-use Rattle.std.proofs.Common.{arith, ◌≡◌, ℕ, zero, suc, ◌+◌, ◌++◌, List, [], ◌∷◌, Option, Some, None, length, map, slice_get, slice_index, ◌<◌, inl, inr, IfSome, refl, ap, sym, ◌∙◌, subst, zero-add, add-one, option_map, append-nil}
+use Rattle.std.proofs.Common.{arith, ◌≡◌, ℕ, zero, suc, ◌+◌, ◌++◌, List, [], ◌∷◌, Option, Some, None, length, map, slice_get, slice_index, ◌<◌, ◌≤◌, ◌↔◌, Bool, false, IsTrue, inl, inr, IfSome, refl, ap, sym, ◌∙◌, subst, zero-add, add-one, option_map, append-nil}
 use Rattle.std.proofs.lemmas.List.{length-map}
 use Rattle.std.specs.Global.{Vec}
 use Rattle.std.proofs.lemmas.Option.{slice_get-map}
 use Rattle.lists.proofs.Mapped.{map-map}
 use Rattle.plant.specs.PlantValue.{PlantValue}
+use Rattle.evaluation.specs.declared.name.Name.{Name}
 use Rattle.book.specs.Book.{BookValue}
 use Rattle.node_reports.specs.Stations.{StationValue}
 use Rattle.audit.specs.declared.item.Item.{Item}
@@ -19,35 +20,56 @@ use Rattle.audit.specs.declared.reason.Reason.TheVariants as reason
 use Rattle.audit.specs.declared.reason.Unshown.{Unshown}
 use Rattle.audit.specs.declared.standing.Standing.{Standing}
 use Rattle.audit.specs.declared.standing.Standing.TheVariants.{Going, Ended}
-use Rattle.audit.specs.Reasons.{Course, present_of, IsOver, MayBeIn, HasNotCome, Needs, maker_in, incarnation_of, IsReason}
+use Rattle.std.specs.Prelude.{sum}
+use Rattle.audit.specs.Reasons.{Course, present_of, was_in, skipped_in, IsTooHigh, IsGone, IsOver, MayBeIn, WasNotIn, Needs, maker_in, incarnation_of, IsReason}
 use Rattle.audit.specs.Told.{IsTold, IsShown, AreShown, AreToldBy, if_none, without_lines, all_without}
-use Rattle.audit.specs.Steps.Standings.{AuditedBook, journal_in, AreFrom}
+use Rattle.audit.specs.Steps.Standings.{AuditedBook, CanBeHeard, journal_in, AreFrom}
 use Rattle.audit.specs.Steps.Following.{IsLed, WouldNeed, IsStop, IsTried, IsFollowed}
-use Rattle.audit.specs.Steps.Settled.{IsUnmet, IsAhead, IsStuck, IsSettled, course_of, courses_of, maker_of, IsReasonFor, IsToldOf, AreToldOf, HaveTold}
+use Rattle.audit.specs.Steps.Settled.{IsUnmet, IsStuck, IsSettled, course_of, courses_of, maker_of, IsReasonFor, IsToldOf, AreToldOf, HaveTold}
 use Rattle.audit.specs.declared.journal_file.JournalFile.{JournalFile}
 use Rattle.audit.specs.declared.reading.Readings.{Readings}
 use Rattle.audit.specs.Readings.{AreReadings}
 use Rattle.audit.specs.declared.auditing.Audited.{Audited}
-use Rattle.audit.proofs.GoingOn.{lines_of, journals_in, present_at}
+use Rattle.audit.proofs.GoingOn.{lines_of, journals_in, present_at, can_have_been, all_skipped}
 
 -- what is shown of a resource at its place among all
 course_at : (fs : List Follower) (n : ℕ) (maker : Option Follower) → slice_get fs n ≡ maker → slice_get (courses_of fs) n ≡ option_map course_of maker
 course_at fs n maker at = slice_get-map course_of fs n ∙ ap (option_map course_of) at
 
--- where an incarnation isn't met, the resource hasn't come to it
-not_come : (b : AuditedBook) (fs : List Follower) (n i : ℕ) → AreFrom b 0 fs → slice_index b.present n < i → HasNotCome (slice_get (courses_of fs) n) i
-not_come b fs n i stand below = by (slice_get fs n) refl
+-- where an incarnation isn't met, the resource can't have been in it
+not_in : (b : AuditedBook) (fs : List Follower) (n i : ℕ) → AreFrom b 0 fs → (CanBeHeard b n i → ⊥) → WasNotIn (slice_get (courses_of fs) n) i
+not_in b fs n i stand unheard = by (slice_get fs n) refl
   where
-    by : (maker : Option Follower) → slice_get fs n ≡ maker → HasNotCome (slice_get (courses_of fs) n) i
-    by None at = subst (λ (c : Option Course). HasNotCome c i) (sym (course_at fs n None at)) tt
-    by (Some f) at =
-        let present : slice_index b.present n ≡ present_of (journal_in f.standing) = present_at b fs n f stand at in
-        subst (λ (c : Option Course). HasNotCome c i) (sym (course_at fs n (Some f) at)) (omega (arith, present, below))
+    by : (maker : Option Follower) → slice_get fs n ≡ maker → WasNotIn (slice_get (courses_of fs) n) i
+    by None at = subst (λ (c : Option Course). WasNotIn c i) (sym (course_at fs n None at)) tt
+    by (Some f) at = subst (λ (c : Option Course). WasNotIn c i) (sym (course_at fs n (Some f) at)) (λ can. unheard (can_have_been b fs n i f stand at can))
+
+-- what a line needs is missing: there is no maker
+pub missing_none : (need : Need) → IsReasonFor None need (reason.Missing need)
+missing_none (Evaluation name) = (refl, (λ over. over), λ may. may)
+missing_none (Incarnation n i) = (refl, (λ over. over), λ may. may)
+
+-- or it has no line left
+pub missing_closed : (c : Course) (need : Need) (present at : ℕ) (left : Bool) → present ≡ present_of c.journal → at ≡ incarnation_of need → present ≤ at → (IsTrue left ↔ (c.shown < length c.lines)) → left ≡ false → IsReasonFor (Some c) need (reason.Missing need)
+missing_closed c (Evaluation name) present at left is at_is below some_left none = (refl, (λ over. absurd (omega (arith, over.1, is, at_is, below))), λ may. let some = some_left.1 may.1 in absurd cc)
+missing_closed c (Incarnation n i) present at left is at_is below some_left none = (refl, (λ over. over), λ may. let some = some_left.1 may.1 in absurd cc)
+
+-- or it has come to a greater incarnation, and wasn't in that one
+pub missing_past : (c : Course) (need : Need) (n i present at : ℕ) → need ≡ Incarnation n i → present ≡ present_of c.journal → at ≡ incarnation_of need → at < present → IsReasonFor (Some c) need (reason.Missing need)
+missing_past c (Evaluation name) n i present at one is at_is past = absurd cc
+missing_past c (Incarnation m k) n i present at one is at_is past = (refl, (λ over. over), λ may. absurd (omega (arith, may.0, is, at_is, past)))
+
+pub missing_unmade : (c : Course) (need : Need) (name : Name) (present at : ℕ) → need ≡ Evaluation name → present ≡ present_of c.journal → at ≡ incarnation_of need → at < present → was_in c name.incarnation ≡ false → IsReasonFor (Some c) need (reason.Missing need)
+missing_unmade c (Evaluation other) name present at one is at_is past never =
+    let same : other ≡ name = let e = one in cc in
+    let none : was_in c other.incarnation ≡ false = ap (λ (m : Name). was_in c m.incarnation) same ∙ never in
+    (refl, (λ over. let been = over.0 in absurd cc), λ may. absurd (omega (arith, may.0, is, at_is, past)))
+missing_unmade c (Incarnation n i) name present at one is at_is past never = absurd cc
 
 -- a need that isn't met
 needs_so : (b : AuditedBook) (fs : List Follower) (s : StationValue) (item : Item) (need : Need) → AreFrom b 0 fs → WouldNeed s item need → IsUnmet b need → Needs b.book (courses_of fs) s item need
 needs_so b fs s item (Evaluation name) stand would unmet = (would.0, would.1, would.2, unmet)
-needs_so b fs s item (Incarnation n i) stand would unmet = (would, not_come b fs n i stand unmet)
+needs_so b fs s item (Incarnation n i) stand would unmet = (would, not_in b fs n i stand unmet)
 
 -- a need that isn't met is the reason
 reason_for : (book : BookValue) (all : List Course) (s : StationValue) (item : Item) (need : Need) (why : Reason) → IsReasonFor (maker_in all need) need why → Needs book all s item need → IsReason book all s item why
@@ -61,31 +83,35 @@ reason_for book all s item need (reason.Unmade name) is h =
 reason_for book all s item need (reason.Waits n) is h =
     subst (λ n. Needs book all s item n × MayBeIn (maker_in all n) (incarnation_of n)) (sym is.0) (h, is.1)
 reason_for book all s item need (reason.Missing n) is h =
-    subst (λ n. Needs book all s item n × (IsOver (maker_in all n) (incarnation_of n) → ⊥) × (MayBeIn (maker_in all n) (incarnation_of n) → ⊥)) (sym is.0) (h, is.1, is.2)
+    subst (λ n. Needs book all s item n × (IsGone (maker_in all n) n → ⊥) × (MayBeIn (maker_in all n) (incarnation_of n) → ⊥)) (sym is.0) (h, is.1, is.2)
 reason_for book all s item need (reason.Misfit misfit) is h = absurd is
 
 -- a line that can't be done, whatever others do
-stop_reason : (book : BookValue) (all : List Course) (s : StationValue) (item : Item) (why : Reason) → IsStop book s item why → IsReason book all s item why
-stop_reason book all s item reason.Syntax h = h
-stop_reason book all s item (reason.NotRisen i) h = h
-stop_reason book all s item (reason.TooHigh i) h = h
-stop_reason book all s item reason.Kept h = h
-stop_reason book all s item (reason.Differs name) h = h
-stop_reason book all s item (reason.Unmade name) h = absurd h
-stop_reason book all s item (reason.Waits need) h = absurd h
-stop_reason book all s item (reason.Missing need) h = absurd h
-stop_reason book all s item (reason.Misfit misfit) h = h
+stop_reason : (b : AuditedBook) (all : List Course) (s : StationValue) (item : Item) (why : Reason) → sum b.skips ≡ skipped_in (map (λ (c : Course). c.journal) all) → IsStop b s item why → IsReason b.book all s item why
+stop_reason b all s item reason.Syntax skips h = h
+stop_reason b all s item (reason.NotRisen i) skips h = h
+stop_reason b all s item (reason.TooHigh i) skips h = (h.0, subst (λ n. IsTooHigh n s item i) skips h.1)
+stop_reason b all s item reason.Kept skips h = h
+stop_reason b all s item (reason.Differs name) skips h = h
+stop_reason b all s item (reason.Unmade name) skips h = absurd h
+stop_reason b all s item (reason.Waits need) skips h = absurd h
+stop_reason b all s item (reason.Missing need) skips h = absurd h
+stop_reason b all s item (reason.Misfit misfit) skips h = h
+
+-- as many incarnations are skipped as is shown of all
+skips_shown : (b : AuditedBook) (fs : List Follower) → AreFrom b 0 fs → length b.skips ≡ length fs → sum b.skips ≡ skipped_in (map (λ (c : Course). c.journal) (courses_of fs))
+skips_shown b fs stand many = all_skipped b fs stand many ∙ ap skipped_in (sym (map-map (λ (c : Course). c.journal) course_of fs))
 
 -- the next line was tried, and why it can't be done is told
-pub told_stop : (b : AuditedBook) (fs : List Follower) (f : Follower) (line : Line) (why : Reason) → slice_get f.lines.items f.trail.at ≡ Some line → f.trail.last ≡ Stops why → IsToldOf b fs f (record { place = line.place; reason = why } ∷ [])
-told_stop b fs f line why at last = λ s tried.
-    let so : IsTried b.book s (Some line) (Stops why) = subst (λ l. IsTried b.book s (Some line) l) last (subst (λ l. IsTried b.book s l f.trail.last) at tried) in
-    subst (λ l. IsTold b.book (courses_of fs) l s (record { place = line.place; reason = why } ∷ [])) (sym at) (why, refl, stop_reason b.book (courses_of fs) s line.item why so)
+pub told_stop : (b : AuditedBook) (fs : List Follower) (f : Follower) (line : Line) (why : Reason) → AreFrom b 0 fs → length b.skips ≡ length fs → slice_get f.lines.items f.trail.at ≡ Some line → f.trail.last ≡ Stops why → IsToldOf b fs f (record { place = line.place; reason = why } ∷ [])
+told_stop b fs f line why stand many at last = λ s tried.
+    let so : IsTried b s (Some line) (Stops why) = subst (λ l. IsTried b s (Some line) l) last (subst (λ l. IsTried b s l f.trail.last) at tried) in
+    subst (λ l. IsTold b.book (courses_of fs) l s (record { place = line.place; reason = why } ∷ [])) (sym at) (why, refl, stop_reason b (courses_of fs) s line.item why (skips_shown b fs stand many) so)
 
 pub told_need : (b : AuditedBook) (fs : List Follower) (f : Follower) (line : Line) (need : Need) (why : Reason) → AreFrom b 0 fs → slice_get f.lines.items f.trail.at ≡ Some line → f.trail.last ≡ Waits need → IsUnmet b need
     → IsReasonFor (maker_in (courses_of fs) need) need why → IsToldOf b fs f (record { place = line.place; reason = why } ∷ [])
 told_need b fs f line need why stand at last unmet is = λ s tried.
-    let so : IsTried b.book s (Some line) (Waits need) = subst (λ l. IsTried b.book s (Some line) l) last (subst (λ l. IsTried b.book s l f.trail.last) at tried) in
+    let so : IsTried b s (Some line) (Waits need) = subst (λ l. IsTried b s (Some line) l) last (subst (λ l. IsTried b s l f.trail.last) at tried) in
     subst (λ l. IsTold b.book (courses_of fs) l s (record { place = line.place; reason = why } ∷ [])) (sym at)
     (why, refl, reason_for b.book (courses_of fs) s line.item need why is (needs_so b fs s line.item need stand so unmet))
 
@@ -104,17 +130,12 @@ pub waiting_unmet : (b : AuditedBook) (f : Follower) (line : Line) (need : Need)
 waiting_unmet b f line need at last (inl none) = absurd (let e = sym at ∙ none in cc)
 waiting_unmet b f line need at last (inr stuck) = subst (IsStuck b) last stuck
 
-pub ahead_of : (b : AuditedBook) (need : Need) (n present : ℕ) → n ≡ maker_of need → present ≡ slice_index b.present n → IsUnmet b need → IsAhead present need
-ahead_of b (Evaluation name) n present same is unmet = tt
-ahead_of b (Incarnation m i) n present same is unmet =
-    let come : present ≡ slice_index b.present m = is ∙ ap (slice_index b.present) same in omega (arith, come, unmet)
-
 -- one more resource
 pub told_more : (b : AuditedBook) (fs : List Follower) (n : ℕ) (before these after : List Unshown) (f : Follower) → slice_get fs n ≡ Some f → AreToldOf b fs n before → IsToldOf b fs f these → after ≡ before ++ these → AreToldOf b fs (n + 1) after
 told_more b fs n before these after f at was told is = subst (λ k. AreToldOf b fs k after) (sym (add-one n)) (before, these, f, was, at, told, is)
 
 -- what is shown of a resource that has followed its lines
-shown_of : (b : AuditedBook) (fs : List Follower) (n : ℕ) (f : Follower) (these : List Unshown) → IsFollowed b.plant b.book n f → IsToldOf b fs f these → IsShown b.plant b.book (courses_of fs) n (course_of f) these
+shown_of : (b : AuditedBook) (fs : List Follower) (n : ℕ) (f : Follower) (these : List Unshown) → IsFollowed b.plant b n f → IsToldOf b fs f these → IsShown b.plant b.book (courses_of fs) n (course_of f) these
 shown_of b fs n f these follows told = record {
   within = follows.within;
   stands = follows.station;
@@ -132,7 +153,7 @@ shown_of b fs n f these follows told = record {
 shown_all : (b : AuditedBook) (fs : List Follower) → AreFrom b 0 fs → (n : ℕ) (unshown : List Unshown) → AreToldOf b fs n unshown → AreShown b.plant b.book (courses_of fs) n unshown
 shown_all b fs stand zero unshown told = told
 shown_all b fs stand (suc n) unshown (before, these, f, earlier, at, told, is) =
-    let follows : IsFollowed b.plant b.book n f = subst (λ k. IsFollowed b.plant b.book k f) (zero-add n) (stand n f at).followed in
+    let follows : IsFollowed b.plant b n f = subst (λ k. IsFollowed b.plant b k f) (zero-add n) (stand n f at).followed in
     (before, these, course_of f, shown_all b fs stand n before earlier, course_at fs n (Some f) at, shown_of b fs n f these follows told, is)
 
 none_here : (lines : List Line) (n : ℕ) → length lines ≡ 0 → if_none lines n ≡ n ∷ []

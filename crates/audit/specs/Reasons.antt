@@ -1,7 +1,7 @@
 -- Why a line can't be shown, by what is shown of all journals.
-use Rattle.std.specs.Prelude.{◌≡◌, ◌≢◌, ◌==◌, ◌⊎◌, ◌++◌, ℕ, ◌+◌, ◌<◌, ◌≤◌, Bool, true, false, List, All, Contains, Option, IfSome, IsSomeAnd, length, reverse, slice_get, take}
+use Rattle.std.specs.Prelude.{◌≡◌, ◌≢◌, ◌==◌, ◌⊎◌, ◌++◌, ℕ, ◌+◌, ◌-◌, ◌<◌, ◌≤◌, Bool, true, false, List, All, Contains, Option, IfSome, IsSomeAnd, length, map, reverse, slice_get, sum, take}
 use Rattle.std.specs.Global.{Vec}
-use Rattle.std.specs.List.{list_any}
+use Rattle.std.specs.List.{filter_map, list_any}
 use Rattle.std_blocks.specs.declared.value.Value.{Value}
 use Rattle.evaluation.specs.declared.field_input.FieldInput.{FieldInput}
 use Rattle.evaluation.specs.declared.name.Name.{Name}
@@ -17,6 +17,7 @@ use Rattle.exchange_core.specs.MessageCoreValue.{IsAnswer}
 use Rattle.exchange_core.specs.CoreValue.{IsEvalFault, IsNextOf, is_news}
 use Rattle.node_reports.specs.declared.journal.Journal.{Journal}
 use Rattle.node_reports.specs.Journals.{incarnation_after}
+use Rattle.node_reports.specs.Reports.{restarted_in}
 use Rattle.node_reports.specs.Stations.{StationValue}
 use Rattle.audit.specs.declared.item.Item.{Item}
 use Rattle.audit.specs.declared.item.Item.TheVariants.{Start, Restart, Message, Hello, Evaluate, Faulty}
@@ -36,6 +37,26 @@ pub record Course : Type 0 where
 -- the incarnation to which a resource has come
 abbrev pub present_of : Journal → ℕ
 present_of j = incarnation_after j.first (reverse j.steps)
+
+-- the incarnations in which its STARTs and RESTARTs put it
+abbrev pub risen_to : Journal → List ℕ
+risen_to j = filter_map restarted_in j.steps
+
+-- An incarnation can have been one of a resource that has come so far: a START or RESTART put it there; or it lies below all
+-- in which they put it, before the first START that was given, where nothing is known.
+abbrev pub CanHaveBeen : ℕ → List ℕ → ℕ → Type 0
+CanHaveBeen present risen i = (i ≤ present) × (Contains risen i ⊎ All (λ (k : ℕ). i < k) risen)
+
+abbrev pub CanHaveBeenIn : Journal → ℕ → Type 0
+CanHaveBeenIn j i = CanHaveBeen (present_of j) (risen_to j) i
+
+-- how many it has skipped, from 1 on: no START or RESTART put it there
+abbrev pub skipped_of : Journal → ℕ
+skipped_of j = present_of j - length (risen_to j)
+
+-- how many all have skipped
+abbrev pub skipped_in : List Journal → ℕ
+skipped_in journals = sum (map skipped_of journals)
 
 -- a line is a START or RESTART in this incarnation
 abbrev pub begins : ℕ → Item → Bool
@@ -58,9 +79,9 @@ IsOver maker i = IsSomeAnd maker (λ (c : Course). (was_in c i ≡ true) × (i <
 abbrev pub MayBeIn : Option Course → ℕ → Type 0
 MayBeIn maker i = IsSomeAnd maker (λ (c : Course). (present_of c.journal ≤ i) × (c.shown < length c.lines))
 
--- It hasn't come to an incarnation yet.
-abbrev pub HasNotCome : Option Course → ℕ → Type 0
-HasNotCome maker i = IfSome maker (λ (c : Course). present_of c.journal < i)
+-- By what is shown of it, it can't have been in an incarnation.
+abbrev pub WasNotIn : Option Course → ℕ → Type 0
+WasNotIn maker i = IfSome maker (λ (c : Course). CanHaveBeenIn c.journal i → ⊥)
 
 -- A line is none of a node, or an evaluation of a task that isn't there or whose numbers are spent.
 abbrev pub IsNoLine : StationValue → Item → Type 0
@@ -72,6 +93,26 @@ IsNoLine s item =
 -- an incarnation is above the present one, by 1,000,000 at most
 abbrev pub IsAbove : ℕ → ℕ → Type 0
 IsAbove present i = (present < i) × (i ≤ present + 1000000)
+
+-- With those between the present incarnation and this one, more than 1,000,000 are skipped.
+abbrev pub SkipsTooMany : ℕ → ℕ → ℕ → Type 0
+SkipsTooMany skipped present i = 1000000 < skipped + (i - (present + 1))
+
+-- a line opens with what was left, if it is a START
+abbrev pub OpensAsLeft : StationValue → Item → Type 0
+OpensAsLeft s (Start incarnation kept) = AreLeft s.journal kept.items
+OpensAsLeft s (Restart incarnation) = Unit {0}
+OpensAsLeft s (Message m) = Unit {0}
+OpensAsLeft s (Hello of incarnation) = Unit {0}
+OpensAsLeft s (Evaluate task dt inputs) = Unit {0}
+OpensAsLeft s Faulty = Unit {0}
+
+-- An incarnation is more than 1,000,000 above the present one; or a line rises to it as it may and opens with what was left,
+-- but with those that it skips too many are skipped in all.
+abbrev pub IsTooHigh : ℕ → StationValue → Item → ℕ → Type 0
+IsTooHigh skipped s item i =
+    (s.core.incarnation + 1000000 < i)
+    ⊎ (IsAbove s.core.incarnation i × OpensAsLeft s item × SkipsTooMany skipped s.core.incarnation i)
 
 -- A line is a START that rises as it may, and opens with other values than were left.
 abbrev pub OpensOtherwise : StationValue → Item → Type 0
@@ -101,11 +142,11 @@ IsOther book s item name =
     (m made : MessageValue) × WouldTake s item m × (m.name ≡ name) × WasMade book name made × (made ≢ m)
 
 -- A line needs what isn't there: an evaluation that the book doesn't have, whose message the resource takes; or an
--- incarnation to which the other resource hasn't come, of which the hello is news.
+-- incarnation in which the other resource can't have been, of which the hello is news.
 abbrev pub Needs : BookValue → List Course → StationValue → Item → Need → Type 0
 Needs book all s item (Evaluation name) =
     (m : MessageValue) × WouldTake s item m × (m.name ≡ name) × WasNotMade book name
-Needs book all s item (Incarnation n i) = WouldHear s item n i × HasNotCome (slice_get all n) i
+Needs book all s item (Incarnation n i) = WouldHear s item n i × WasNotIn (slice_get all n) i
 
 -- what is shown of the resource of which a line needs something
 abbrev pub maker_in : List Course → Need → Option Course
@@ -117,6 +158,11 @@ abbrev pub incarnation_of : Need → ℕ
 incarnation_of (Evaluation name) = name.incarnation
 incarnation_of (Incarnation n i) = i
 
+-- an evaluation that it needs was never made: the other resource is over with that incarnation
+abbrev pub IsGone : Option Course → Need → Type 0
+IsGone maker (Evaluation name) = IsOver maker name.incarnation
+IsGone maker (Incarnation n i) = ⊥
+
 -- A line is an evaluation, and what it makes didn't fit the book's entries before it.
 abbrev pub IsUnfit : BookValue → StationValue → Item → Misfit → Type 0
 IsUnfit book s item misfit =
@@ -125,13 +171,14 @@ IsUnfit book s item misfit =
     × (book.entries ≡ older ++ newer) × IsMisfit book.first (reverse older) x misfit × (misfit ≢ NoMemory)
 
 -- This is why the next line of a resource can't be shown. Syntax: it is no line. NotRisen, TooHigh: it is a START or
--- RESTART that isn't above the present incarnation, or too far above it. Kept: it opens otherwise. Differs: what it takes
--- was made otherwise. Unmade: what it takes wasn't made, and the maker is over with that incarnation. Waits: what it needs
+-- RESTART that isn't above the present incarnation, or too high. Kept: it opens otherwise. Differs: what it takes was made
+-- otherwise. Unmade: what it takes wasn't made, and the maker is over with that incarnation. Waits: what it needs
 -- isn't there, and the other resource may still be in that incarnation. Missing: neither is so.
 abbrev pub IsReason : BookValue → List Course → StationValue → Item → Reason → Type 0
 IsReason book all s item reason.Syntax = IsNoLine s item
 IsReason book all s item (reason.NotRisen i) = (begins i item ≡ true) × (i ≤ s.core.incarnation)
-IsReason book all s item (reason.TooHigh i) = (begins i item ≡ true) × (s.core.incarnation + 1000000 < i)
+IsReason book all s item (reason.TooHigh i) =
+    (begins i item ≡ true) × IsTooHigh (skipped_in (map (λ (c : Course). c.journal) all)) s item i
 IsReason book all s item reason.Kept = OpensOtherwise s item
 IsReason book all s item (reason.Differs name) = IsOther book s item name
 IsReason book all s item (reason.Unmade name) =
@@ -139,6 +186,6 @@ IsReason book all s item (reason.Unmade name) =
 IsReason book all s item (reason.Waits need) =
     Needs book all s item need × MayBeIn (maker_in all need) (incarnation_of need)
 IsReason book all s item (reason.Missing need) =
-    Needs book all s item need × (IsOver (maker_in all need) (incarnation_of need) → ⊥)
+    Needs book all s item need × (IsGone (maker_in all need) need → ⊥)
     × (MayBeIn (maker_in all need) (incarnation_of need) → ⊥)
 IsReason book all s item (reason.Misfit misfit) = IsUnfit book s item misfit

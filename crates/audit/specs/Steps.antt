@@ -1,5 +1,6 @@
 -- Steps of the proofs. Only contracts inside this crate cite them, so no reader has to believe them.
 pub mod Reading
+pub mod AuditedBook
 pub mod Following
 pub mod Settled
 pub mod Standings

@@ -26,7 +26,7 @@ pub(crate) fn receive(
     requires { IsGoing book.now station.old }
     ensures going { IsGoing book.now station.new }
     ensures resource { station.new.journal.resource ≡ station.old.journal.resource }
-    ensures meets { IfOk result (Meets book.now.book (Takes station.old station.new message.now) station.old station.new (item.Message message.now)) }
+    ensures meets { IfOk result (Meets book.now (Takes station.old station.new message.now) station.old station.new (item.Message message.now)) }
     ensures leaves { IfOk result (Leaves book.now book.now) }
 {
     match station.core().messages().would_accept(message) {
@@ -44,7 +44,7 @@ pub(crate) fn receive(
     Ok(Outcome::Done)
 }
 
-/// Hears of an incarnation in which that resource is by now, or was. What would be no news changes nothing.
+/// Hears of an incarnation in which that resource can have been. What would be no news changes nothing.
 #[tactic(auto, using(crate::proofs::GoingOn::heard_going))]
 pub(crate) fn hear(
     station: &mut Station,
@@ -55,13 +55,13 @@ pub(crate) fn hear(
     requires { IsGoing book.now station.old }
     ensures going { IsGoing book.now station.new }
     ensures resource { station.new.journal.resource ≡ station.old.journal.resource }
-    ensures meets { IfOk result (Meets book.now.book (Hears station.old station.new of incarnation) station.old station.new (item.Hello of incarnation)) }
+    ensures meets { IfOk result (Meets book.now (Hears station.old station.new of incarnation) station.old station.new (item.Hello of incarnation)) }
     ensures leaves { IfOk result (Leaves book.now book.now) }
 {
     if !station.core().messages().would_hear(of, incarnation) {
         return Ok(Outcome::Done);
     }
-    if book.present(of) < incarnation {
+    if !book.can_be_heard(of, incarnation) {
         return Ok(Outcome::Waits(Need::Incarnation {
             resource: of,
             incarnation,

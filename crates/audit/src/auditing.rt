@@ -1,8 +1,9 @@
 //! The audit of the journals of a plant's nodes.
 
-ghost use Rattle.std.specs.Prelude.{◌≡◌, false, IfOk, OnOk, length, map};
+ghost use Rattle.std.specs.Prelude.{◌≡◌, ◌≤◌, false, IfOk, OnOk, length, map};
 ghost use Rattle.node_reports.specs.Reports.{IsFittingBook, AreJournalsOf, AreInBook, RunsAgain, CanBeMadeAgain};
-ghost use Rattle.audit.specs.Delivered.{AreDelivered};
+ghost use Rattle.audit.specs.Delivered.{AreDelivered, AreHeardTruly};
+ghost use Rattle.audit.specs.Reasons.{skipped_in};
 ghost use Rattle.audit.specs.Told.{AreToldBy};
 ghost use Rattle.audit.specs.Steps.Settled.{AreSettled};
 ghost use Rattle.audit.specs.Steps.Standings.{AuditedBook, empty_book, journal_in, AreFrom, AreJournalsFrom, IsOfSame};
@@ -125,6 +126,8 @@ pub fn audit(alloc: Global, plant: Arc<Plant>, files: &[JournalFile]) -> Result<
     ensures again { IfOk result (λ r. RunsAgain plant.value 4294967295 r.book r.journals) }
     ensures made_again { IfOk result (λ r. CanBeMadeAgain plant.value 4294967295 r.book r.journals) }
     ensures delivered { IfOk result (λ r. AreDelivered r.book.entries r.journals) }
+    ensures heard { IfOk result (λ r. AreHeardTruly r.journals) }
+    ensures few { IfOk result (λ r. skipped_in r.journals ≤ 1000000) }
     ensures told { IfOk result (AreToldBy plant.value files.now) }
 {
     let Readings {

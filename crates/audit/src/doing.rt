@@ -18,14 +18,14 @@ use crate::line::Line;
 use crate::outcome::Outcome;
 use crate::past::Past;
 use crate::reason::Reason;
-use crate::rising::not_rising;
+use crate::rising::{not_rising, skipped_between};
 use crate::standing::Standing;
 use crate::trail::Trail;
 use evaluation::Retained;
 use node_reports::Station;
 use std::alloc::{AllocError, Global};
 
-/// Restarts a resource, where its incarnation rises.
+/// Restarts a resource, where its incarnation rises, and not too many are skipped in all.
 #[tactic(auto, using(crate::proofs::GoingOn::restarted_goes, crate::proofs::GoingOn::goes_not))]
 fn restart(
     alloc: Global,
@@ -38,17 +38,22 @@ fn restart(
     requires going { IsGoing book.old station }
     requires left { AreLeft station.journal past.old.left.items }
     ensures goes { IfOk result (λ r. Goes book.old book.new (Going station) r.0) }
-    ensures risen { IfOk result (λ r. HasRisen ticket incarnation station r.0 r.1) }
+    ensures risen { IfOk result (λ r. HasRisen book.new ticket incarnation station r.0 r.1) }
     ensures left { IfOk result (λ r. AreLeft (journal_in r.0) past.new.left.items) }
     ensures leaves { IfOk result (λ r. Leaves book.old book.new r.1) }
 {
     if let Some(reason) = not_rising(station.incarnation(), incarnation) {
         return Ok((Standing::Going(station), Outcome::Stops(reason)));
     }
+    let Some(skipped) = skipped_between(book.skipped(), station.incarnation(), incarnation) else {
+        let stops = Outcome::Stops(Reason::TooHigh(incarnation));
+        return Ok((Standing::Going(station), stops));
+    };
     let resource = station.resource();
     match station.restart(alloc, ticket, incarnation) {
         Ok(station) => {
-            book.raise(resource, incarnation);
+            book.put_in(resource, incarnation)?;
+            book.raise(resource, incarnation, skipped);
             Ok((Standing::Going(station), Outcome::Done))
         }
         Err(_) => Err(AllocError),
@@ -68,7 +73,7 @@ fn start(
     requires going { IsGoing book.old station }
     requires left { AreLeft station.journal past.old.left.items }
     ensures goes { IfOk result (λ r. Goes book.old book.new (Going station) r.0) }
-    ensures started { IfOk result (λ r. HasStarted incarnation kept.now station r.0 r.1) }
+    ensures started { IfOk result (λ r. HasStarted book.new incarnation kept.now station r.0 r.1) }
     ensures left { IfOk result (λ r. AreLeft (journal_in r.0) past.new.left.items) }
     ensures leaves { IfOk result (λ r. Leaves book.old book.new r.1) }
 {
@@ -96,7 +101,7 @@ fn do_item(
     requires going { IsGoing book.old station }
     requires left { AreLeft station.journal past.old.left.items }
     ensures goes { IfOk result (λ r. Goes book.old book.new (Going station) r.0) }
-    ensures comes { IfOk result (λ r. Comes book.new.book ticket (option_copied next.entry) item.now station r.0 r.1) }
+    ensures comes { IfOk result (λ r. Comes book.new ticket (option_copied next.entry) item.now station r.0 r.1) }
     ensures left { IfOk result (λ r. AreLeft (journal_in r.0) past.new.left.items) }
     ensures leaves { IfOk result (λ r. Leaves book.old book.new r.1) }
 {
@@ -159,8 +164,8 @@ pub(crate) fn do_line(
     requires left { AreLeft (journal_in standing) trail.old.past.left.items }
     ensures goes { IfOk result (λ r. Goes book.old book.new standing r.0) }
     ensures left { IfOk result (λ r. AreLeft (journal_in r.0) trail.new.past.left.items) }
-    ensures follows { (plant : PlantValue) (n : ℕ) → IsFollowing plant book.old.book n lines.now standing trail.old
-        → IfOk result (λ r. IsFollowing plant book.new.book n lines.now r.0 trail.new × (r.1 ≡ false → IsSettledAt book.new lines.now trail.new)) }
+    ensures follows { (plant : PlantValue) (n : ℕ) → IsFollowing plant book.old n lines.now standing trail.old
+        → IfOk result (λ r. IsFollowing plant book.new n lines.now r.0 trail.new × (r.1 ≡ false → IsSettledAt book.new lines.now trail.new)) }
     ensures more { IfOk result (λ r. r.1 ≡ true → trail.new.at ≡ trail.old.at + 1) }
     ensures rests { IfOk result (λ r. r.1 ≡ false → (trail.new.at ≡ trail.old.at) × (book.new ≡ book.old)) }
 {

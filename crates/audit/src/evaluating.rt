@@ -103,7 +103,7 @@ pub(crate) fn evaluate(
     requires going { IsGoing book.old station }
     requires left { AreLeft station.journal past.old.left.items }
     ensures goes { IfOk result (λ r. Goes book.old book.new (Going station) r.0) }
-    ensures comes { IfOk result (λ r. Comes book.new.book ticket (option_copied next.entry) (item.Evaluate task dt inputs.now) station r.0 r.1) }
+    ensures comes { IfOk result (λ r. Comes book.new ticket (option_copied next.entry) (item.Evaluate task dt inputs.now) station r.0 r.1) }
     ensures left { IfOk result (λ r. AreLeft (journal_in r.0) past.new.left.items) }
     ensures leaves { IfOk result (λ r. Leaves book.old book.new r.1) }
 {

@@ -152,8 +152,8 @@ impl Follower {
         requires stands { IsStanding book.old self.standing }
         requires left { AreLeft (journal_in self.standing) self.trail.past.left.items }
         ensures goes { IfOk result (λ r. Goes book.old book.new self.standing r.0.standing) }
-        ensures follows { (plant : PlantValue) (n : ℕ) → IsFollowed plant book.old.book n self
-            → IfOk result (λ r. IsFollowed plant book.new.book n r.0 × (r.1 ≡ false → IsSettled book.new r.0)) }
+        ensures follows { (plant : PlantValue) (n : ℕ) → IsFollowed plant book.old n self
+            → IfOk result (λ r. IsFollowed plant book.new n r.0 × (r.1 ≡ false → IsSettled book.new r.0)) }
         ensures rests { IfOk result (λ r. r.1 ≡ false → book.new ≡ book.old) }
         ensures lines { IfOk result (λ r. r.0.lines ≡ self.lines) }
     {

@@ -9,7 +9,7 @@ use evaluation::Name;
 pub enum Need {
     /// The evaluation of this name, whose message was taken.
     Evaluation(Name),
-    /// That a resource is in this incarnation or above, of which was heard.
+    /// That a resource can have been in this incarnation, of which was heard.
     Incarnation { resource: usize, incarnation: u32 },
 }
 

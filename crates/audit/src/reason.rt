@@ -10,7 +10,7 @@ pub enum Reason {
     Syntax,
     /// The incarnation of a START or RESTART isn't above the one before.
     NotRisen(u32),
-    /// It is above the one before by more than 1,000,000.
+    /// It is above the one before by more than 1,000,000, or more than these are skipped in all.
     TooHigh(u32),
     /// The retained values that a START opens with aren't those that were left.
     Kept,

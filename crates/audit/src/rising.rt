@@ -1,5 +1,5 @@
-ghost use Rattle.std.specs.Prelude.{MatchOption};
-ghost use Rattle.audit.specs.Reasons.{IsAbove};
+ghost use Rattle.std.specs.Prelude.{◌≡◌, ◌+◌, ◌-◌, ◌<◌, ◌≤◌, MatchOption};
+ghost use Rattle.audit.specs.Reasons.{IsAbove, SkipsTooMany};
 ghost use Rattle.audit.specs.Steps.Following.{IsNotRisen};
 
 use crate::reason::Reason;
@@ -18,4 +18,22 @@ pub(crate) fn not_rising(present: u32, incarnation: u32) -> Option<Reason>
         return Some(Reason::TooHigh(incarnation));
     }
     None
+}
+
+/// The greatest number of incarnations that may be skipped in all: each is a restart in the replay that no journal tells.
+const MOST_SKIPPED: u32 = 1_000_000;
+
+/// How many incarnations are skipped between the present one and a greater one. `None`: with those that were skipped before
+/// they are too many.
+pub(crate) fn skipped_between(skipped: u32, present: u32, incarnation: u32) -> Option<u32>
+    requires few { skipped ≤ 1000000 }
+    requires above { present < incarnation }
+    ensures { MatchOption result (SkipsTooMany skipped present incarnation)
+        (λ more. (more ≡ incarnation - (present + 1)) × (skipped + more ≤ 1000000)) }
+{
+    let more = incarnation - present - 1;
+    if more > MOST_SKIPPED - skipped {
+        return None;
+    }
+    Some(more)
 }

@@ -5,7 +5,7 @@ ghost use Rattle.std.specs.Option.{option_copied, option_map, option_to_list};
 ghost use Rattle.audit.specs.Reasons.{present_of};
 ghost use Rattle.audit.specs.Told.{without_start, all_without};
 ghost use Rattle.audit.specs.Steps.Standings.{journal_in, AreFrom};
-ghost use Rattle.audit.specs.Steps.Settled.{IsAhead, IsReasonFor, IsToldOf, AreToldOf, HaveTold, IsSettled, AreSettled, course_of};
+ghost use Rattle.audit.specs.Steps.Settled.{IsReasonFor, IsToldOf, AreToldOf, HaveTold, IsSettled, AreSettled, course_of};
 ghost use Rattle.audit.specs.declared.follower.Follower.{Follower as FollowerValue};
 
 use crate::book_of_audit::BookOfAudit;
@@ -18,9 +18,9 @@ use std::alloc::{AllocError, Global};
 
 /// Why a line can't be done that needs what isn't there, by what is shown of the resource of which it needs it; `present` is the
 /// incarnation to which that one has come.
+#[tactic(auto, using(crate::proofs::Tellings::missing_none, crate::proofs::Tellings::missing_closed, crate::proofs::Tellings::missing_past, crate::proofs::Tellings::missing_unmade))]
 fn reason_of(maker: Option<&Follower>, present: u32, need: Need) -> Reason
-    requires come { IfSome (option_copied maker) (λ (f : FollowerValue). present ≡ present_of (journal_in f.standing)) }
-    requires unmet { IsAhead present need }
+    requires { IfSome (option_copied maker) (λ (f : FollowerValue). present ≡ present_of (journal_in f.standing)) }
     ensures { IsReasonFor (option_map course_of (option_copied maker.entry)) need result }
 {
     let Some(maker) = maker else {
@@ -41,8 +41,8 @@ fn reason_of(maker: Option<&Follower>, present: u32, need: Need) -> Reason
                 Reason::Missing(need)
             }
         }
-        // A hello waits only for what is to come.
-        Need::Incarnation { .. } => unreachable!(),
+        // It went past that incarnation without being in it.
+        Need::Incarnation { .. } => Reason::Missing(need),
     }
 }
 
@@ -56,6 +56,7 @@ fn follower_at(followers: &[Follower], resource: usize) -> Option<&Follower>
 /// The line of a resource that can't be done, and why.
 fn unshown_of(followers: &[Follower], book: &BookOfAudit, follower: &Follower) -> Option<Unshown>
     requires stand { AreFrom book.now 0 followers.now }
+    requires many { length book.now.skips ≡ length followers.now }
     requires settled { IsSettled book.now follower.now }
     ensures { IsToldOf book.now followers.now follower.now (option_to_list result) }
 {
@@ -78,6 +79,7 @@ fn open_lines(
     book: &BookOfAudit,
 ) -> Result<Vec<Unshown>, AllocError>
     requires stand { AreFrom book.now 0 followers.now }
+    requires many { length book.now.skips ≡ length followers.now }
     requires settled { AreSettled book.now followers.now }
     ensures { IfOk result (λ unshown. AreToldOf book.now followers.now (length followers.now) unshown.items) }
 {
@@ -112,6 +114,7 @@ pub(crate) fn all_unshown(
     without_start: &[Place],
 ) -> Result<Vec<Unshown>, AllocError>
     requires stand { AreFrom book.now 0 followers.now }
+    requires many { length book.now.skips ≡ length followers.now }
     requires settled { AreSettled book.now followers.now }
     ensures { IfOk result (λ all. HaveTold book.now followers.now without_start.now all.items) }
 {

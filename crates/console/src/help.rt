@@ -62,13 +62,16 @@ where there is a warning; 2 if a word is refused; 3 if the file can't be read, t
 pub const VERIFY_HELP: &str = "\
 Each --never NAME claims that the BOOL variable NAME is never TRUE after a scan, whatever the inputs do and however long
 the drawing runs. The inputs are the BOOL variables that no coil and no output pin stores: each has any value in each scan,
-unless a word NAME=BIT holds it at 0 or 1. At most 20 may be free. A claim is a rung: draw a coil that turns ON where what
-must not happen has happened. --given NAME leaves out all runs in which a scan leaves NAME FALSE: what is known of the inputs
-is a rung, too. Each scan comes --dt MS after the one before; a drawing with a timer (TON, TOF, TP) needs it, above 0.
+unless a word NAME=BIT holds it at 0 or 1. A claim is a rung: draw a coil that turns ON where what must not happen has
+happened. --given NAME leaves out all runs in which a scan leaves NAME FALSE: what is known of the inputs is a rung, too.
+Looked at are the networks that store what claims and givens read, those that store what these read, and so on; of the inputs
+that they read at most 20 may be free. Each scan comes --dt MS after the one before; a drawing with a timer (TON, TOF, TP)
+needs it, above 0.
 
 A line is written for each claim, in the order given:
 
-  HOLDS      it is never TRUE; how many states and scans were looked at, or that no run meets what is given
+  HOLDS      it is never TRUE; how many states and scans were looked at, and how many networks, if not all; or that no run
+             meets what is given
   FAILS      it is TRUE after a run of scans, and after no shorter one; the lines of the run follow, and before them,
              of at most 1,000 scans and with an input, the words with which plc eval makes it
   UNDECIDED  more than N states were met, and the claim is broken in no run of so many scans or fewer

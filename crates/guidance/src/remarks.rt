@@ -220,7 +220,7 @@ const AUDITS: [Remark; 8] = [
     },
     Remark {
         kind: "TooHigh",
-        sentence: "This START or RESTART is above the incarnation before by more than 1,000,000. It was changed, or a file of the folder of state was.",
+        sentence: "This START or RESTART is above the incarnation before by more than 1,000,000, or more than that are skipped in all. It was changed, or one before it in a journal, or a file of a folder of state was.",
     },
     Remark {
         kind: "Kept",

@@ -1,10 +1,11 @@
 -- What `plc audit` writes.
-use Rattle.std.specs.Prelude.{◌≡◌, ℕ, ◌⊎◌, Bool, List, Option, map, string_bytes}
+use Rattle.std.specs.Prelude.{◌≡◌, ◌≤◌, ℕ, ◌⊎◌, Bool, List, Option, map, string_bytes}
 use Rattle.std.specs.Io.KnownBytes.{Keeps}
 use Rattle.plant.specs.PlantValue.{PlantValue}
 use Rattle.node_reports.specs.Reports.{IsFittingBook, AreJournalsOf, AreInBook, RunsAgain, CanBeMadeAgain}
 use Rattle.audit.specs.declared.journal_file.JournalFile.{JournalFile}
-use Rattle.audit.specs.Delivered.{AreDelivered}
+use Rattle.audit.specs.Delivered.{AreDelivered, AreHeardTruly}
+use Rattle.audit.specs.Reasons.{skipped_in}
 use Rattle.audit.specs.Told.{AreToldBy}
 use Rattle.audit.specs.declared.auditing.Audited.{Audited}
 use Rattle.console.specs.declared.command_fault.CommandFault.{CommandFault}
@@ -17,8 +18,8 @@ abbrev pub AreNamed : List JournalFile → List (List ℕ) → Type 0
 AreNamed files names = map (λ (f : JournalFile). string_bytes f.name) files ≡ names
 
 -- What an audit of journals is: what is shown is what they tell, and what isn't is told. Its book fits, its journals are
--- lawful and made the book's entries, which are a run and could have been made one after the other, and each evaluation
--- that a resource received is an entry.
+-- lawful and made the book's entries, which are a run and could have been made one after the other, each evaluation that a
+-- resource received is an entry, each incarnation of which one heard can have been, and few were skipped.
 pub record IsAudit (plant : PlantValue) (files : List JournalFile) (a : Audited) : Type 0 where
   pub told : AreToldBy plant files a
   pub fitting : IsFittingBook a.book a.journals
@@ -27,8 +28,11 @@ pub record IsAudit (plant : PlantValue) (files : List JournalFile) (a : Audited)
   pub again : RunsAgain plant 4294967295 a.book a.journals
   pub made_again : CanBeMadeAgain plant 4294967295 a.book a.journals
   pub delivered : AreDelivered a.book.entries a.journals
+  pub heard : AreHeardTruly a.journals
+  pub few : skipped_in a.journals ≤ 1000000
 
--- the lines of an audit of these files were written, and `REPLAY equal` last; the answer is whether all is shown
+-- The lines of an audit of these files were written, and last `REPLAY equal`, or, where not all is shown, `REPLAY of what is
+-- shown equal`; the answer is whether all is shown.
 pub record WritesAudit (plant : PlantValue) (files : List JournalFile) (old new : Option (List ℕ)) (shown : Bool)
     : Type 0 where
   pub audited : Audited

@@ -1,14 +1,18 @@
 -- From marks to what is stored, and from parts of a question to the whole.
-use Rattle.std.proofs.Common.{◌≡◌, ℕ, Option, Result, Ok, Err, IfOk, IfErr, zero, suc, ◌<◌, ◌≤◌, List, [], ◌∷◌, Bool, inl, inr, All, length, take, get_or, refl, sym, ◌∙◌, subst, arith}
+use Rattle.std.proofs.Common.{◌≡◌, ℕ, Option, Some, None, Result, Ok, Err, IfOk, IfErr, zero, suc, ◌<◌, ◌≤◌, List, [], ◌∷◌, Bool, inl, inr, All, length, take, get_or, refl, sym, ap, ◌∙◌, subst, arith}
 use Rattle.std.specs.Borrow.{Bor}
 use Rattle.std.specs.Global.{Vec}
 use Rattle.std.specs.List.{AllZip}
 use Rattle.std.proofs.lemmas.List.{length-map, get_or_default}
 use Rattle.std.proofs.lemmas.Option.{slice_get-get_or, slice_get_within}
 use Rattle.std.proofs.KnownBytes.{Keeps-refl}
+use Rattle.std.proofs.lemmas.List.Elements.{All-map}
+use Rattle.std.specs.Option.{option_map}
+use Rattle.lists.proofs.Members.{all_from_places}
 use Rattle.lists.proofs.Zips.{zip_back, zip_length}
 use Rattle.verifying.proofs.SetInputs.{declared_bool}
 use Rattle.verifying.proofs.Premising.{constants_of}
+use Rattle.verifying.proofs.Slicing.{length-whole_row}
 use Rattle.network.specs.Links.{Diagram}
 use Rattle.declared_names.specs.declared.declarations.Declaration.{Declaration}
 use Rattle.text_commands.specs.EvalText.{IsLadderOfDrawing}
@@ -16,21 +20,27 @@ use Rattle.text_commands.specs.Rows.{RowValue, IsRow, SpellRows, texts}
 use Rattle.text_commands.specs.Steps.Refusing.{RefusesLadder, RefusesRows}
 use Rattle.text_commands.specs.declared.text_command_fault.TextCommandFault.{TextCommandFault}
 use Rattle.text_commands.specs.declared.text_command_fault.TextCommandFault.TheVariants.{Text, Word, Write, Memory}
+use Rattle.needed_networks.specs.Needs.{IsIdle}
+use Rattle.needed_networks.specs.Slices.{kept_networks}
+use Rattle.needed_networks.specs.declared.slice.Slice.{Slice}
 use Rattle.verifying.specs.declared.asked.Asked.{Asked}
+use Rattle.verifying.specs.declared.needed.Sliced.{Sliced}
+use Rattle.verifying.specs.declared.verify_command.Marked.{Marked}
 use Rattle.verifying.specs.declared.setup.Setting.{Setting}
 use Rattle.verifying.specs.declared.verdict.Verdict.{Verdict}
 use Rattle.verifying.specs.declared.verdict.Verdict.TheVariants.{Holds, Fails, Undecided}
 use Rattle.power_flow.specs.LadderValue.{LadderValue}
-use Rattle.power_flow.specs.Meaning.{Moment}
-use Rattle.verifying.specs.Runs.{HasInputs, IsBoolAt, Leads, SetupValue}
-use Rattle.verifying.specs.Verdicts.{AreVerdicts, IsVerdict}
+use Rattle.verifying.specs.Runs.{HasInputs, IsBoolAt, SetupValue}
+use Rattle.verifying.specs.Needed.{AreIdle, IsSearched, needed_places, whole_row}
+use Rattle.verifying.specs.Verdicts.{AreVerdicts}
 use Rattle.verifying.specs.Inputs.{AreFree, AreInputs, IsInput}
 use Rattle.verifying.specs.Stores.{stored_places}
 use Rattle.verifying.specs.Premises.{HasTimer, IsTimed}
 use Rattle.verifying.specs.Questions.{HoldsInput, HoldsNoInput, IsClaim, IsNoClaim, QuestionValue}
 use Rattle.verifying.specs.VerifyText.{ExplainsAnswer, IsSetup}
 use Rattle.verifying.specs.Steps.Adding.{AreWholeRows, FitsSetup}
-use Rattle.verifying.specs.Steps.Asking.{AreHeldBy, IsAsked, IsPrepared, RefusesAsking, RefusesFree, RefusesHolding, RefusesPreparing}
+use Rattle.verifying.specs.Steps.Asking.{AreHeldBy, IsAsked, IsPrepared, RefusesAsking, RefusesHolding, RefusesPreparing}
+use Rattle.verifying.specs.Steps.Wholes.{AreWholeVerdicts, IsMarkedLadder, IsSliced, IsSliceOrAll, IsWholeVerdict, RefusesFew, needed_count, searched_of, slice_setup}
 use Rattle.verifying.specs.Steps.Marks.{AreConstantsOf, AreMarksOf, AreUnmarked, ClaimsRead, ClaimsRefused, GivenRefused, HeldRead, HeldRefused, HoldsOf, HoldsNoneOf, IsClaimOf, IsNoClaimOf}
 use Rattle.verifying.specs.declared.verify_fault.ClaimFaultKind.{ClaimFaultKind}
 use Rattle.verifying.specs.declared.verify_fault.ClaimFaultKind.TheVariants.{NoVariable, NeverStored}
@@ -223,46 +233,17 @@ holding_refused drawing q ds networks marks (Held fault) ladder are refused = he
 holding_refused drawing q ds networks marks (TooManyInputs count) ladder are refused = absurd refused
 holding_refused drawing q ds networks marks NoTime ladder are refused = absurd refused
 
-free_refused : (drawing : List ℕ) (q : QuestionValue) (ds : List Declaration) (networks : List Diagram) (marks : List Bool) (held : List Setting) (places given : List ℕ) (fault : VerifyFault) → IsLadderOfDrawing drawing ds networks
-    → AreLadderMarks ds networks marks → AreHeldBy ds marks q.words held → ClaimsRead ds marks q.claims places → ClaimsRead ds marks q.given given → RefusesFree ds marks held fault → RefusesPreparing drawing q fault
-free_refused drawing q ds networks marks held places given (Command (Text fault)) ladder are by claimed givens refused = absurd refused
-free_refused drawing q ds networks marks held places given (Command (Word fault)) ladder are by claimed givens refused = absurd refused
-free_refused drawing q ds networks marks held places given (Command Write) ladder are by claimed givens refused = absurd refused
-free_refused drawing q ds networks marks held places given (Command Memory) ladder are by claimed givens refused = tt
-free_refused drawing q ds networks marks held places given (Claim fault) ladder are by claimed givens refused = absurd refused
-free_refused drawing q ds networks marks held places given (Given fault) ladder are by claimed givens refused = absurd refused
-free_refused drawing q ds networks marks held places given (Held fault) ladder are by claimed givens refused = absurd refused
-free_refused drawing q ds networks marks held places given NoTime ladder are by claimed givens refused = absurd refused
-free_refused drawing q ds networks marks held places given (TooManyInputs count) ladder are by claimed givens refused = record {
-  declarations = ds;
-  networks = networks;
-  ladder = ladder;
-  rows = by.rows;
-  read = by.read;
-  held = held;
-  holds = held_of ds networks marks q.words by.rows held are by.read.each by.each;
-  places = places;
-  claims = claims_of ds networks marks q.claims places are claimed;
-  given = given;
-  givens = claims_of ds networks marks q.given given are givens;
-  free = refused.free;
-  are_free = free_of ds networks marks held refused.free are refused.are;
-  many = refused.many;
-  count_is = refused.count_is;
-}
-
 pub asking_refused : (drawing : List ℕ) (q : QuestionValue) (ds : List Declaration) (networks : List Diagram) (marks : List Bool) (fault : VerifyFault) → IsLadderOfDrawing drawing ds networks
     → AreLadderMarks ds networks marks → RefusesAsking ds marks q fault → RefusesPreparing drawing q fault
 asking_refused drawing q ds networks marks fault ladder are (inl refused) = holding_refused drawing q ds networks marks fault ladder are refused
 asking_refused drawing q ds networks marks fault ladder are (inr (inl refused)) = claims_refused drawing q ds networks marks refused.held fault ladder are refused.by refused.refused
 asking_refused drawing q ds networks marks fault ladder are (inr (inr (inl refused))) = given_refused drawing q ds networks marks refused.held refused.claims fault ladder are refused.by refused.claimed refused.refused
-asking_refused drawing q ds networks marks fault ladder are (inr (inr (inr refused))) = free_refused drawing q ds networks marks refused.held refused.claims refused.given fault ladder are refused.by refused.claimed refused.givens refused.refused
+asking_refused drawing q ds networks marks fault ladder are (inr (inr (inr memory))) = subst (RefusesPreparing drawing q) (sym memory) tt
 
 inputs_of : (ds : List Declaration) (networks : List Diagram) (words : List (List ℕ)) (rows : List RowValue) (held : List Setting) (free : List ℕ) → AllZip (IsRow ds) words rows
-    → AllZip (HoldsInput ds networks) rows held → AreFree ds networks held free → length free ≤ 20 → AreInputs ds networks free held
-inputs_of ds networks words rows held free read holds are few = record {
+    → AllZip (HoldsInput ds networks) rows held → AreFree ds networks held free → AreInputs ds networks free held
+inputs_of ds networks words rows held free read holds are = record {
   are_free = are;
-  few = few;
   are_held = λ k d lt.
       let s = get_or held k d in
       let row = zip_back (HoldsInput ds networks) rows held holds k s (slice_get-get_or held k d lt) in
@@ -276,7 +257,6 @@ inputs_of ds networks words rows held free read holds are few = record {
 has_inputs : (ds : List Declaration) (networks : List Diagram) (free : List ℕ) (held : List Setting) → AreInputs ds networks free held → HasInputs ds free held
 has_inputs ds networks free held are = record {
   free = λ k d lt. ((are.are_free.each (get_or free k d)).0 (k, lt, get_or_default free k (get_or free k d) d lt)).0.bool;
-  few = are.few;
   held = λ k d lt. (are.are_held k d lt).bool;
 }
 
@@ -284,7 +264,7 @@ asked_inputs : (ds : List Declaration) (networks : List Diagram) (marks : List B
     → AreInputs ds networks a.free.items a.held.items
 asked_inputs ds networks marks q a are asked =
     inputs_of ds networks q.words asked.by.rows a.held.items a.free.items asked.by.read.each (held_of ds networks marks q.words asked.by.rows a.held.items are asked.by.read.each asked.by.each)
-    (free_of ds networks marks a.held.items a.free.items are asked.few.0) asked.few.1
+    (free_of ds networks marks a.held.items a.free.items are asked.free)
 
 pub asked_has_inputs : (ds : List Declaration) (networks : List Diagram) (marks : List Bool) (q : QuestionValue) (a : Asked) → AreLadderMarks ds networks marks → IsAsked ds marks q a
     → HasInputs ds a.free.items a.held.items
@@ -306,53 +286,148 @@ asked_setup drawing q l marks a ladder are asked = record {
   given = claims_of l.declarations l.networks marks q.given a.given.items are asked.givens;
 }
 
-pub asked_prepared : (drawing : List ℕ) (q : QuestionValue) (l : LadderValue) (marks : List Bool) (a : Asked) (constants : List ℕ) → IsLadderOfDrawing drawing l.declarations l.networks
-    → AreLadderMarks l.declarations l.networks marks → IsAsked l.declarations marks q a → IsTimed l.declarations q.dt → AreConstantsOf l.declarations marks (length l.declarations) constants
-    → IsPrepared drawing q (setup_of l q.dt a) a.claims.items constants
-asked_prepared drawing q l marks a constants ladder are asked timed found = record {
-  is = asked_setup drawing q l marks a ladder are asked;
-  claims = claims_of l.declarations l.networks marks q.claims a.claims.items are asked.claimed;
+-- where nothing is idle, all is needed
+nothing_idle : (place : ℕ) → IsIdle [] place → ⊥
+nothing_idle place on = cc
+
+all_needed : (ds : List Declaration) (networks : List Diagram) (claims given : List ℕ) → AreIdle ds networks claims given []
+all_needed ds networks claims given = record {
+  omitted = [];
+  closed = λ k d at e place in' touched on. nothing_idle place on;
+  claims = λ k d lt on. nothing_idle (get_or claims k d) on;
+  given = λ k d lt on. nothing_idle (get_or given k d) on;
+}
+
+kept_all : (networks : List Diagram) → kept_networks [] networks ≡ networks
+kept_all [] = refl
+kept_all (d ∷ networks) = ap (λ l. d ∷ l) (kept_all networks)
+
+needed_all : (places : List ℕ) → needed_places [] places ≡ places
+needed_all [] = refl
+needed_all (p ∷ places) = ap (λ l. p ∷ l) (needed_all places)
+
+-- what doesn't matter, whether there is a slice or not
+pub idle_of : (l : LadderValue) (claims given : List ℕ) (idle : List Bool) (slice : Option Slice) → IsSliceOrAll l claims given idle slice → AreIdle l.declarations l.networks claims given idle
+idle_of l claims given idle None is = subst (AreIdle l.declarations l.networks claims given) (sym is) (all_needed l.declarations l.networks claims given)
+idle_of l claims given idle (Some s) is = is.are_idle
+
+-- what is searched
+searched_by : (l : LadderValue) (dt : ℕ) (a : Asked) (idle : List Bool) (slice : Option Slice) (needed : List ℕ) → IsSliceOrAll l a.claims.items a.given.items idle slice
+    → needed ≡ needed_places idle a.free.items → length needed ≤ 20
+    → IsSearched (setup_of l dt a) a.claims.items idle (searched_of (option_map (slice_setup dt needed a.held.items a.given.items) slice) (setup_of l dt a))
+unfolding all_needed
+searched_by l dt a idle None needed is same few =
+    let free : needed ≡ a.free.items = same ∙ ap (λ i. needed_places i a.free.items) is ∙ needed_all a.free.items in
+    let long : length needed ≡ length a.free.items = ap length free in
+    subst (λ i. IsSearched (setup_of l dt a) a.claims.items i (setup_of l dt a)) (sym is) (record {
+      are_idle = all_needed l.declarations l.networks a.claims.items a.given.items;
+      declarations = refl;
+      networks = sym (kept_all l.networks);
+      dt = refl;
+      free = sym (needed_all a.free.items);
+      held = refl;
+      given = refl;
+      few = omega arith;
+    })
+searched_by l dt a idle (Some s) needed is same few = record {
+  are_idle = is.are_idle;
+  declarations = is.declarations;
+  networks = is.networks;
+  dt = refl;
+  free = same;
+  held = refl;
+  given = refl;
+  few = few;
+}
+
+needed_by : (l : LadderValue) (dt : ℕ) (a : Asked) (idle : List Bool) (slice : Option Slice) (needed : List ℕ) (networks : ℕ) → IsSliceOrAll l a.claims.items a.given.items idle slice
+    → networks ≡ length l.networks
+    → needed_count slice networks ≡ length (searched_of (option_map (slice_setup dt needed a.held.items a.given.items) slice) (setup_of l dt a)).ladder.networks
+needed_by l dt a idle None needed networks is count = count
+needed_by l dt a idle (Some s) needed networks is count = is.count
+
+pub asked_prepared : (drawing : List ℕ) (q : QuestionValue) (m : Marked) (a : Asked) (s : Sliced) (needed constants : List ℕ) → IsLadderOfDrawing drawing m.ladder.declarations m.ladder.networks
+    → IsMarkedLadder m → IsAsked m.ladder.declarations m.marks.items q a → IsSliced m.ladder a.claims.items a.given.items s → needed ≡ needed_places s.idle.items a.free.items → length needed ≤ 20
+    → IsTimed m.ladder.declarations q.dt → AreConstantsOf m.ladder.declarations m.marks.items (length m.ladder.declarations) constants
+    → IsPrepared drawing q (setup_of m.ladder q.dt a) s.idle.items (searched_of (option_map (slice_setup q.dt needed a.held.items a.given.items) s.slice) (setup_of m.ladder q.dt a)) a.claims.items constants
+    (needed_count s.slice m.networks) m.networks
+asked_prepared drawing q m a s needed constants ladder marked asked sliced same few timed found = record {
+  is = asked_setup drawing q m.ladder m.marks.items a ladder marked.marks asked;
+  claims = claims_of m.ladder.declarations m.ladder.networks m.marks.items q.claims a.claims.items marked.marks asked.claimed;
+  searched = searched_by m.ladder q.dt a s.idle.items s.slice needed sliced same few;
   timed = timed;
-  are_constants = constants_of l.declarations l.networks marks constants are found;
+  are_constants = constants_of m.ladder.declarations m.ladder.networks m.marks.items constants marked.marks found;
+  needed_is = needed_by m.ladder q.dt a s.idle.items s.slice needed m.networks sliced marked.count;
+  networks_is = marked.count;
+}
+
+-- too many free inputs matter
+pub few_refused : (drawing : List ℕ) (q : QuestionValue) (m : Marked) (a : Asked) (s : Sliced) (fault : VerifyFault) → IsLadderOfDrawing drawing m.ladder.declarations m.ladder.networks
+    → IsMarkedLadder m → IsAsked m.ladder.declarations m.marks.items q a → IsSliced m.ladder a.claims.items a.given.items s → RefusesFew s.idle.items a.free.items fault → RefusesPreparing drawing q fault
+few_refused drawing q m a s (Command fault) ladder marked asked sliced memory = subst (RefusesPreparing drawing q) (sym memory) tt
+few_refused drawing q m a s (Claim fault) ladder marked asked sliced memory = subst (RefusesPreparing drawing q) (sym memory) tt
+few_refused drawing q m a s (Given fault) ladder marked asked sliced memory = subst (RefusesPreparing drawing q) (sym memory) tt
+few_refused drawing q m a s (Held fault) ladder marked asked sliced memory = subst (RefusesPreparing drawing q) (sym memory) tt
+few_refused drawing q m a s NoTime ladder marked asked sliced memory = subst (RefusesPreparing drawing q) (sym memory) tt
+few_refused drawing q m a s (TooManyInputs count) ladder marked asked sliced refused = let l = m.ladder in record {
+  declarations = l.declarations;
+  networks = l.networks;
+  ladder = ladder;
+  rows = asked.by.rows;
+  read = asked.by.read;
+  held = a.held.items;
+  holds = held_of l.declarations l.networks m.marks.items q.words asked.by.rows a.held.items marked.marks asked.by.read.each asked.by.each;
+  places = a.claims.items;
+  claims = claims_of l.declarations l.networks m.marks.items q.claims a.claims.items marked.marks asked.claimed;
+  given = a.given.items;
+  givens = claims_of l.declarations l.networks m.marks.items q.given a.given.items marked.marks asked.givens;
+  free = a.free.items;
+  are_free = free_of l.declarations l.networks m.marks.items a.held.items a.free.items marked.marks asked.free;
+  idle = s.idle.items;
+  are_idle = idle_of l a.claims.items a.given.items s.idle.items s.slice sliced;
+  many = refused.0;
+  count_is = refused.1;
 }
 
 -- a timer stands still where no time passes
-pub time_refused : (drawing : List ℕ) (q : QuestionValue) (l : LadderValue) (marks : List Bool) (a : Asked) (fault : VerifyFault) → IsLadderOfDrawing drawing l.declarations l.networks
-    → AreLadderMarks l.declarations l.networks marks → IsAsked l.declarations marks q a → (fault ≡ NoTime) × (q.dt ≡ 0) × HasTimer l.declarations → RefusesPreparing drawing q fault
-time_refused drawing q l marks a fault ladder are asked (none, still, timer) = subst (RefusesPreparing drawing q) (sym none) (record {
-  setup = setup_of l q.dt a;
-  is = asked_setup drawing q l marks a ladder are asked;
-  places = a.claims.items;
-  claims = claims_of l.declarations l.networks marks q.claims a.claims.items are asked.claimed;
-  still = still;
-  timer = timer;
-})
+pub time_refused : (drawing : List ℕ) (q : QuestionValue) (m : Marked) (a : Asked) (s : Sliced) (needed : List ℕ) (fault : VerifyFault) → IsLadderOfDrawing drawing m.ladder.declarations m.ladder.networks
+    → IsMarkedLadder m → IsAsked m.ladder.declarations m.marks.items q a → IsSliced m.ladder a.claims.items a.given.items s → needed ≡ needed_places s.idle.items a.free.items → length needed ≤ 20
+    → (fault ≡ NoTime) × (q.dt ≡ 0) × HasTimer m.ladder.declarations → RefusesPreparing drawing q fault
+time_refused drawing q m a s needed fault ladder marked asked sliced same few (none, still, timer) =
+    let long : length needed ≡ length (needed_places s.idle.items a.free.items) = ap length same in
+    subst (RefusesPreparing drawing q) (sym none) (record {
+      setup = setup_of m.ladder q.dt a;
+      is = asked_setup drawing q m.ladder m.marks.items a ladder marked.marks asked;
+      places = a.claims.items;
+      claims = claims_of m.ladder.declarations m.ladder.networks m.marks.items q.claims a.claims.items marked.marks asked.claimed;
+      idle = s.idle.items;
+      are_idle = idle_of m.ladder a.claims.items a.given.items s.idle.items s.slice sliced;
+      few = omega arith;
+      still = still;
+      timer = timer;
+    })
 
--- each row of a run has a value for each free input
-whole_more : (u : SetupValue) (row : List Bool) (rows : List (List Bool)) → length row ≡ length u.free → AreWholeRows u rows
-    → (k : ℕ) (d : List Bool) → k < length (row ∷ rows) → length (get_or (row ∷ rows) k d) ≡ length u.free
-whole_more u row rows whole others zero d lt = whole
-whole_more u row rows whole others (suc k) d lt = others k d (omega arith)
+-- each row of a run of the whole has a value for each free input
+fits_of : (u : SetupValue) (idle : List Bool) (found told : Verdict) → IsWholeVerdict idle u.free found told → FitsSetup u told
+fits_of u idle found Holds is = tt
+fits_of u idle found (Undecided depth) is = tt
+fits_of u idle Holds (Fails whole) is = absurd cc
+fits_of u idle (Undecided depth) (Fails whole) is = absurd cc
+fits_of u idle (Fails rows) (Fails whole) is =
+    subst (AreWholeRows u) (sym is) (All-map (λ (row : List Bool). length row ≡ length u.free) (whole_row idle u.free) rows.items (λ k d lt. length-whole_row idle u.free (get_or rows.items k d)))
 
-leads_whole : (u : SetupValue) (s : Moment) (rows : List (List Bool)) (t : Moment) → Leads u s rows t → AreWholeRows u rows
-leads_whole u s [] t leads = λ k d lt. absurd (omega arith)
-leads_whole u s (row ∷ rows) t (between, step, rest) = λ k d lt. whole_more u row rows step.scan.whole (leads_whole u between rows t rest) k d lt
-
-fits_of : (u : SetupValue) (most scans place : ℕ) (v : Verdict) → IsVerdict u most scans place v → FitsSetup u v
-fits_of u most scans place Holds is = tt
-fits_of u most scans place (Fails rows) is = leads_whole u _ rows.items is.last is.run
-fits_of u most scans place (Undecided depth) is = tt
-
-pub verdicts_fit : (u : SetupValue) (most scans : ℕ) (places : List ℕ) (verdicts : List Verdict) → AreVerdicts u most scans places verdicts → All (FitsSetup u) verdicts
-verdicts_fit u most scans places verdicts are = λ k d lt.
-    let inside : k < length places = let l = are.long in omega arith in
-    fits_of u most scans (get_or places k 0) (get_or verdicts k d) (are.each k (get_or places k 0) (get_or verdicts k d) (slice_get-get_or places k 0 inside) (slice_get-get_or verdicts k d lt))
+pub verdicts_fit : (u : SetupValue) (idle : List Bool) (found told : List Verdict) → AreWholeVerdicts idle u.free found told → All (FitsSetup u) told
+verdicts_fit u idle found told whole = all_from_places (FitsSetup u) told (λ k verdict at.
+    let old = zip_back (IsWholeVerdict idle u.free) found told whole k verdict at in
+    fits_of u idle old.0 verdict old.2)
 
 -- a verdict for each name
-pub names_long : (u : SetupValue) (most scans : ℕ) (names : List (Bor (List ℕ))) (places : List ℕ) (verdicts : List Verdict) → AllZip (IsClaim u.ladder.declarations u.ladder.networks) (texts names) places
-    → AreVerdicts u most scans places verdicts → length verdicts ≡ length names
-names_long u most scans names places verdicts claims are =
-    are.long ∙ sym (zip_length (IsClaim u.ladder.declarations u.ladder.networks) (texts names) places claims) ∙ length-map names (λ w. w.now)
+pub names_long : (u v : SetupValue) (most scans : ℕ) (names : List (Bor (List ℕ))) (places : List ℕ) (idle : List Bool) (found told : List Verdict)
+    → AllZip (IsClaim u.ladder.declarations u.ladder.networks) (texts names) places
+    → AreVerdicts v most scans places found → AreWholeVerdicts idle u.free found told → length told ≡ length names
+names_long u v most scans names places idle found told claims are whole =
+    sym (zip_length (IsWholeVerdict idle u.free) found told whole) ∙ are.long
+    ∙ sym (zip_length (IsClaim u.ladder.declarations u.ladder.networks) (texts names) places claims) ∙ length-map names (λ w. w.now)
 
 -- before anything is written
 pub preparing_explained : (drawing : List ℕ) (q : QuestionValue) (old : Option (List ℕ)) (fault : VerifyFault) → RefusesPreparing drawing q fault → ExplainsAnswer drawing q old old fault

@@ -5,6 +5,8 @@ pub mod Leading
 pub mod Growing
 pub mod Tracing
 pub mod Answering
+pub mod Rows
+pub mod Slicing
 pub mod Beginning
 pub mod Exploring
 pub mod Counting
@@ -18,3 +20,4 @@ pub mod Telling
 pub mod Joining
 pub mod Summing
 pub mod Asking
+pub mod Wholes

@@ -2,6 +2,7 @@ pub mod Runs
 pub mod Meeting
 pub mod Verdicts
 pub mod Counts
+pub mod Needed
 pub mod Stores
 pub mod Inputs
 pub mod Questions

@@ -4,3 +4,4 @@ pub mod Table
 pub mod Marks
 pub mod Asking
 pub mod Adding
+pub mod Wholes

@@ -1,5 +1,5 @@
 -- How verdicts are written.
-use Rattle.std.specs.Prelude.{◌≡◌, ℕ, ◌==◌, ◌++◌, if◌then◌else◌, List, [], ◌∷◌, Bool, codes, length, map, slice_get, slice_index_or, true, false, nat_lt, ◌||◌, ◌&&◌, not}
+use Rattle.std.specs.Prelude.{◌≡◌, ℕ, ◌==◌, ◌++◌, if◌then◌else◌, List, [], ◌∷◌, Bool, codes, length, map, slice_get, slice_index_or, false, nat_lt, ◌||◌, ◌&&◌, not}
 use Rattle.std.specs.Fmt.{decimal}
 use Rattle.std.specs.List.{enumerate_from, flat_map, join_by}
 use Rattle.std.specs.Option.{option_map_or}
@@ -35,13 +35,23 @@ name_at ds place = option_map_or (λ (d : Declaration). d.name) (slice_get ds pl
 abbrev pub unmet : SetupValue → List ℕ
 unmet u = codes ": no run meets " ++ join_by (name_at u.ladder.declarations) (codes ", ") u.given ++ codes "\n"
 
--- how much was looked at; or, where no run meets what is given, that
-abbrev pub held_in : SetupValue → Bool → ℕ → ℕ → List ℕ
-held_in u true states scans = looked_at states scans
-held_in u false states scans = unmet u
+-- how many networks were needed, where that are fewer than there are
+abbrev pub needed_of : ℕ → ℕ → List ℕ
+needed_of needed networks =
+    if needed == networks then [] else codes ", " ++ decimal needed ++ codes " of " ++ decimal networks ++ codes " networks"
 
-abbrev pub holds_line : SetupValue → Bool → List ℕ → ℕ → ℕ → List ℕ
-holds_line u met name states scans = codes "HOLDS " ++ name ++ codes " is never on" ++ held_in u met states scans
+-- how much was looked at, of how many networks
+abbrev pub searched_in : Tally → List ℕ
+searched_in t =
+    codes ": " ++ counted t.states (codes "state") ++ codes ", " ++ counted t.scans (codes "scan")
+    ++ needed_of t.needed t.networks ++ codes "\n"
+
+-- how much was looked at; or, where no run meets what is given, that
+abbrev pub held_in : SetupValue → Tally → List ℕ
+held_in u t = if t.met then searched_in t else unmet u
+
+abbrev pub holds_line : SetupValue → Tally → List ℕ → List ℕ
+holds_line u t name = codes "HOLDS " ++ name ++ codes " is never on" ++ held_in u t
 
 -- a digit for a value
 abbrev pub digit_of : Bool → ℕ
@@ -97,7 +107,7 @@ pub record IsFailText (u : SetupValue) (file name : List ℕ) (rows : List (List
 
 -- the text of a verdict
 abbrev pub IsVerdictText : SetupValue → List ℕ → Tally → List ℕ → Verdict → List ℕ → Type 0
-IsVerdictText u file t name Holds text = text ≡ holds_line u t.met name t.states t.scans
+IsVerdictText u file t name Holds text = text ≡ holds_line u t name
 IsVerdictText u file t name (Fails rows) text = IsFailText u file name rows.items text
 IsVerdictText u file t name (Undecided depth) text = text ≡ undecided_line name depth t.states t.scans
 

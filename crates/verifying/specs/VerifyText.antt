@@ -1,5 +1,5 @@
 -- What `plc verify` writes.
-use Rattle.std.specs.Prelude.{◌≡◌, ◌↔◌, ℕ, ◌<◌, ◌++◌, List, All, IsTrue, Option, length}
+use Rattle.std.specs.Prelude.{◌≡◌, ◌↔◌, ℕ, ◌<◌, ◌≤◌, ◌++◌, List, Bool, All, IsTrue, Option, length}
 use Rattle.std.specs.List.{AllZip}
 use Rattle.std.specs.Io.KnownBytes.{Appends, Keeps}
 use Rattle.network.specs.Links.{Diagram}
@@ -12,7 +12,7 @@ use Rattle.verifying.specs.declared.setup.Setting.{Setting}
 use Rattle.verifying.specs.declared.verdict.Tally.{Tally}
 use Rattle.verifying.specs.declared.verdict.Verdict.{Verdict}
 use Rattle.verifying.specs.Runs.{HasRun, SetupValue}
-use Rattle.verifying.specs.Verdicts.{AreVerdicts}
+use Rattle.verifying.specs.Needed.{AreIdle, AreToldVerdicts, IsSearched, needed_places}
 use Rattle.verifying.specs.Counts.{AreCounts}
 use Rattle.verifying.specs.Inputs.{AreFree, AreInputs}
 use Rattle.verifying.specs.Questions.{IsClaim, IsFirstClaimFault, HoldsInput, IsFirstHeldFault, QuestionValue}
@@ -35,19 +35,25 @@ pub record IsSetup (drawing : List ℕ) (q : QuestionValue) (u : SetupValue) : T
   pub inputs : AreInputs u.ladder.declarations u.ladder.networks u.free u.held
   pub given : AllZip (IsClaim u.ladder.declarations u.ladder.networks) q.given u.given
 
--- A text that answers the question: the ladder with its inputs, the claims at their places, a verdict for each that is
--- proved of all runs, with the numbers of states and scans and whether there is a run at all, and the text of all that; and
--- behind it a line of what the answers depend on. Where there is a timer, time passes.
+-- A text that answers the question: the ladder with its inputs, the claims at their places, what is searched in its place, a
+-- verdict for each claim that is proved of all runs of the whole ladder, with the numbers of states and scans, of networks
+-- that were needed and of all, and whether there is a run at all, and the text of all that; and behind it a line of what
+-- the answers depend on. Where there is a timer, time passes.
 pub record IsAnswer (drawing : List ℕ) (q : QuestionValue) (text : List ℕ) : Type 0 where
   pub setup : SetupValue
   pub is : IsSetup drawing q setup
   pub places : List ℕ
   pub claims : AllZip (IsClaim setup.ladder.declarations setup.ladder.networks) q.claims places
+  pub idle : List Bool
+  pub searched : SetupValue
+  pub is_searched : IsSearched setup places idle searched
   pub verdicts : List Verdict
   pub tally : Tally
-  pub proved : AreVerdicts setup q.most_states tally.scans places verdicts
-  pub counts : All (AreCounts setup q.most_states tally.states tally.scans) verdicts
+  pub proved : AreToldVerdicts setup searched q.most_states tally.scans places verdicts
+  pub counts : All (AreCounts searched q.most_states tally.states tally.scans) verdicts
   pub met : IsTrue tally.met ↔ HasRun setup
+  pub needed : tally.needed ≡ length searched.ladder.networks
+  pub networks : tally.networks ≡ length setup.ladder.networks
   pub lines : List ℕ
   pub texts : AreTexts setup q.file tally q.claims verdicts lines
   pub timed : IsTimed setup.ladder.declarations q.dt
@@ -102,7 +108,7 @@ pub record RefusesGiven (drawing : List ℕ) (q : QuestionValue) (fault : ClaimF
   pub claims : AllZip (IsClaim declarations networks) q.claims places
   pub first : IsFirstClaimFault declarations networks q.given fault
 
--- the words hold inputs of the drawing's ladder, the names are claims of it, and so many inputs are free, more than 20
+-- the words hold inputs of the drawing's ladder, the names are claims of it, and so many free inputs matter, more than 20
 pub record HasManyInputs (drawing : List ℕ) (q : QuestionValue) (count : ℕ) : Type 0 where
   pub declarations : List Declaration
   pub networks : List Diagram
@@ -117,15 +123,21 @@ pub record HasManyInputs (drawing : List ℕ) (q : QuestionValue) (count : ℕ) 
   pub givens : AllZip (IsClaim declarations networks) q.given given
   pub free : List ℕ
   pub are_free : AreFree declarations networks held free
-  pub many : 20 < length free
-  pub count_is : count ≡ length free
+  pub idle : List Bool
+  pub are_idle : AreIdle declarations networks places given idle
+  pub many : 20 < length (needed_places idle free)
+  pub count_is : count ≡ length (needed_places idle free)
 
--- the words hold inputs of the drawing's ladder, the names are claims of it, and it has a timer, but no time passes
+-- the words hold inputs of the drawing's ladder, the names are claims of it, few free inputs matter, and it has a timer, but
+-- no time passes
 pub record LacksTime (drawing : List ℕ) (q : QuestionValue) : Type 0 where
   pub setup : SetupValue
   pub is : IsSetup drawing q setup
   pub places : List ℕ
   pub claims : AllZip (IsClaim setup.ladder.declarations setup.ladder.networks) q.claims places
+  pub idle : List Bool
+  pub are_idle : AreIdle setup.ladder.declarations setup.ladder.networks places setup.given idle
+  pub few : length (needed_places idle setup.free) ≤ 20
   pub still : q.dt ≡ 0
   pub timer : HasTimer setup.ladder.declarations
 

@@ -4,14 +4,14 @@ ghost use Rattle.std.specs.Prelude.{◌≡◌, ◌++◌, ℕ, List, OnOk, IfOk, 
 ghost use Rattle.text_lines.specs.Growing.{GrowsBy};
 ghost use Rattle.text_commands.specs.Rows.{texts};
 ghost use Rattle.std.specs.List.{join_by};
-ghost use Rattle.verifying.specs.VerdictLines.{AreTexts, IsFailText, IsVerdictText, counted, fails_line, held_in, holds_line, looked_at, name_at, undecided_line, unmet};
+ghost use Rattle.verifying.specs.VerdictLines.{AreTexts, IsFailText, IsVerdictText, counted, fails_line, held_in, holds_line, looked_at, name_at, needed_of, searched_in, undecided_line, unmet};
 ghost use Rattle.verifying.specs.Steps.Adding.{AddsFailText, AddsVerdictText, AreWholeRows, FitsSetup};
 
 use crate::names::name_at;
 use crate::row::Row;
 use crate::run_lines::run_lines;
 use crate::setup::Setup;
-use crate::verdict::{Outcome, Tally, Verdict};
+use crate::verdict::{Tally, Verdict};
 use crate::verdict_words::{can_be_words, push_eval_line};
 use declared_names::Declarations;
 use std::alloc::{AllocError, Global};
@@ -65,19 +65,43 @@ fn push_unmet(text: &mut String, setup: &Setup) -> Result<(), AllocError>
     Ok(())
 }
 
+/// Writes how many networks were needed, where that are fewer than there are.
+fn push_needed_of(text: &mut String, needed: usize, networks: usize) -> Result<(), AllocError>
+    ensures { OnOk result (GrowsBy text.old text.new (needed_of needed networks)) }
+{
+    if needed == networks {
+        Ok(())
+    } else {
+        write!(text, ", {needed} of {networks} networks")
+    }
+}
+
+/// Writes how much was looked at, of how many networks, and a line feed.
+fn push_searched_in(text: &mut String, tally: Tally) -> Result<(), AllocError>
+    ensures { OnOk result (GrowsBy text.old text.new (searched_in tally)) }
+{
+    text.push_str(": ")?;
+    push_counted(text, tally.states, "state")?;
+    text.push_str(", ")?;
+    push_counted(text, tally.scans, "scan")?;
+    push_needed_of(text, tally.needed, tally.networks)?;
+    text.push_str("\n")?;
+    Ok(())
+}
+
 /// Writes how much was looked at, or that no run meets what is given.
 fn push_held_in(text: &mut String, setup: &Setup, tally: Tally) -> Result<(), AllocError>
-    ensures { OnOk result (GrowsBy text.old text.new (held_in setup.now tally.met tally.states tally.scans)) }
+    ensures { OnOk result (GrowsBy text.old text.new (held_in setup.now tally)) }
 {
     if tally.met {
-        push_looked_at(text, tally.states, tally.scans)
+        push_searched_in(text, tally)
     } else {
         push_unmet(text, setup)
     }
 }
 
 fn push_holds(text: &mut String, setup: &Setup, name: &str, tally: Tally) -> Result<(), AllocError>
-    ensures { OnOk result (GrowsBy text.old text.new (holds_line setup.now tally.met name.now tally.states tally.scans)) }
+    ensures { OnOk result (GrowsBy text.old text.new (holds_line setup.now tally name.now)) }
 {
     text.push_str("HOLDS ")?;
     text.push_str(name)?;
@@ -170,20 +194,16 @@ pub(crate) fn verdict_texts(
     setup: &Setup,
     file: &str,
     names: &[&str],
-    outcome: &Outcome,
+    tally: Tally,
+    verdicts: &[Verdict],
 ) -> Result<String, AllocError>
-    requires long { length outcome.now.verdicts.items ≡ length names.now }
-    requires fits { All (FitsSetup setup.now) outcome.now.verdicts.items }
-    ensures { IfOk result (λ text. AreTexts setup.now file.now outcome.now.tally (texts names.now)
-        outcome.now.verdicts.items (string_bytes text)) }
+    requires long { length verdicts.now ≡ length names.now }
+    requires fits { All (FitsSetup setup.now) verdicts.now }
+    ensures { IfOk result (λ text. AreTexts setup.now file.now tally (texts names.now) verdicts.now (string_bytes text)) }
 {
-    let told = Told {
-        setup,
-        file,
-        tally: outcome.tally,
-    };
+    let told = Told { setup, file, tally };
     let mut text = String::new(alloc);
-    for (k, verdict) in outcome.verdicts.iter().enumerate() {
+    for (k, verdict) in verdicts.iter().enumerate() {
         push_verdict(alloc, &mut text, &told, names[k], verdict)?;
     }
     Ok(text)

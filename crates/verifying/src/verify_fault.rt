@@ -54,7 +54,7 @@ pub enum VerifyFault {
     /// A word holds no input.
     #[error(transparent)]
     Held(HeldFault),
-    /// So many inputs are free, more than 20.
+    /// So many free inputs matter to what is asked, more than 20.
     #[error("{0} inputs are free, and at most 20 may be: hold some by words NAME=BIT")]
     TooManyInputs(usize),
     /// The drawing has a timer, and no time passes from scan to scan.

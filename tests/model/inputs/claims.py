@@ -1,44 +1,169 @@
-"""Claims about drawings, by chance."""
+"""Claims about drawings, by chance, of which many need only a part."""
+import functools
 import os
-import tempfile
+import re
 
-from rules import words
-from rules.commands import Files, Refused
-from rules.verify import stored_names
+from rules import needed, words
+from rules.commands import SHAPES, ladder_of, question_of_drawing, read_words
+from rules.refusal import Refusal
+from rules.verify import MOST_INPUTS, Search, copied, key_of, stored_names, verdict_lines
 
-from .drawings import cased, drawing
+from .drawings import Drawer, Names, cased, drawing
+from .pieces import in_a_row, symbol
 
 # With more free inputs the model takes long.
 MOST_FREE = 4
+# A verdict is compared with a search through the whole drawing where that takes no more scans.
+MOST_SCANS = 800
+FIRST_LETTERS = ("ABCD", "EFGH", "JKLM")
+SOME_BLOCKS = ["SR", "RS", "SR", "RS", "CTU", "CTD", "CTUD", "TON", "TOF", "TP"]
 
 
-def names_of(text):
-    """The BOOLs of a drawing: those that it stores, and its inputs; None where it isn't read."""
-    with tempfile.TemporaryDirectory() as folder:
-        with open(os.path.join(folder, "it.ladder"), "w", encoding="utf-8", newline="") as file:
-            file.write(text)
-        try:
-            ladder = Files(folder).ladder("it.ladder")
-        except Refused:
-            return None
+class SmallDrawer(Drawer):
+    def literal(self, kind):
+        return self.chance.choice(["0", "1", "2", "3"] if kind == "INT" else ["T#0ms", "T#10ms", "T#20ms", "T#30ms"])
+
+
+def group_of(chance, letters):
+    """Names that no other group has; some are never stored."""
+    bits = list(letters[: chance.randint(2, 4)])
+    reads = {"BOOL": bits, "INT": [f"N{letters[0]}"], "TIME": [f"Z{letters[0]}"]}
+    boxes = [(f"T{letters[0]}{k}", chance.choice(SOME_BLOCKS)) for k in range(chance.choice([0, 1, 1, 2, 2]))]
+    return Names(reads, {**reads, "BOOL": bits[len(bits) // 2 :]}, boxes)
+
+
+def groups(chance):
+    """The rungs of groups of names, in any order. Of another group some read a name; some store one."""
+    drawers = [SmallDrawer(chance, group_of(chance, it)) for it in FIRST_LETTERS[: chance.choice([2, 2, 3])]]
+    for one, other in zip(drawers, drawers[1:]):
+        if chance.random() < 0.5:
+            one, other = chance.sample([one, other], 2)
+            one.names.reads["BOOL"] = [*one.names.reads["BOOL"], chance.choice(other.names.stores["BOOL"])]
+        if chance.random() < 0.15:
+            one.names.stores["BOOL"] = [*one.names.stores["BOOL"], chance.choice(other.names.stores["BOOL"])]
+    rungs = [it.any_rung(True) for it in drawers for _ in range(chance.randint(1, 4))]
+    if chance.random() < 0.1:
+        rungs.append(wide_rung(chance.choice("AEZ")))
+    chance.shuffle(rungs)
+    rungs += [claim_rung(it, f"NEVER{k}") for k, it in enumerate(drawers)]
+    return "".join(f"{row}\n" for rung in rungs for row in [*rung, "|"])
+
+
+def claim_rung(drawer, name):
+    """A rung of some contacts, and a coil of this name."""
+    contacts = [drawer.contact() for _ in range(drawer.chance.randint(2, 4))]
+    piece = in_a_row([*contacts, symbol("( )", name, 0)])
+    return ["|" + piece.rows[0], "+" + piece.rows[1]]
+
+
+def wide_rung(name):
+    """A rung of as many inputs as may be free, and one more."""
+    piece = in_a_row([*(symbol("| |", f"I{k}", 0) for k in range(MOST_INPUTS + 1)), symbol("( )", name, 0)])
+    return ["|" + piece.rows[0], "+" + piece.rows[1]]
+
+
+def read_ladder(text):
+    """The ladder of a text; None where it is refused."""
+    try:
+        return ladder_of(text)
+    except Refusal:
+        return None
+
+
+def names_of(ladder):
+    """The BOOLs of a ladder: those that it stores, and its inputs."""
     bits = [it.name for it in ladder.declarations if it.role != "Instance" and it.kind == "BOOL"]
     stored = stored_names(ladder.drawing)
     return [it for it in bits if words.fold(it) in stored], [it for it in bits if words.fold(it) not in stored]
 
 
 def claims(chance):
-    """A drawing, with words that ask what of it is never on. All but a few of its inputs are held."""
+    """A drawing, with words that ask what of it is never on. All but a few of the inputs that this needs are held."""
     while True:
-        files, _ = drawing(chance)
-        names = names_of(files["it.ladder"])
-        if names and names[0]:
+        text = drawing(chance)[0]["it.ladder"] if chance.random() < 0.3 else groups(chance)
+        ladder = read_ladder(text)
+        if ladder and names_of(ladder)[0]:
             break
-    stored, inputs = names
-    given = ["verify", "it.ladder", "--most-states", str(chance.choice([0, 1, 5, 40, 200]))]
+    stored, inputs = names_of(ladder)
+    given = ["verify", "it.ladder", "--most-states", str(chance.choice([0, 1, 5, 40, 200, 200, 200, 200]))]
     given += ["--dt", str(chance.choice([0, 1, 1, 10, 10, 25, 1000, 1000]))] * (chance.random() < 0.9)
-    for name in chance.sample(stored, min(len(stored), chance.randint(1, 3))):
-        given += ["--never", cased(chance, name)]
-    for name in chance.sample(stored, min(len(stored), chance.choice([0, 0, 0, 1, 1, 2]))):
-        given += ["--given", cased(chance, name)]
-    held = chance.sample(inputs, max(0, len(inputs) - chance.randint(0, MOST_FREE)))
-    return files, [given + [f"{cased(chance, name)}={chance.randint(0, 1)}" for name in held]]
+    drawn = [it for it in stored if it.startswith("NEVER")]
+    claimed = chance.sample(drawn if drawn and chance.random() < 0.7 else stored, 1)
+    claimed += chance.sample(stored, min(len(stored), chance.choice([0, 0, 0, 1, 2])))
+    assumed = chance.sample(stored, min(len(stored), chance.choice([0, 0, 0, 0, 0, 1, 1, 2])))
+    for option, names in (("--never", claimed), ("--given", assumed)):
+        for name in names:
+            given += [option, cased(chance, name)]
+    held = held_of(chance, ladder, [*claimed, *assumed], inputs)
+    return {"it.ladder": text}, [given + [f"{cased(chance, name)}={chance.randint(0, 1)}" for name in held]]
+
+
+def held_of(chance, ladder, names, inputs):
+    """All but a few of the inputs that networks read which these names need, and some others. Mostly of more than there may be
+    none is held."""
+    networks = needed.needed_networks(ladder.networks, map(words.fold, names))
+    read = needed.names_of(networks)
+    own, others = [it for it in inputs if words.fold(it) in read], [it for it in inputs if words.fold(it) not in read]
+    if len(own) > MOST_INPUTS and chance.random() < 0.8:
+        return []
+    return chance.sample(own, max(0, len(own) - chance.randint(0, MOST_FREE))) + [it for it in others if chance.random() < 0.2]
+
+
+# What is told of a part, beside the whole drawing.
+
+
+def looked_through(given, folder, written, who):
+    """What is told of claims, and behind each verdict what a search through all networks tells, if it is another."""
+    with open(os.path.join(folder, "it.ladder"), encoding="utf-8", newline="") as file:
+        found = written and whole_of(file.read(), tuple(given))
+    if not found:
+        return written
+    names = iter(it for option, it in zip(given, given[1:]) if option == "--never")
+    told, ahead = [], written.splitlines()
+    while ahead:
+        line = ahead.pop(0)
+        if line.startswith(("HOLDS", "FAILS", "UNDECIDED")):
+            of_whole = list(verdict_lines(found, next(names), given[1]))
+            if not agree(found, [line, *ahead[: len(of_whole) - 1]], of_whole):
+                line += f", which is the {who}'s answer, but of the whole drawing {' '.join(of_whole)}"
+        told.append(line)
+    return "".join(f"{it}\n" for it in told)
+
+
+@functools.lru_cache(maxsize=1)
+def whole_of(text, given):
+    """The search through all networks, with each input that is free; None where it is long."""
+    _, options, more = read_words(SHAPES["verify"], given[1:])
+    question = question_of_drawing(ladder_of(text), options, more)
+    rows = 2 ** len(question.free)
+    if rows > MOST_SCANS:
+        return None
+    found = Search(question, question.ladder, MOST_SCANS // rows).search()
+    return found if found.depth is None or found.runs.keys() == set(question.claims) else None
+
+
+def agree(found, told, of_whole):
+    """Whether a verdict says of a part what the whole has: the same run, no run that is too short, or HOLDS with its counts."""
+    if told[0].startswith("FAILS"):
+        return told == of_whole
+    if told[0].startswith("UNDECIDED"):
+        depth = int(re.search(r"within (\d+) scans?: ", told[0])[1])
+        return not of_whole[0].startswith("FAILS") or depth < int(re.search(r"after (\d+) scans?$", of_whole[0])[1])
+    counted = re.search(r": (\d+) states?, (\d+) scans?(?:, \d+ of \d+ networks)?$", told[0])
+    return of_whole[0].startswith("HOLDS") and (tuple(map(int, counted.groups())) == counts_of_part(found) if counted else told == of_whole)
+
+
+def counts_of_part(found):
+    """Of the states of the whole those that differ in what the networks needed read or change, and the scans of these."""
+    part = found.question.part()
+    states = len({key_of(only(it.state, part.networks)) for it in found.met})
+    return states, states * 2 ** len(found.question.free_in(part))
+
+
+def only(state, networks):
+    """Of a state what some networks read or change, and their memories."""
+    part, names = copied(state), needed.names_of(networks)
+    part.values = {name: it for name, it in part.values.items() if name in names}
+    part.blocks = {name: it for name, it in part.blocks.items() if name in names}
+    part.memories = {place: it for place, it in part.memories.items() if any(place in it.places for it in networks)}
+    return part

@@ -3,6 +3,8 @@ from .core import Core, Message, left_by
 from .journals import Evaluated, Hello, Restart, Start, runs_of, told_of
 
 MOST_ABOVE = 1_000_000
+# So many restarts may be of no START or RESTART that was noted, in all journals together.
+MOST_UNNOTED = 1_000_000
 
 
 class Stop(Exception):
@@ -80,13 +82,21 @@ class Journal:
             self.core = self.core or Core(self.plant, self.resource, item.kept)
             if self.core.left != item.kept:
                 raise Stop("Kept")
+        unnoted = item.incarnation - self.incarnation - 1
+        if self.audit.unnoted + unnoted > MOST_UNNOTED:
+            raise Stop(f"TooHigh {item.incarnation}")
         self.core.begin(item.incarnation)
         self.incarnations.add(item.incarnation)
+        self.audit.unnoted += unnoted
 
     def hear(self, hello):
-        maker = self.audit.journal_of(hello.resource)
-        if self.core.is_news(hello.resource, hello.incarnation) and maker.incarnation < hello.incarnation:
-            raise Wait(hello.resource, hello.incarnation, f"{hello.resource.name} {hello.incarnation}")
+        maker, told = self.audit.journal_of(hello.resource), f"{hello.resource.name} {hello.incarnation}"
+        if not self.core.is_news(hello.resource, hello.incarnation):
+            return
+        if maker.incarnation < hello.incarnation:
+            raise Wait(hello.resource, hello.incarnation, told)
+        if hello.incarnation not in maker.incarnations and hello.incarnation > min(maker.incarnations):
+            raise Stop(f"Missing {told}")
         self.core.hear(hello.resource, hello.incarnation)
 
     def accept(self, message):
@@ -111,7 +121,7 @@ class Journal:
 class Audit:
     def __init__(self, plant, texts):
         """`texts` are the journals, each by its path."""
-        self.plant, self.entries, self.book = plant, {}, []
+        self.plant, self.entries, self.book, self.unnoted = plant, {}, [], 0
         parted = [(path, runs_of(plant, path, text)) for path, text in texts]
         runs = [run for _, those in parted for run in those]
         self.empty = [path for path, those in parted if not those]

@@ -22,7 +22,7 @@ from .test_words import BadWord, tests_of
 from .traces import Track, diagram, dump
 from .warnings import warnings_of, warnings_of_plant
 from . import verify_plant
-from .verify import MOST_INPUTS, TIMERS, Search, line_of, premises, stored_names, verdict_lines
+from .verify import MOST_INPUTS, TIMERS, Question, Search, line_of, premises, stored_names, verdict_lines
 
 REFUSED_TEXT, REFUSED_WORDS, NO_FILE, DIFFERS, UNDECIDED = 1, 2, 3, 4, 5
 CLAIM_FAILS = DIFFERS
@@ -200,13 +200,18 @@ class Files:
 
     def ladder(self, path):
         try:
-            drawing = drawing_of(self.text(path))
-            networks = networks_of(drawing)
-            declarations = guessed(drawing)
-            refuse_names(drawing, declarations)
-            return Ladder(drawing, networks, declarations)
+            return ladder_of(self.text(path))
         except Refusal as refusal:
             raise Refused(REFUSED_TEXT, f"{path}:{refusal.line}:{refusal.column}: {refusal.kind}") from None
+
+
+def ladder_of(text):
+    """The ladder of the text of a drawing, its names declared by their use."""
+    drawing = drawing_of(text)
+    networks = networks_of(drawing)
+    declarations = guessed(drawing)
+    refuse_names(drawing, declarations)
+    return Ladder(drawing, networks, declarations)
 
 
 def drawing_of(text):
@@ -346,7 +351,19 @@ def question_of(plant, options, more):
 
 
 def verify_drawing(write, files, paths, options, more):
-    ladder = files.ladder(paths[0])
+    question = question_of_drawing(files.ladder(paths[0]), options, more)
+    found = Search(question, question.part(), options.get("--most-states", MOST_STATES)).search()
+    for name in options["--never"]:
+        for line in verdict_lines(found, name, paths[0]):
+            write(line)
+    if told := premises(question):
+        write("given " + ", ".join(told))
+    warnings = warnings_of(question.ladder.drawing, question.ladder.networks)
+    end_with_warnings(paths[0], warnings, options, CLAIM_FAILS if found.runs else UNDECIDED if found.depth is not None else 0)
+
+
+def question_of_drawing(ladder, options, more):
+    """What words ask of a drawing."""
     bits = [words.fold(it.name) for it in ladder.declarations if it.role != "Instance" and it.kind == "BOOL"]
     stored = stored_names(ladder.drawing)
     held = held_of(more, bits)
@@ -354,17 +371,12 @@ def verify_drawing(write, files, paths, options, more):
     given = [words.fold(it) for it in options.get("--given", ())]
     free = [it for it in bits if it not in stored and it not in held]
     is_timed = options.get("--dt", 0) or not any(it.role == "Instance" and it.kind in TIMERS for it in ladder.declarations)
-    if stored & set(held) or not {*claims, *given} <= stored & set(bits) or len(free) > MOST_INPUTS or not is_timed:
+    if stored & set(held) or not {*claims, *given} <= stored & set(bits) or not is_timed:
         raise Refused(REFUSED_WORDS)
-    found = Search(ladder, options.get("--dt", 0), free, held, claims, given, options.get("--most-states", 1_000_000))
-    found.search()
-    for name in options["--never"]:
-        for line in verdict_lines(found, name, paths[0]):
-            write(line)
-    if told := premises(found, stored):
-        write("given " + ", ".join(told))
-    warnings = warnings_of(ladder.drawing, ladder.networks)
-    end_with_warnings(paths[0], warnings, options, CLAIM_FAILS if found.runs else UNDECIDED if found.depth is not None else 0)
+    question = Question(ladder, options.get("--dt", 0), free, held, claims, given)
+    if len(question.free_in(question.part())) > MOST_INPUTS:
+        raise Refused(REFUSED_WORDS)
+    return question
 
 
 def held_of(given, bits):

@@ -6,7 +6,8 @@ import subprocess
 from concurrent.futures import ThreadPoolExecutor
 
 PLC = os.environ["PLC"]
-# Two coils that are never on together, two that are as they like, and 20 inputs: 12 states, each scanned with 2^20 rows.
+# Two coils that are never on together, two that are as they like, all of which the claim reads, and 20 inputs: 12 states, each
+# scanned with 2^20 rows.
 MORE = [f"I{number}" for number in range(17)]
 
 
@@ -19,7 +20,7 @@ DRAWING = (
     + rung(["DOWN", "UP", "STOP", "LOWER"], ["| |", "|/|", "|/|", "( )"])
     + rung(["I0", "M0"], ["| |", "( )"])
     + rung(["I1", "M1"], ["| |", "( )"])
-    + rung(["LIFT", "LOWER", *MORE, "CLASH"], ["| |"] * (2 + len(MORE)) + ["( )"])
+    + rung(["LIFT", "LOWER", "M0", "M1", *MORE[2:], "CLASH"], ["| |"] * (2 + len(MORE)) + ["( )"])
 )
 ANSWER = b"HOLDS CLASH is never on: 12 states, 12582912 scans\n"
 # As much as a drawing may have: a scan takes long.

@@ -1,5 +1,5 @@
 -- A resource that goes through its lines, and what comes of one.
-use Rattle.std.specs.Prelude.{◌≡◌, ◌≢◌, ◌⊎◌, ℕ, ◌+◌, ◌-◌, ◌<◌, ◌≤◌, Bool, true, false, List, Contains, Option, Some, None, length, reverse, slice_get, if◌then◌else◌}
+use Rattle.std.specs.Prelude.{◌≡◌, ◌≢◌, ◌⊎◌, ℕ, ◌+◌, ◌-◌, ◌<◌, ◌≤◌, Bool, true, false, List, Contains, Option, Some, None, length, reverse, slice_get, sum, if◌then◌else◌}
 use Rattle.std_blocks.specs.declared.value.Value.{Value}
 use Rattle.plant.specs.PlantValue.{PlantValue}
 use Rattle.evaluation.specs.declared.field_input.FieldInput.{FieldInput}
@@ -25,7 +25,8 @@ use Rattle.audit.specs.declared.standing.Standing.{Standing}
 use Rattle.audit.specs.declared.standing.Standing.TheVariants.{Going, Ended}
 use Rattle.audit.specs.declared.trail.Trail.{Trail}
 use Rattle.audit.specs.Lines.{zeros, AreLeft, Rises, OpensWith, WasUndone, WasDone, Does, ticket_at, StandsAt}
-use Rattle.audit.specs.Reasons.{begins, IsNoLine, IsAbove, OpensOtherwise, WouldTake, WouldHear, IsOther, IsUnfit}
+use Rattle.audit.specs.Reasons.{begins, IsNoLine, IsAbove, SkipsTooMany, IsTooHigh, OpensOtherwise, WouldTake, WouldHear, IsOther, IsUnfit}
+use Rattle.audit.specs.Steps.AuditedBook.{AuditedBook}
 
 -- no START that opens the task stands next
 abbrev pub OpensNot : Option Item → ℕ → Type 0
@@ -59,11 +60,20 @@ abbrev pub IsNotRisen : ℕ → ℕ → Reason → Type 0
 IsNotRisen present i why =
     ((why ≡ reason.NotRisen i) × (i ≤ present)) ⊎ ((why ≡ reason.TooHigh i) × (present + 1000000 < i))
 
+-- why one that rises as it may can't be done: too many are skipped in all
+abbrev pub IsSkipping : AuditedBook → ℕ → ℕ → Reason → Type 0
+IsSkipping b present i why = (why ≡ reason.TooHigh i) × IsAbove present i × SkipsTooMany (sum b.skips) present i
+
+-- why a restart can't be done
+abbrev pub IsNoRestart : AuditedBook → ℕ → ℕ → Reason → Type 0
+IsNoRestart b present i why = IsNotRisen present i why ⊎ IsSkipping b present i why
+
 -- why a START can't be done
-abbrev pub IsNoStart : StationValue → ℕ → List (List Value) → Reason → Type 0
-IsNoStart s i kept why =
+abbrev pub IsNoStart : AuditedBook → StationValue → ℕ → List (List Value) → Reason → Type 0
+IsNoStart b s i kept why =
     IsNotRisen s.core.incarnation i why
     ⊎ ((why ≡ reason.Kept) × IsAbove s.core.incarnation i × (AreLeft s.journal kept → ⊥))
+    ⊎ (AreLeft s.journal kept × IsSkipping b s.core.incarnation i why)
 
 -- the book has this evaluation, which is of this name
 pub record IsEntry (book : BookValue) (name : Name) (x : Evaluated) : Type 0 where
@@ -75,17 +85,17 @@ abbrev pub IsMisfitOf : BookValue → Evaluated → Misfit → Type 0
 IsMisfitOf book x misfit = IsMisfit book.first (reverse book.entries) x misfit × (misfit ≢ Memory)
 
 -- what came of a restart
-abbrev pub HasRisen : ℕ → ℕ → StationValue → Standing → Outcome → Type 0
-HasRisen ticket incarnation old to Done = (new : StationValue) × (to ≡ Going new) × Rises old new ticket incarnation
-HasRisen ticket incarnation old to (Waits need) = ⊥
-HasRisen ticket incarnation old to (Stops why) = (to ≡ Going old) × IsNotRisen old.core.incarnation incarnation why
+abbrev pub HasRisen : AuditedBook → ℕ → ℕ → StationValue → Standing → Outcome → Type 0
+HasRisen b ticket incarnation old to Done = (new : StationValue) × (to ≡ Going new) × Rises old new ticket incarnation
+HasRisen b ticket incarnation old to (Waits need) = ⊥
+HasRisen b ticket incarnation old to (Stops why) = (to ≡ Going old) × IsNoRestart b old.core.incarnation incarnation why
 
 -- what came of a START
-abbrev pub HasStarted : ℕ → List (List Value) → StationValue → Standing → Outcome → Type 0
-HasStarted incarnation kept old to Done =
+abbrev pub HasStarted : AuditedBook → ℕ → List (List Value) → StationValue → Standing → Outcome → Type 0
+HasStarted b incarnation kept old to Done =
     (new : StationValue) × (to ≡ Going new) × AreLeft old.journal kept × Rises old new 0 incarnation
-HasStarted incarnation kept old to (Waits need) = ⊥
-HasStarted incarnation kept old to (Stops why) = (to ≡ Going old) × IsNoStart old incarnation kept why
+HasStarted b incarnation kept old to (Waits need) = ⊥
+HasStarted b incarnation kept old to (Stops why) = (to ≡ Going old) × IsNoStart b old incarnation kept why
 
 -- whether an evaluation was noted and never done
 abbrev pub IsUndone : CoreValue → Option Item → ℕ → ℕ → ℕ → List FieldInput → Bool → Type 0
@@ -105,22 +115,22 @@ WouldNeed s item (Evaluation name) = (m : MessageValue) × WouldTake s item m ×
 WouldNeed s item (Incarnation n i) = WouldHear s item n i
 
 -- this is why a line can't be done, whatever others do
-abbrev pub IsStop : BookValue → StationValue → Item → Reason → Type 0
-IsStop book s item reason.Syntax = IsNoLine s item
-IsStop book s item (reason.NotRisen i) = (begins i item ≡ true) × (i ≤ s.core.incarnation)
-IsStop book s item (reason.TooHigh i) = (begins i item ≡ true) × (s.core.incarnation + 1000000 < i)
-IsStop book s item reason.Kept = OpensOtherwise s item
-IsStop book s item (reason.Differs name) = IsOther book s item name
-IsStop book s item (reason.Unmade name) = ⊥
-IsStop book s item (reason.Waits need) = ⊥
-IsStop book s item (reason.Missing need) = ⊥
-IsStop book s item (reason.Misfit misfit) = IsUnfit book s item misfit
+abbrev pub IsStop : AuditedBook → StationValue → Item → Reason → Type 0
+IsStop b s item reason.Syntax = IsNoLine s item
+IsStop b s item (reason.NotRisen i) = (begins i item ≡ true) × (i ≤ s.core.incarnation)
+IsStop b s item (reason.TooHigh i) = (begins i item ≡ true) × IsTooHigh (sum b.skips) s item i
+IsStop b s item reason.Kept = OpensOtherwise s item
+IsStop b s item (reason.Differs name) = IsOther b.book s item name
+IsStop b s item (reason.Unmade name) = ⊥
+IsStop b s item (reason.Waits need) = ⊥
+IsStop b s item (reason.Missing need) = ⊥
+IsStop b s item (reason.Misfit misfit) = IsUnfit b.book s item misfit
 
 -- what came of a line at which the resource doesn't end: it was done, which is this; or it is as before
-abbrev pub Meets : BookValue → Type 0 → StationValue → StationValue → Item → Outcome → Type 0
-Meets book did old new item Done = did
-Meets book did old new item (Waits need) = (new ≡ old) × WouldNeed old item need
-Meets book did old new item (Stops why) = (new ≡ old) × IsStop book old item why
+abbrev pub Meets : AuditedBook → Type 0 → StationValue → StationValue → Item → Outcome → Type 0
+Meets b did old new item Done = did
+Meets b did old new item (Waits need) = (new ≡ old) × WouldNeed old item need
+Meets b did old new item (Stops why) = (new ≡ old) × IsStop b old item why
 
 -- a resource that stops is as before, or has its journal left
 abbrev pub HasStopped : StationValue → Standing → Type 0
@@ -128,10 +138,10 @@ HasStopped old (Going s) = s ≡ old
 HasStopped old (Ended j) = j ≡ old.journal
 
 -- what came of a line
-abbrev pub Comes : BookValue → ℕ → Option Item → Item → StationValue → Standing → Outcome → Type 0
-Comes book ticket next item old to Done = (new : StationValue) × (to ≡ Going new) × Does ticket next item old new
-Comes book ticket next item old to (Waits need) = (to ≡ Going old) × WouldNeed old item need
-Comes book ticket next item old to (Stops why) = HasStopped old to × IsStop book old item why
+abbrev pub Comes : AuditedBook → ℕ → Option Item → Item → StationValue → Standing → Outcome → Type 0
+Comes b ticket next item old to Done = (new : StationValue) × (to ≡ Going new) × Does ticket next item old new
+Comes b ticket next item old to (Waits need) = (to ≡ Going old) × WouldNeed old item need
+Comes b ticket next item old to (Stops why) = HasStopped old to × IsStop b old item why
 
 -- the resource where its lines have led it
 abbrev pub IsLed : StationValue → Standing → Outcome → Type 0
@@ -141,15 +151,15 @@ IsLed s (Ended j) (Waits need) = ⊥
 IsLed s (Ended j) (Stops why) = j ≡ s.journal
 
 -- what is known of the next line, where it was tried
-abbrev pub IsTried : BookValue → StationValue → Option Line → Outcome → Type 0
-IsTried book s line Done = Unit {0}
-IsTried book s None (Waits need) = ⊥
-IsTried book s (Some line) (Waits need) = WouldNeed s line.item need
-IsTried book s None (Stops why) = ⊥
-IsTried book s (Some line) (Stops why) = IsStop book s line.item why
+abbrev pub IsTried : AuditedBook → StationValue → Option Line → Outcome → Type 0
+IsTried b s line Done = Unit {0}
+IsTried b s None (Waits need) = ⊥
+IsTried b s (Some line) (Waits need) = WouldNeed s line.item need
+IsTried b s None (Stops why) = ⊥
+IsTried b s (Some line) (Stops why) = IsStop b s line.item why
 
 -- a resource of the plant has come so far in its lines
-pub record IsFollowing (plant : PlantValue) (book : BookValue) (n : ℕ) (lines : List Line) (standing : Standing) (trail : Trail)
+pub record IsFollowing (plant : PlantValue) (b : AuditedBook) (n : ℕ) (lines : List Line) (standing : Standing) (trail : Trail)
     : Type 0 where
   pub station : StationValue
   pub reached : StandsAt plant n lines trail.at station
@@ -158,10 +168,10 @@ pub record IsFollowing (plant : PlantValue) (book : BookValue) (n : ℕ) (lines 
   pub ticket_is : ticket_at lines trail.at ≡ trail.at - trail.begun
   pub left : AreLeft station.journal trail.past.left.items
   pub within : trail.at ≤ length lines
-  pub tried : IsTried book station (slice_get lines trail.at) trail.last
+  pub tried : IsTried b station (slice_get lines trail.at) trail.last
 
-abbrev pub IsFollowed : PlantValue → BookValue → ℕ → Follower → Type 0
-IsFollowed plant book n f = IsFollowing plant book n f.lines.items f.standing f.trail
+abbrev pub IsFollowed : PlantValue → AuditedBook → ℕ → Follower → Type 0
+IsFollowed plant b n f = IsFollowing plant b n f.lines.items f.standing f.trail
 
 -- a resource before its first line
 abbrev pub HasBegun : PlantValue → ℕ → List (List Value) → Standing → Type 0

@@ -1,5 +1,5 @@
 -- Resources of which none can go on, and what is told of them.
-use Rattle.std.specs.Prelude.{◌≡◌, ◌⊎◌, ℕ, zero, suc, ◌<◌, ◌++◌, List, [], Option, Some, None, length, map, slice_get, slice_index}
+use Rattle.std.specs.Prelude.{◌≡◌, ◌⊎◌, ℕ, zero, suc, ◌++◌, List, [], Option, Some, None, length, map, slice_get}
 use Rattle.node_reports.specs.Stations.{StationValue}
 use Rattle.audit.specs.declared.line.Line.{Line}
 use Rattle.audit.specs.declared.line.Place.{Place}
@@ -12,20 +12,15 @@ use Rattle.audit.specs.declared.reason.Reason.{Reason}
 use Rattle.audit.specs.declared.reason.Reason.TheVariants as reason
 use Rattle.audit.specs.declared.reason.Unshown.{Unshown}
 use Rattle.audit.specs.declared.trail.Trail.{Trail}
-use Rattle.audit.specs.Reasons.{Course, incarnation_of, IsOver, MayBeIn, WasNotMade}
+use Rattle.audit.specs.Reasons.{Course, incarnation_of, IsGone, IsOver, MayBeIn, WasNotMade}
 use Rattle.audit.specs.Told.{IsTold, without_start}
-use Rattle.audit.specs.Steps.Standings.{AuditedBook, journal_in}
+use Rattle.audit.specs.Steps.Standings.{AuditedBook, CanBeHeard, journal_in}
 use Rattle.audit.specs.Steps.Following.{IsTried}
 
 -- what is needed isn't there
 abbrev pub IsUnmet : AuditedBook → Need → Type 0
 IsUnmet b (Evaluation name) = WasNotMade b.book name
-IsUnmet b (Incarnation n i) = slice_index b.present n < i
-
--- where an incarnation is needed, the resource has only come to a lower one
-abbrev pub IsAhead : ℕ → Need → Type 0
-IsAhead present (Evaluation name) = Unit {0}
-IsAhead present (Incarnation n i) = present < i
+IsUnmet b (Incarnation n i) = CanBeHeard b n i → ⊥
 
 -- a line that wasn't done leaves the book as it was, and what it waits for isn't there
 abbrev pub Leaves : AuditedBook → AuditedBook → Outcome → Type 0
@@ -71,13 +66,13 @@ IsReasonFor maker need (reason.Differs name) = ⊥
 IsReasonFor maker need (reason.Unmade name) = (need ≡ Evaluation name) × IsOver maker (incarnation_of need)
 IsReasonFor maker need (reason.Waits n) = (n ≡ need) × MayBeIn maker (incarnation_of need)
 IsReasonFor maker need (reason.Missing n) =
-    (n ≡ need) × (IsOver maker (incarnation_of need) → ⊥) × (MayBeIn maker (incarnation_of need) → ⊥)
+    (n ≡ need) × (IsGone maker need → ⊥) × (MayBeIn maker (incarnation_of need) → ⊥)
 IsReasonFor maker need (reason.Misfit misfit) = ⊥
 
 -- what is told of a resource is so of any that has come where it stands
 abbrev pub IsToldOf : AuditedBook → List Follower → Follower → List Unshown → Type 0
 IsToldOf b fs f unshown =
-    (s : StationValue) → IsTried b.book s (slice_get f.lines.items f.trail.at) f.trail.last
+    (s : StationValue) → IsTried b s (slice_get f.lines.items f.trail.at) f.trail.last
     → IsTold b.book (courses_of fs) (slice_get f.lines.items f.trail.at) s unshown
 
 -- what is told of the first resources

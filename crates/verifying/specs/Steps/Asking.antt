@@ -1,5 +1,5 @@
 -- What is known before the search.
-use Rattle.std.specs.Prelude.{◌≡◌, ◌⊎◌, ℕ, ◌<◌, ◌≤◌, List, Bool, length}
+use Rattle.std.specs.Prelude.{◌≡◌, ◌⊎◌, ℕ, List, Bool, length}
 use Rattle.std.specs.List.{AllZip}
 use Rattle.declared_names.specs.declared.declarations.Declaration.{Declaration}
 use Rattle.text_commands.specs.EvalText.{RefusesDrawing, RefusesWords}
@@ -7,6 +7,7 @@ use Rattle.text_commands.specs.Rows.{IsFirstRefused, RowValue, SpellNoRows, Spel
 use Rattle.text_commands.specs.declared.text_command_fault.TextCommandFault.TheVariants.{Text, Word, Write, Memory}
 use Rattle.verifying.specs.declared.setup.Setting.{Setting}
 use Rattle.verifying.specs.Runs.{SetupValue}
+use Rattle.verifying.specs.Needed.{IsSearched}
 use Rattle.verifying.specs.Questions.{IsClaim, QuestionValue}
 use Rattle.verifying.specs.Summaries.{IsSummary}
 use Rattle.verifying.specs.Premises.{AreConstants, IsTimed}
@@ -41,28 +42,6 @@ RefusesHolding ds marks words (Held fault) = IsHeldFaultIn ds marks words fault
 RefusesHolding ds marks words (TooManyInputs count) = ⊥
 RefusesHolding ds marks words NoTime = ⊥
 
--- the free inputs, 20 at most
-abbrev pub AreFew : List Declaration → List Bool → List Setting → List ℕ → Type 0
-AreFew ds marks held free = AreUnmarked ds marks held (length ds) free × (length free ≤ 20)
-
--- there are more
-pub record AreMany (ds : List Declaration) (marks : List Bool) (held : List Setting) (count : ℕ) : Type 0 where
-  pub free : List ℕ
-  pub are : AreUnmarked ds marks held (length ds) free
-  pub many : 20 < length free
-  pub count_is : count ≡ length free
-
-abbrev pub RefusesFree : List Declaration → List Bool → List Setting → VerifyFault → Type 0
-RefusesFree ds marks held (Command (Text fault)) = ⊥
-RefusesFree ds marks held (Command (Word fault)) = ⊥
-RefusesFree ds marks held (Command Write) = ⊥
-RefusesFree ds marks held (Command Memory) = Unit {0}
-RefusesFree ds marks held (Claim fault) = ⊥
-RefusesFree ds marks held (Given fault) = ⊥
-RefusesFree ds marks held (Held fault) = ⊥
-RefusesFree ds marks held (TooManyInputs count) = AreMany ds marks held count
-RefusesFree ds marks held NoTime = ⊥
-
 -- the words hold inputs, and this is why the names are no claims
 pub record RefusesClaimsOf (ds : List Declaration) (marks : List Bool) (q : QuestionValue) (fault : VerifyFault) : Type 0 where
   pub held : List Setting
@@ -77,34 +56,29 @@ pub record RefusesGivenOf (ds : List Declaration) (marks : List Bool) (q : Quest
   pub claimed : ClaimsRead ds marks q.claims claims
   pub refused : GivenRefused ds marks q.given fault
 
--- the words hold inputs, the names are claims, names are given, and this is why there are no free inputs
-pub record RefusesFreeOf (ds : List Declaration) (marks : List Bool) (q : QuestionValue) (fault : VerifyFault) : Type 0 where
-  pub held : List Setting
-  pub by : AreHeldBy ds marks q.words held
-  pub claims : List ℕ
-  pub claimed : ClaimsRead ds marks q.claims claims
-  pub given : List ℕ
-  pub givens : ClaimsRead ds marks q.given given
-  pub refused : RefusesFree ds marks held fault
-
 -- the places of the claims, of what is given and of the inputs, where the marks tell what is stored
 pub record IsAsked (ds : List Declaration) (marks : List Bool) (q : QuestionValue) (a : Asked) : Type 0 where
   pub by : AreHeldBy ds marks q.words a.held.items
   pub claimed : ClaimsRead ds marks q.claims a.claims.items
   pub givens : ClaimsRead ds marks q.given a.given.items
-  pub few : AreFew ds marks a.held.items a.free.items
+  pub free : AreUnmarked ds marks a.held.items (length ds) a.free.items
 
 -- why there are none
 abbrev pub RefusesAsking : List Declaration → List Bool → QuestionValue → VerifyFault → Type 0
 RefusesAsking ds marks q fault = RefusesHolding ds marks q.words fault
-    ⊎ (RefusesClaimsOf ds marks q fault ⊎ (RefusesGivenOf ds marks q fault ⊎ RefusesFreeOf ds marks q fault))
+    ⊎ (RefusesClaimsOf ds marks q fault ⊎ (RefusesGivenOf ds marks q fault ⊎ (fault ≡ Command Memory)))
 
--- the ladder with its inputs, the places of the claims, and the constants
-pub record IsPrepared (drawing : List ℕ) (q : QuestionValue) (u : SetupValue) (places constants : List ℕ) : Type 0 where
+-- the ladder with its inputs, what is searched in its place, the places of the claims, the constants, and how many networks
+-- are needed and how many there are
+pub record IsPrepared (drawing : List ℕ) (q : QuestionValue) (u : SetupValue) (idle : List Bool) (v : SetupValue) (places constants : List ℕ)
+    (needed networks : ℕ) : Type 0 where
   pub is : IsSetup drawing q u
   pub claims : AllZip (IsClaim u.ladder.declarations u.ladder.networks) q.claims places
+  pub searched : IsSearched u places idle v
   pub timed : IsTimed u.ladder.declarations q.dt
   pub are_constants : AreConstants u.ladder.declarations u.ladder.networks constants
+  pub needed_is : needed ≡ length v.ladder.networks
+  pub networks_is : networks ≡ length u.ladder.networks
 
 -- why there is none
 abbrev pub RefusesPreparing : List ℕ → QuestionValue → VerifyFault → Type 0

@@ -1,18 +1,19 @@
 -- The journals and the book agree in the end, since each resource has stood from its beginning on.
-use Rattle.std.proofs.Common.{◌≡◌, ◌∙◌, All, List, length, sym, ap, subst}
+use Rattle.std.proofs.Common.{◌≡◌, ◌≤◌, ◌∙◌, All, List, length, sym, ap, subst}
 use Rattle.plant.specs.PlantValue.{PlantValue}
 use Rattle.book.specs.Book.{BookValue}
 use Rattle.node_reports.specs.declared.journal.Journal.{Journal}
 use Rattle.node_reports.specs.Journals.{firsts_of, IsLawful}
 use Rattle.node_reports.specs.Reports.{RunsAgain, IsAgreeFault}
-use Rattle.audit.specs.Delivered.{AreDelivered}
+use Rattle.audit.specs.Delivered.{AreDelivered, AreHeardTruly}
+use Rattle.audit.specs.Reasons.{skipped_in}
 use Rattle.audit.specs.Steps.Standings.{AuditedBook, empty_book, AreFrom}
 use Rattle.audit.specs.Readings.{AreReadings}
 use Rattle.audit.specs.declared.line.Place.{Place}
 use Rattle.audit.specs.Told.{all_without}
 use Rattle.audit.specs.Steps.Settled.{HaveTold}
 use Rattle.audit.specs.declared.follower.Follower.{Follower}
-use Rattle.audit.proofs.GoingOn.{audited_agree, disagrees_not, lines_of}
+use Rattle.audit.proofs.GoingOn.{all_heard, audited_agree, disagrees_not, few_skipped, lines_of, many_skips}
 use Rattle.audit.proofs.Tellings.{told_by}
 use Rattle.audit.proofs.auditing.audit.Goals as goal
 
@@ -75,3 +76,23 @@ returns-clause-told c =
 pub all_unshown-requires-clause-stand : goal.all_unshown-requires-clause-stand
 all_unshown-requires-clause-stand c =
     subst (λ (fs : List Follower). AreFrom c.go_on.new.book 0 fs) (sym c.as_slice.ensures.value) c.in_ok-followers-2.ensures.stand
+
+pub all_unshown-requires-clause-many : goal.all_unshown-requires-clause-many
+all_unshown-requires-clause-many c =
+    let begins : c.in_ok-book.book ≡ empty_book c.args.plant.value = c.in_ok-book.ensures ∙ ap (λ (p : PlantValue). empty_book p) c.in_ok-try_clone.ensures in
+    many_skips c.args.plant.value c.in_ok-book.book c.go_on.new.book (length c.in_ok-followers-2.followers.items) begins c.in_ok-followers-2.ensures.plant (c.in_ok-followers-2.ensures.many ∙ c.in_ok-followers.ensures.many)
+    ∙ ap (λ (fs : List Follower). length fs) (sym c.as_slice.ensures.value)
+
+pub returns-clause-heard : goal.returns-clause-heard
+returns-clause-heard c =
+    subst (λ (js : List Journal). AreHeardTruly js) (sym c.in-Ok.ensures.kept.1)
+    (all_heard c.go_on.new.book c.in_ok-journals.journals.items (c.in_ok-journals.ensures.journals c.go_on.new.book c.in_ok-followers-2.ensures.stand))
+
+pub returns-clause-few : goal.returns-clause-few
+returns-clause-few c =
+    let journals = c.in_ok-journals.journals.items in
+    let begins : c.in_ok-book.book ≡ empty_book c.args.plant.value = c.in_ok-book.ensures ∙ ap (λ (p : PlantValue). empty_book p) c.in_ok-try_clone.ensures in
+    let many : length c.go_on.new.book.skips ≡ length journals =
+    many_skips c.args.plant.value c.in_ok-book.book c.go_on.new.book (length journals) begins c.in_ok-followers-2.ensures.plant (c.in_ok-journals.ensures.many ∙ c.in_ok-followers-2.ensures.many ∙ c.in_ok-followers.ensures.many) in
+    subst (λ (js : List Journal). skipped_in js ≤ 1000000) (sym c.in-Ok.ensures.kept.1)
+    (few_skipped c.go_on.new.book journals (c.in_ok-journals.ensures.journals c.go_on.new.book c.in_ok-followers-2.ensures.stand) (sym many) c.into_book.ensures.few)

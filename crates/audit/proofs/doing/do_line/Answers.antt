@@ -15,7 +15,7 @@ returns-in_ok-standing-in-Going-clause-follows c = λ plant n follows.
     let at : slice_get lines trail.at ≡ Some line = slice_get_read lines (length lines) trail.at line refl c.in-Some.ensures.lookup.3.0 c.in-Some.ensures.lookup.1 in
     tried_next plant c.args.book.now c.do_item.new.book n lines line c.in-Going.station trail c.note.new.self c.in_ok-standing-in-Going.standing (option_copied c.item_at-next.result) c.ticket-ticket.result c.is_start.result c.do_item.new.past
     c.in_ok-standing-in-Going.outcome c.note.result at c.item_at-next.ensures c.ticket-ticket.ensures c.is_start.ensures c.in_ok-standing-in-Going.ensures.comes c.in_ok-standing-in-Going.ensures.leaves c.note.ensures c.in_ok-standing-in-Going.ensures.left
-    (subst (λ (x : Standing). IsFollowing plant c.args.book.now.book n lines x trail) c.in-Going.is follows)
+    (subst (λ (x : Standing). IsFollowing plant c.args.book.now n lines x trail) c.in-Going.is follows)
 
 pub returns-in_ok-standing-in-Going-clause-rests : goal.returns-in_ok-standing-in-Going-clause-rests
 returns-in_ok-standing-in-Going-clause-rests c = λ isnt.

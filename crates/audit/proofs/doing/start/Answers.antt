@@ -15,7 +15,7 @@ pub returns-then-not-are_all_same-clause-started :
     goal.returns-then-not-are_all_same-clause-started
 returns-then-not-are_all_same-clause-started c = (
   refl,
-  inr (
+  inr (inl (
     refl,
     subst (λ k. IsAbove k c.args.incarnation) c.incarnation.ensures c.in_default.ensures,
     λ are.
@@ -23,10 +23,10 @@ returns-then-not-are_all_same-clause-started c = (
         let all = c.are_all_same.ensures.1 same in
         let not = c.if-not-are_all_same.true in
         absurd cc,
-  ),
+  )),
 )
 
 pub returns-clause-started : goal.returns-clause-started
 returns-clause-started c =
     let same : c.args.kept.now ≡ c.args.past.now.left.items = c.are_all_same.ensures.0 c.if-not-are_all_same.false ∙ c.as_slice.ensures.value in
-    IfOk-weaker c.restart.result _ _ (λ r h. risen_start c.args.incarnation c.args.kept.now c.args.station r.0 r.1 (subst (AreLeft c.args.station.journal) (sym same) c.requires.left) h) c.restart.ensures.risen
+    IfOk-weaker c.restart.result _ _ (λ r h. risen_start c.restart.new.book c.args.incarnation c.args.kept.now c.args.station r.0 r.1 (subst (AreLeft c.args.station.journal) (sym same) c.requires.left) h) c.restart.ensures.risen

@@ -5,7 +5,8 @@ use Rattle.evaluation.specs.Meaning.{Evaluated}
 use Rattle.std.specs.Prelude.{slice_set}
 use Rattle.evaluation.specs.Retained.{retained_values}
 use Rattle.audit.specs.Lines.{AreLeft}
-use Rattle.audit.proofs.GoingOn.{noted_going, entered_grows}
+use Rattle.audit.specs.Steps.Standings.{Grows}
+use Rattle.audit.proofs.GoingOn.{noted_going, entered_grows, grown_not}
 use Rattle.audit.proofs.Leavings.{left_noted}
 use Rattle.audit.proofs.evaluating.enter.Goals as goal
 
@@ -18,6 +19,11 @@ pub returns-in-Ok-clause-grows : goal.returns-in-Ok-clause-grows
 returns-in-Ok-clause-grows c =
     let entered = rw (c.in_default.is, c.in_ok-try_clone.ensures, c.frame-3.ensures.value) at c.in_ok-misfit.ensures.entered in
     entered_grows c.args.book.now c.enter.new.self c.args.pending entered c.requires.pending
+
+pub returns-in-Some-clause-grows : goal.returns-in-Some-clause-grows
+returns-in-Some-clause-grows c =
+    let same = rw c.in-Some.is at c.in_ok-misfit.ensures.entered in
+    subst (Grows c.args.pending.journal.resource c.args.book.now) (sym same) (grown_not c.args.pending.journal.resource c.args.book.now)
 
 pub returns-in-Ok-clause-left : goal.returns-in-Ok-clause-left
 returns-in-Ok-clause-left c =

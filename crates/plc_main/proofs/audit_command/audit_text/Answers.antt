@@ -14,6 +14,8 @@ returns-in_err-tell_audit-clause-fault g c =
       again = rw c.in_ok-shared.ensures at a.again;
       made_again = rw c.in_ok-shared.ensures at a.made_again;
       delivered = a.delivered;
+      heard = a.heard;
+      few = a.few;
     } in
     told_partly c.args.plant.value c.args.files.now _ _ c.in_ok-audited.audited _ _ c.from_residual-in_err-tell_audit.ensures.1 is_audit c.in_err-tell_audit.ensures.fault
 
@@ -37,5 +39,7 @@ returns-clause-ok g c =
       again = rw c.in_ok-shared.ensures at a.again;
       made_again = rw c.in_ok-shared.ensures at a.made_again;
       delivered = a.delivered;
+      heard = a.heard;
+      few = a.few;
     } in
     record { audited = c.in_ok-audited.audited; is_audit = is_audit; told = c.in_ok-tell_audit.ensures.ok }

@@ -1,18 +1,26 @@
-use Rattle.std.proofs.Common.{string_bytes}
+use Rattle.std.proofs.Common.{◌≤◌, List, All, length, string_bytes, sym, ap, ◌∙◌, subst}
 use Rattle.lists.proofs.Results.{kept_fault}
 use Rattle.verifying.specs.Giving.{no_memory}
 use Rattle.verifying.specs.Questions.{question_of}
+use Rattle.verifying.specs.declared.verdict.Verdict.{Verdict}
+use Rattle.verifying.specs.Steps.Adding.{FitsSetup}
 use Rattle.verifying.specs.Steps.Asking.{RefusesPreparing}
+use Rattle.verifying.specs.Steps.Search.{HasOneScan}
+use Rattle.verifying.specs.Steps.Wholes.{searched_of}
+use Rattle.verifying.specs.Counts.{AreCounts}
+use Rattle.verifying.specs.Runs.{SetupValue}
+use Rattle.verifying.specs.Verdicts.{AreVerdicts}
 use Rattle.verifying.proofs.Asking.{names_long, verdicts_fit}
+use Rattle.verifying.proofs.Wholes.{told_answer}
 use Rattle.verifying.proofs.verify_command.answer_text.Goals as goal
 
 pub returns-in_err-prepared-clause-err : goal.returns-in_err-prepared-clause-err
 returns-in_err-prepared-clause-err g c =
     kept_fault c.in_err-prepared.field-0.0 (RefusesPreparing c.args.drawing.now (question_of c.args.question.now)) _ c.from_residual.ensures.1 c.in_err-prepared.ensures.err
 
-pub returns-in_err-outcome-clause-err : goal.returns-in_err-outcome-clause-err
-returns-in_err-outcome-clause-err g c =
-    kept_fault no_memory (RefusesPreparing c.args.drawing.now (question_of c.args.question.now)) _ c.from_residual-in_err-outcome.ensures.1 tt
+pub returns-in_err-found-clause-err : goal.returns-in_err-found-clause-err
+returns-in_err-found-clause-err g c =
+    kept_fault no_memory (RefusesPreparing c.args.drawing.now (question_of c.args.question.now)) _ c.from_residual-in_err-found.ensures.1 tt
 
 pub returns-in_err-text-clause-err : goal.returns-in_err-text-clause-err
 returns-in_err-text-clause-err g c =
@@ -22,39 +30,48 @@ pub returns-in_err-push_premise_line-clause-err : goal.returns-in_err-push_premi
 returns-in_err-push_premise_line-clause-err g c =
     kept_fault no_memory (RefusesPreparing c.args.drawing.now (question_of c.args.question.now)) _ c.from_residual-in_err-push_premise_line.ensures.1 tt
 
+pub returns-in_err-tally-clause-err : goal.returns-in_err-tally-clause-err
+returns-in_err-tally-clause-err g c =
+    kept_fault no_memory (RefusesPreparing c.args.drawing.now (question_of c.args.question.now)) _ c.from_residual-in_err-tally.ensures.1 tt
+
+pub returns-in_err-verdicts-clause-err : goal.returns-in_err-verdicts-clause-err
+returns-in_err-verdicts-clause-err g c =
+    kept_fault no_memory (RefusesPreparing c.args.drawing.now (question_of c.args.question.now)) _ c.from_residual-in_err-verdicts.ensures.1 tt
+
+pub verify-requires : goal.verify-requires
+verify-requires g c = subst (λ (v : SetupValue). length v.free ≤ 20) (sym c.searched-searched.ensures) c.in_ok-prepared.ensures.ok.searched.few
+
+pub tally_of-requires : goal.tally_of-requires
+tally_of-requires g c = (c.in_ok-prepared.prepared.claims.items, c.in_ok-prepared.ensures.ok.searched)
+
 pub verdict_texts-requires-clause-long : goal.verdict_texts-requires-clause-long
 verdict_texts-requires-clause-long g c =
-    let prepared = c.in_ok-prepared.ensures.ok in
-    let are = rw c.deref.ensures.value at c.in_ok-outcome.ensures.verdicts in
-    names_long c.in_ok-prepared.prepared.setup c.args.question.now.most_states c.in_ok-outcome.outcome.tally.scans c.args.question.now.claims.now c.in_ok-prepared.prepared.claims.items c.in_ok-outcome.outcome.verdicts.items prepared.claims are
+    let q = question_of c.args.question.now in
+    let p = c.in_ok-prepared.prepared in
+    let found = c.in_ok-found.found in
+    let are = rw c.deref.ensures.value at c.in_ok-found.ensures.verdicts in
+    let whole = rw c.deref-3.ensures.value at (rw c.free.ensures.list at (rw c.deref-2.ensures.value at c.in_ok-verdicts.ensures)) in
+    ap length c.deref-4.ensures.value
+    ∙ names_long p.whole c.searched-searched.result.now q.most_states found.scans c.args.question.now.claims.now p.claims.items p.idle.items found.verdicts.items c.in_ok-verdicts.verdicts.items
+    c.in_ok-prepared.ensures.ok.claims are whole
 
 pub verdict_texts-requires-clause-fits : goal.verdict_texts-requires-clause-fits
 verdict_texts-requires-clause-fits g c =
-    let are = rw c.deref.ensures.value at c.in_ok-outcome.ensures.verdicts in
-    verdicts_fit c.in_ok-prepared.prepared.setup c.args.question.now.most_states c.in_ok-outcome.outcome.tally.scans c.in_ok-prepared.prepared.claims.items c.in_ok-outcome.outcome.verdicts.items are
+    let p = c.in_ok-prepared.prepared in
+    let whole = rw c.deref-3.ensures.value at (rw c.free.ensures.list at (rw c.deref-2.ensures.value at c.in_ok-verdicts.ensures)) in
+    subst (λ (verdicts : List Verdict). All (FitsSetup p.whole) verdicts) (sym c.deref-4.ensures.value)
+    (verdicts_fit p.whole p.idle.items c.in_ok-found.found.verdicts.items c.in_ok-verdicts.verdicts.items whole)
 
 pub returns-clause-ok : goal.returns-clause-ok
 returns-clause-ok g c =
-    let are = rw c.deref.ensures.value at c.in_ok-outcome.ensures.verdicts in
-    let whole = rw c.deref-2.ensures.value at c.in_ok-push_premise_line.ensures in
-    let summed = rw c.deref-3.ensures.value at c.summary_of.ensures in
-    record {
-      answer = record {
-        setup = c.in_ok-prepared.prepared.setup;
-        is = c.in_ok-prepared.ensures.ok.is;
-        places = c.in_ok-prepared.prepared.claims.items;
-        claims = c.in_ok-prepared.ensures.ok.claims;
-        verdicts = c.in_ok-outcome.outcome.verdicts.items;
-        tally = c.in_ok-outcome.outcome.tally;
-        proved = are;
-        counts = c.in_ok-outcome.ensures.counts;
-        met = c.in_ok-outcome.ensures.met;
-        lines = string_bytes c.in_ok-text.text;
-        texts = c.in_ok-text.ensures;
-        timed = c.in_ok-prepared.ensures.ok.timed;
-        constants = c.in_ok-prepared.prepared.constants.items;
-        are_constants = c.in_ok-prepared.ensures.ok.are_constants;
-        whole = whole;
-      };
-      summed = summed;
-    }
+    let q = question_of c.args.question.now in
+    let p = c.in_ok-prepared.prepared in
+    let found = c.in_ok-found.found in
+    let are = subst (λ v. AreVerdicts v q.most_states found.scans p.claims.items found.verdicts.items) c.searched-searched.ensures (rw c.deref.ensures.value at c.in_ok-found.ensures.verdicts) in
+    let counts = subst (λ v. All (AreCounts v q.most_states found.states found.scans) found.verdicts.items) c.searched-searched.ensures c.in_ok-found.ensures.counts in
+    let one = subst HasOneScan c.searched-searched.ensures c.has_one_scan.ensures in
+    let whole = rw c.deref-3.ensures.value at (rw c.free.ensures.list at (rw c.deref-2.ensures.value at c.in_ok-verdicts.ensures)) in
+    told_answer c.slices_follow.ensures c.args.drawing.now q p.whole (searched_of p.slice p.whole) p.idle.items p.claims.items p.constants.items p.needed p.networks
+    found.states found.scans found.verdicts.items c.in_ok-verdicts.verdicts.items c.in_ok-tally.tally (string_bytes c.in_ok-text.text) _ c.summary_of.result
+    c.in_ok-prepared.ensures.ok one are counts whole c.in_ok-tally.ensures.rest c.in_ok-tally.ensures.met
+    (rw c.deref-4.ensures.value at c.in_ok-text.ensures) (rw c.deref-5.ensures.value at c.in_ok-push_premise_line.ensures) (rw c.deref-6.ensures.value at c.summary_of.ensures)

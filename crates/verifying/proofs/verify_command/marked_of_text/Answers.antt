@@ -1,3 +1,6 @@
+use Rattle.std.proofs.Common.{length, ap, ◌∙◌, subst}
+use Rattle.verifying.specs.Steps.Marks.{AreMarksOf}
+use Rattle.verifying.proofs.Wholes.{marked_ladder}
 use Rattle.text_commands.specs.Steps.Refusing.{names_refused, networks_refused, drawing_refused}
 use Rattle.verifying.proofs.verify_command.marked_of_text.Goals as goal
 
@@ -31,3 +34,12 @@ pub returns-in_err-drawing-clause-err : goal.returns-in_err-drawing-clause-err
 returns-in_err-drawing-clause-err c =
     drawing_refused c.args.drawing.now c.in_err-drawing.field-0.0 c.from_residual.result c.from_residual.ensures.1
     (λ other. (c.in_err-drawing.ensures.refused other, other, c.in_err-drawing.ensures.first))
+
+pub returns-clause-marked : goal.returns-clause-marked
+returns-clause-marked c =
+    let places = c.in_ok-places.places.items in
+    let marks = c.in_ok-marks.marks.items in
+    let marked =
+    subst (λ n. AreMarksOf places n marks) c.len.ensures (subst (λ ps. AreMarksOf ps c.len.result marks) c.deref.ensures.value c.in_ok-marks.ensures) in
+    marked_ladder c.in_ok-declarations.declarations c.in_ok-graph.graph _ places c.in_ok-ladder.ensures.ok c.in_ok-places.ensures marked
+    (c.in_ok-rails.ensures.items ∙ c.rails.ensures) (ap length c.networks-networks.ensures.networks)

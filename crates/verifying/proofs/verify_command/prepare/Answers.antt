@@ -1,11 +1,17 @@
-use Rattle.std.proofs.Common.{sym, subst}
+use Rattle.std.proofs.Common.{ℕ, Option, List, sym, subst}
+use Rattle.std.specs.Option.{option_map}
 use Rattle.lists.proofs.Results.{kept_fault}
+use Rattle.drawings.specs.declared.place.Place.{Place}
+use Rattle.needed_networks.specs.Slices.{HaveRails}
+use Rattle.verifying.specs.declared.setup.Setting.{Setting}
+use Rattle.verifying.specs.declared.verify_fault.VerifyFault.TheVariants.{Command}
 use Rattle.verifying.specs.Giving.{no_memory}
-use Rattle.verifying.specs.Runs.{SetupValue}
+use Rattle.verifying.specs.Runs.{HasInputs, SetupValue}
 use Rattle.verifying.specs.Questions.{question_of}
 use Rattle.verifying.specs.Steps.Asking.{IsPrepared, RefusesPreparing}
-use Rattle.verifying.specs.declared.verify_fault.VerifyFault.TheVariants.{Command}
-use Rattle.verifying.proofs.Asking.{asked_has_inputs, asked_prepared, asking_refused, text_refused, time_refused}
+use Rattle.verifying.specs.Steps.Wholes.{searched_of, slice_setup}
+use Rattle.verifying.proofs.Asking.{asked_has_inputs, asked_prepared, asking_refused, few_refused, setup_of, text_refused, time_refused}
+use Rattle.verifying.proofs.Wholes.{slice_has_inputs}
 use Rattle.verifying.proofs.verify_command.prepare.Goals as goal
 
 pub returns-in_err-ladder-clause-err : goal.returns-in_err-ladder-clause-err
@@ -17,41 +23,79 @@ returns-in_err-ladder-clause-err c =
 pub returns-in_err-asked-clause-err : goal.returns-in_err-asked-clause-err
 returns-in_err-asked-clause-err c =
     let q = question_of c.args.question.now in
-    let l = c.in_ok-ladder.ladder in
+    let m = c.in_ok-ladder.field-0 in
     let refused = rw c.declarations.ensures.list at (rw c.deref.ensures.value at c.in_err-asked.ensures.err) in
     kept_fault c.in_err-asked.field-0.0 (RefusesPreparing c.args.drawing.now q) _ c.from_residual-in_err-asked.ensures.1
-    (asking_refused c.args.drawing.now q l.declarations l.networks c.in_ok-ladder.marks.items c.in_err-asked.field-0.0 c.in_ok-ladder.ensures.ladder c.in_ok-ladder.ensures.marks refused)
+    (asking_refused c.args.drawing.now q m.ladder.declarations m.ladder.networks m.marks.items c.in_err-asked.field-0.0 c.in_ok-ladder.ensures.ladder c.in_ok-ladder.ensures.marked.marks refused)
+
+pub needed_slice-requires : goal.needed_slice-requires
+needed_slice-requires c =
+    let m = c.in_ok-ladder.field-0 in
+    subst (λ (rails : List Place). HaveRails m.ladder.networks rails) (sym c.deref-2.ensures.value) c.in_ok-ladder.ensures.marked.rails
+
+pub returns-in_err-sliced-clause-err : goal.returns-in_err-sliced-clause-err
+returns-in_err-sliced-clause-err c =
+    kept_fault no_memory (RefusesPreparing c.args.drawing.now (question_of c.args.question.now)) _ c.from_residual-in_err-sliced.ensures.1 tt
+
+pub returns-in_err-free-clause-err : goal.returns-in_err-free-clause-err
+returns-in_err-free-clause-err c =
+    let q = question_of c.args.question.now in
+    let asked = rw c.declarations.ensures.list at (rw c.deref.ensures.value at c.in_ok-asked.ensures.ok) in
+    let sliced = rw c.deref-4.ensures.value at (rw c.deref-3.ensures.value at c.in_ok-sliced.ensures) in
+    let refused = rw c.deref-6.ensures.value at (rw c.deref-5.ensures.value at c.in_err-free.ensures.err) in
+    kept_fault c.in_err-free.field-0.0 (RefusesPreparing c.args.drawing.now q) _ c.from_residual-in_err-free.ensures.1
+    (few_refused c.args.drawing.now q c.in_ok-ladder.field-0 c.in_ok-asked.asked c.in_ok-sliced.sliced c.in_err-free.field-0.0 c.in_ok-ladder.ensures.ladder c.in_ok-ladder.ensures.marked asked sliced refused)
 
 pub returns-in_err-check_time-clause-err : goal.returns-in_err-check_time-clause-err
 returns-in_err-check_time-clause-err c =
     let q = question_of c.args.question.now in
-    let l = c.in_ok-ladder.ladder in
     let asked = rw c.declarations.ensures.list at (rw c.deref.ensures.value at c.in_ok-asked.ensures.ok) in
+    let sliced = rw c.deref-4.ensures.value at (rw c.deref-3.ensures.value at c.in_ok-sliced.ensures) in
+    let same = rw c.deref-6.ensures.value at (rw c.deref-5.ensures.value at c.in_ok-free.ensures.ok) in
     let refused = rw c.declarations-2.ensures.list at c.in_err-check_time.ensures.err in
     kept_fault c.in_err-check_time.field-0.0 (RefusesPreparing c.args.drawing.now q) _ c.from_residual-in_err-check_time.ensures.1
-    (time_refused c.args.drawing.now q l c.in_ok-ladder.marks.items c.in_ok-asked.asked
-    c.in_err-check_time.field-0.0 c.in_ok-ladder.ensures.ladder c.in_ok-ladder.ensures.marks asked refused)
+    (time_refused c.args.drawing.now q c.in_ok-ladder.field-0 c.in_ok-asked.asked c.in_ok-sliced.sliced c.in_ok-free.free.items
+    c.in_err-check_time.field-0.0 c.in_ok-ladder.ensures.ladder c.in_ok-ladder.ensures.marked asked sliced same c.in_ok-free.ensures.few refused)
 
 pub returns-in_err-constants-clause-err : goal.returns-in_err-constants-clause-err
 returns-in_err-constants-clause-err c =
     kept_fault no_memory (RefusesPreparing c.args.drawing.now (question_of c.args.question.now)) _ c.from_residual-in_err-constants.ensures.1 tt
 
-pub new-setup-requires : goal.new-setup-requires
-new-setup-requires c =
-    let l = c.in_ok-ladder.ladder in
+pub slice_setup-requires : goal.slice_setup-requires
+slice_setup-requires c = λ slice is.
     let asked = rw c.declarations.ensures.list at (rw c.deref.ensures.value at c.in_ok-asked.ensures.ok) in
-    asked_has_inputs l.declarations l.networks c.in_ok-ladder.marks.items (question_of c.args.question.now) c.in_ok-asked.asked
-    c.in_ok-ladder.ensures.marks asked
+    let sliced = rw c.deref-4.ensures.value at (rw c.deref-3.ensures.value at c.in_ok-sliced.ensures) in
+    let same = rw c.deref-6.ensures.value at (rw c.deref-5.ensures.value at c.in_ok-free.ensures.ok) in
+    subst (λ (held : List Setting). HasInputs slice.ladder.declarations c.in_ok-free.free.items held) (sym c.deref-8.ensures.value)
+    (slice_has_inputs c.in_ok-ladder.field-0 (question_of c.args.question.now) c.in_ok-asked.asked c.in_ok-sliced.sliced c.in_ok-free.free.items c.in_ok-ladder.ensures.marked asked sliced same slice is)
+
+pub returns-in_err-slice-clause-err : goal.returns-in_err-slice-clause-err
+returns-in_err-slice-clause-err c =
+    kept_fault no_memory (RefusesPreparing c.args.drawing.now (question_of c.args.question.now)) _ c.from_residual-in_err-slice.ensures.1 tt
+
+pub new-whole-requires : goal.new-whole-requires
+new-whole-requires c =
+    let m = c.in_ok-ladder.field-0 in
+    let asked = rw c.declarations.ensures.list at (rw c.deref.ensures.value at c.in_ok-asked.ensures.ok) in
+    asked_has_inputs m.ladder.declarations m.ladder.networks m.marks.items (question_of c.args.question.now) c.in_ok-asked.asked c.in_ok-ladder.ensures.marked.marks asked
 
 pub returns-clause-ok : goal.returns-clause-ok
 returns-clause-ok c =
-    let l = c.in_ok-ladder.ladder in
     let q = question_of c.args.question.now in
-    let claims = c.in_ok-asked.asked.claims.items in
+    let m = c.in_ok-ladder.field-0 in
+    let a = c.in_ok-asked.asked in
+    let s = c.in_ok-sliced.sliced in
+    let needed = c.in_ok-free.free.items in
     let constants = c.in_ok-constants.constants.items in
+    let count = c.needed_count-needed.result in
+    let u = setup_of m.ladder q.dt a in
     let asked = rw c.declarations.ensures.list at (rw c.deref.ensures.value at c.in_ok-asked.ensures.ok) in
+    let sliced = rw c.deref-4.ensures.value at (rw c.deref-3.ensures.value at c.in_ok-sliced.ensures) in
+    let same = rw c.deref-6.ensures.value at (rw c.deref-5.ensures.value at c.in_ok-free.ensures.ok) in
     let timed = rw c.declarations-2.ensures.list at c.in_ok-check_time.ensures.ok in
-    let found = rw c.declarations-3.ensures.list at (rw c.deref-2.ensures.value at c.in_ok-constants.ensures) in
-    subst (λ (u : SetupValue). IsPrepared c.args.drawing.now q u claims constants) (sym c.new-setup.ensures)
-    (asked_prepared c.args.drawing.now q l c.in_ok-ladder.marks.items c.in_ok-asked.asked constants
-    c.in_ok-ladder.ensures.ladder c.in_ok-ladder.ensures.marks asked timed found)
+    let found = rw c.declarations-3.ensures.list at (rw c.deref-7.ensures.value at c.in_ok-constants.ensures) in
+    let made = rw c.deref-9.ensures.value at (rw c.deref-8.ensures.value at c.in_ok-slice.ensures) in
+    subst (λ (w : SetupValue). IsPrepared c.args.drawing.now q w s.idle.items (searched_of c.in_ok-slice.slice w) a.claims.items constants count m.networks) (sym c.new-whole.ensures)
+    (subst (λ (o : Option SetupValue). IsPrepared c.args.drawing.now q u s.idle.items (searched_of o u) a.claims.items constants count m.networks) (sym made)
+    (subst (λ (n : ℕ). IsPrepared c.args.drawing.now q u s.idle.items (searched_of (option_map (slice_setup q.dt needed a.held.items a.given.items) s.slice) u) a.claims.items constants n m.networks) (sym c.needed_count-needed.ensures)
+    (asked_prepared c.args.drawing.now q m a s needed constants c.in_ok-ladder.ensures.ladder c.in_ok-ladder.ensures.marked asked sliced same c.in_ok-free.ensures.few timed found)))

@@ -1,5 +1,6 @@
-use Rattle.std.proofs.Common.{inl, inr}
+use Rattle.std.proofs.Common.{inl, inr, refl}
 use Rattle.lists.proofs.Results.{kept_fault}
+use Rattle.verifying.specs.Giving.{no_memory}
 use Rattle.verifying.specs.Questions.{question_of}
 use Rattle.verifying.specs.Steps.Asking.{RefusesAsking}
 use Rattle.verifying.proofs.verify_command.read_question.Goals as goal
@@ -20,11 +21,9 @@ returns-in_err-given-clause-err c =
 
 pub returns-in_err-free-clause-err : goal.returns-in_err-free-clause-err
 returns-in_err-free-clause-err c =
-    let refused = rw c.deref.ensures.value at c.in_err-free.ensures.err in
-    kept_fault c.in_err-free.field-0.0 (RefusesAsking c.args.declarations.now c.args.marks.now (question_of c.args.question.now)) _ c.from_residual-in_err-free.ensures.1
-    (inr (inr (inr (record { held = c.in_ok-held.held.items; by = c.in_ok-held.ensures.ok; claims = c.in_ok-claims.claims.items; claimed = c.in_ok-claims.ensures.ok; given = c.in_ok-given.given.items; givens = c.in_ok-given.ensures.ok; refused = refused }))))
+    kept_fault no_memory (RefusesAsking c.args.declarations.now c.args.marks.now (question_of c.args.question.now)) _ c.from_residual-in_err-free.ensures.1 (inr (inr (inr refl)))
 
 pub returns-clause-ok : goal.returns-clause-ok
 returns-clause-ok c =
-    let few = rw c.deref.ensures.value at c.in_ok-free.ensures.ok in
-    record { by = c.in_ok-held.ensures.ok; claimed = c.in_ok-claims.ensures.ok; givens = c.in_ok-given.ensures.ok; few = few }
+    let free = rw c.deref.ensures.value at c.in_ok-free.ensures in
+    record { by = c.in_ok-held.ensures.ok; claimed = c.in_ok-claims.ensures.ok; givens = c.in_ok-given.ensures.ok; free = free }

@@ -13,9 +13,9 @@ loop-line-preserved c = record {
   goes = goes_twice c.args.book.now c.loop-line.book c.do_line.new.book c.args.self.standing c.loop-line.standing c.in_ok-next.next c.loop-line.invariant.goes c.in_ok-next.ensures.goes;
   left = c.in_ok-next.ensures.left;
   follows = λ plant n f.
-      subst (λ (ls : List Line). IsFollowing plant c.do_line.new.book.book n ls c.in_ok-next.next c.do_line.new.trail) c.as_slice.ensures.value
+      subst (λ (ls : List Line). IsFollowing plant c.do_line.new.book n ls c.in_ok-next.next c.do_line.new.trail) c.as_slice.ensures.value
       (c.in_ok-next.ensures.follows plant n
-      (subst (λ (ls : List Line). IsFollowing plant c.loop-line.book.book n ls c.loop-line.standing c.loop-line.trail) (sym c.as_slice.ensures.value) (c.loop-line.invariant.follows plant n f))).0;
+      (subst (λ (ls : List Line). IsFollowing plant c.loop-line.book n ls c.loop-line.standing c.loop-line.trail) (sym c.as_slice.ensures.value) (c.loop-line.invariant.follows plant n f))).0;
   at = omega (arith, c.in_ok-next.ensures.more c.if-not-done.false, c.loop-line.invariant.at);
   same = λ none. absurd (omega (arith, none));
 }
@@ -41,9 +41,9 @@ returns-clause-follows c =
       | then-loop-line-test+in_ok-next+then-not-done w ↦
           rw (w.standing-is, w.trail-is, w.book-is)
           (λ plant n f.
-          let before = subst (λ (ls : List Line). IsFollowing plant c.loop-line.book.book n ls c.loop-line.standing c.loop-line.trail) (sym w.as_slice.ensures.value) (c.loop-line.invariant.follows plant n f) in
+          let before = subst (λ (ls : List Line). IsFollowing plant c.loop-line.book n ls c.loop-line.standing c.loop-line.trail) (sym w.as_slice.ensures.value) (c.loop-line.invariant.follows plant n f) in
           let r = w.in_ok-next.ensures.follows plant n before in (
-            subst (λ (ls : List Line). IsFollowing plant w.do_line.new.book.book n ls w.in_ok-next.next w.do_line.new.trail) w.as_slice.ensures.value r.0,
+            subst (λ (ls : List Line). IsFollowing plant w.do_line.new.book n ls w.in_ok-next.next w.do_line.new.trail) w.as_slice.ensures.value r.0,
             λ isnt. subst (λ (ls : List Line). IsSettledAt w.do_line.new.book ls w.do_line.new.trail) w.as_slice.ensures.value (r.1 w.if-not-done.true),
           ))
     ]

@@ -10,7 +10,7 @@ abbrev pub invariant-loop-line : goal.invariant-loop-line
 invariant-loop-line l = record {
   goes : Goes l.fn.book l.book l.initial.standing l.standing;
   left : AreLeft (journal_in l.standing) l.trail.past.left.items;
-  follows : (plant : PlantValue) (n : ℕ) → IsFollowing plant l.fn.book.book n l.lines.items l.initial.standing l.initial.trail → IsFollowing plant l.book.book n l.lines.items l.standing l.trail;
+  follows : (plant : PlantValue) (n : ℕ) → IsFollowing plant l.fn.book n l.lines.items l.initial.standing l.initial.trail → IsFollowing plant l.book n l.lines.items l.standing l.trail;
   at : l.trail.at ≡ l.initial.trail.at + l._line;
   same : l._line ≡ 0 → l.book ≡ l.fn.book;
 }

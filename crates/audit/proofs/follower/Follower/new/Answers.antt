@@ -21,6 +21,6 @@ returns-clause-at c =
     record {
       stands = stands.0;
       resource_is = stands.1;
-      followed = begun_follows c.args.plant.now.value (empty_book c.args.plant.now.value).book n opening c.args.lines.items s c.new-2.result c.new.result begun opens c.new-2.ensures
+      followed = begun_follows c.args.plant.now.value (empty_book c.args.plant.now.value) n opening c.args.lines.items s c.new-2.result c.new.result begun opens c.new-2.ensures
           (ap (λ (v : Vec (List Value)). v.items) c.new.ensures ∙ c.in_ok-left.ensures ∙ c.as_slice-2.ensures.value);
     }
