@@ -100,7 +100,8 @@ Example:
   HOLDS R1.A.INSIDE, R2.O.INSIDE are never on together: 185 states, 1562 steps
   given each task every INTERVAL
 
-Warnings of a drawing are told behind all else, as plc eval --help says; --strict and --no-warnings are as there.
+Warnings of a drawing are told behind all else, as plc eval --help says, and PresetBetweenScans, a duration at PT of a timer
+that is no multiple of --dt; --strict and --no-warnings are as there.
 
 The exit status is 0 if all claims hold; 4 if one fails; 5 if none fails and one is undecided; 1 if the text of the file
 is refused, with FILE:LINE:COLUMN: Kind on standard error, or with --strict where all hold and there is a warning; 2 if a
@@ -121,8 +122,9 @@ Example:
 
 What is lawful and most likely not meant is told on standard error: in a program's drawing with FILE:LINE:COLUMN: Kind, DoubleCoil,
 a coil that another one overwrites in the same evaluation, and NeverRead, a VAR that is stored into and never read; and with
-FILE:LINE: Kind UnboundInput, an input that an instance doesn't bind. With --strict the exit status is then 1 in place of 0;
---no-warnings tells nothing.
+FILE:LINE: Kind UnboundInput, an input that an instance doesn't bind, and FarAddress, a field address more than 63 away from each
+other of its kind that the resource reads, of which two are closer together. With --strict the exit status is then 1 in place of
+0; --no-warnings tells nothing.
 
 The exit status is 0; 1 if the text of the plant is refused, with FILE:LINE: Kind on standard error (and the kind of what
 is wrong in a program's drawing behind it, as FILE:LINE: Bind WritesInput), or with --strict where there is a warning; 2 if a
@@ -134,15 +136,26 @@ pub const PLAN_HELP: &str = "\
 A task is due at each multiple of its INTERVAL, from once the INTERVAL on, up to and with MS. A line is written for each
 moment and task, ordered by moment, priority (0 is the highest), resource and task.
 
-Example:
+With --schedule these lines are written as a schedule, for plc sim to do and for you to change: for each, in this order, EVAL with
+the task's INTERVAL, and right behind it DELIVER of its message to each other resource with a task that takes from it. No
+field inputs are written, so all are FALSE or 0: add words as %IX0=1 behind an EVAL. What you leave out, repeat or move is
+lost, doubled or late; an EVAL more or less changes the numbers of the messages behind it.
+
+Examples:
 
   $ plc plan examples/pair.plant --until 20
   10 R1.FAST
   20 R1.FAST
   20 R2.SLOW
+  $ plc plan examples/pair.plant --until 20 --schedule
+  EVAL R1.FAST 10
+  DELIVER 1 R2
+  EVAL R1.FAST 10
+  DELIVER 2 R2
+  EVAL R2.SLOW 20
 
 The exit status is 0; 1 if the text of the plant is refused, with FILE:LINE: Kind on standard error, or if the plan has
-more than 100,000 lines, with plan: TooLong; 2 if a word is refused; 3 if the file can't be read, the output can't be
+more than 100,000 entries, with plan: TooLong; 2 if a word is refused; 3 if the file can't be read, the output can't be
 written or there is no memory left.";
 
 /// What `plc sim --help` tells behind the words.
@@ -196,7 +209,8 @@ number of each command that wasn't done, FAULT and the resource, the number of t
 that went wrong; at last whether a run of these evaluations in one thread makes the same ones again.
 
 With --vcd FILE and --svg FILE the outputs of all tasks are written, as plc eval --help tells of variables: at 0 ms as they
-are before the first evaluation (FALSE, 0 or T#0ms), and at K ms as they are behind the line EVAL K.
+are before the first evaluation (FALSE, 0 or T#0ms), then as each command's evaluation leaves them, at its moment in the plan.
+The dump ends 1 ms behind MS. In the diagram each command is one column, and the marks tell the moments.
 
 Example:
 

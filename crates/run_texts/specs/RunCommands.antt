@@ -1,17 +1,13 @@
 -- The commands of `plc run`.
-use Rattle.std.specs.Prelude.{◌≡◌, ℕ, ◌+◌, ◌≤◌, List, [], ◌∷◌, length, unwrap_or}
-use Rattle.std.specs.Option.{option_map}
+use Rattle.std.specs.Prelude.{◌≡◌, ℕ, ◌+◌, ◌≤◌, List, [], ◌∷◌, length}
 use Rattle.task_codes.specs.declared.due.Due.{Due}
-use Rattle.task_codes.specs.declared.task_ref.TaskRef.{TaskRef}
-use Rattle.plant.specs.PlantValue.{TaskValue, PlantValue}
-use Rattle.plant.specs.Plan.{task_at, IsPlan}
+use Rattle.plant.specs.PlantValue.{PlantValue}
+use Rattle.plant.specs.Plan.{IsPlan}
+use Rattle.text_commands.specs.PlanText.{interval_at}
 use Rattle.evaluation.specs.declared.field_input.FieldInput.{FieldInput}
 use Rattle.node_reports.specs.declared.command.Command.{Command}
 use Rattle.node_reports.specs.declared.act.Act.TheVariants.{Evaluate}
-
--- the interval of a task
-abbrev pub interval_at : PlantValue → TaskRef → ℕ
-interval_at plant t = unwrap_or (option_map (λ (found : TaskValue). found.interval) (task_at plant t)) 0
+use Rattle.run_texts.specs.declared.run_plan.PlannedRun.{PlannedRun}
 
 -- the command for an entry of the plan: its resource is to evaluate its task, the task's interval after the time
 -- before, with these field inputs
@@ -27,10 +23,8 @@ abbrev pub commands_from : PlantValue → List FieldInput → ℕ → List Due �
 commands_from plant inputs k [] = []
 commands_from plant inputs k (d ∷ dues) = command_for plant inputs k d ∷ commands_from plant inputs (k + 1) dues
 
--- the commands are those for the entries of the plan, of which there are at most 100,000
-pub record ArePlanned (plant : PlantValue) (until : ℕ) (inputs : List FieldInput)
-    (commands : List Command) : Type 0 where
-  pub dues : List Due
-  pub planned : IsPlan plant until dues
-  pub few : length dues ≤ 100000
-  pub commands_are : commands ≡ commands_from plant inputs 1 dues
+-- the entries are those of the plan, at most 100,000, and the commands those for them
+pub record IsPlannedRun (plant : PlantValue) (until : ℕ) (inputs : List FieldInput) (run : PlannedRun) : Type 0 where
+  pub planned : IsPlan plant until run.dues.items
+  pub few : length run.dues.items ≤ 100000
+  pub commands_are : run.commands.items ≡ commands_from plant inputs 1 run.dues.items

@@ -7,8 +7,10 @@ mod audit_text;
 mod replay;
 mod report_text;
 mod run_commands;
+mod run_plan;
 mod telling;
 
 pub use audit_telling::tell_audit;
-pub use run_commands::planned_commands;
+pub use run_commands::planned_run;
+pub use run_plan::PlannedRun;
 pub use telling::tell_report;

@@ -12,7 +12,7 @@ from .kept_files import BadFile, KeptFiles
 from .lines import lines_of, without_comments
 from .networks import networks_of
 from .node import Node, NoFiles
-from .plan import plan_of
+from .plan import plan_of, schedule_of
 from .plant_text import find, read_plant
 from .refusal import Refusal
 from .run import Run, do_in_turns, lines_of_run
@@ -68,7 +68,7 @@ SHAPES = {
     "eval": Shape(1, ("--dt",), {"--color": COLORS}, ("--vcd", "--svg"), ("--show", "--chart", *WARNING_FLAGS), has_more=True),
     "verify": Shape(1, ("--dt", "--most-states", "--most-waiting"), flags=("--no-restarts", *WARNING_FLAGS), lists=("--never", "--given"), needed=("--never",), has_more=True),
     "check": Shape(1, flags=WARNING_FLAGS),
-    "plan": Shape(1, numbers=("--until",), needed=("--until",)),
+    "plan": Shape(1, numbers=("--until",), flags=("--schedule",), needed=("--until",)),
     "sim": Shape(2, numbers=("--max-number",), names=("--vcd", "--svg")),
     "run": Shape(1, ("--until",), names=("--state", "--vcd", "--svg"), flags=("--paced",), needed=("--until",), has_more=True),
     "node": Shape(2, numbers=("--until",), names=("--field", "--state", "--journal"), flags=("--cycle",)),
@@ -180,12 +180,12 @@ class Files:
         except (OSError, UnicodeDecodeError):
             raise Refused(NO_FILE) from None
 
-    def write_traces(self, options, title, step, moments, tracks):
-        """The files of a trace that are asked for."""
+    def write_traces(self, options, title, times, tracks):
+        """The files of a trace that are asked for: when each moment begins, and when the last one ends."""
         if "--vcd" in options:
-            self.write(options["--vcd"], dump(step, moments, tracks))
+            self.write(options["--vcd"], dump(times, tracks))
         if "--svg" in options:
-            self.write(options["--svg"], diagram(title, step, moments, tracks))
+            self.write(options["--svg"], diagram(title, times, tracks))
 
     def write(self, path, text):
         with open(os.path.join(self.folder, path), "w", encoding="utf-8", newline="") as file:
@@ -256,7 +256,8 @@ def evaluate(write, files, paths, options, more):
     for line in lines:
         write(line)
     tracks = [Track(None, it.name, it.kind, [values[words.fold(it.name)] for values in traced]) for it in variables]
-    files.write_traces(options, paths[0], options.get("--dt", 0) or 1, len(traced), tracks)
+    step = options.get("--dt", 0) or 1
+    files.write_traces(options, paths[0], [k * step for k in range(len(traced) + 1)], tracks)
     difference = first_difference(variables, expected, traced)
     warnings = warnings_of(ladder.drawing, ladder.networks)
     end_with_warnings(paths[0], warnings, options, DIFFERS if difference else 0, difference and f"{paths[0]}: {difference}")
@@ -358,7 +359,7 @@ def verify_drawing(write, files, paths, options, more):
             write(line)
     if told := premises(question):
         write("given " + ", ".join(told))
-    warnings = warnings_of(question.ladder.drawing, question.ladder.networks)
+    warnings = warnings_of(question.ladder.drawing, question.ladder.networks, question.elapsed)
     end_with_warnings(paths[0], warnings, options, CLAIM_FAILS if found.runs else UNDECIDED if found.depth is not None else 0)
 
 
@@ -414,8 +415,11 @@ def due_of(plant, until):
 
 
 def plan(write, files, paths, options, _more):
-    for moment, task in due_of(files.plant(paths[0]), options["--until"]):
-        write(f"{moment} {task.full_name}")
+    plant = files.plant(paths[0])
+    due = due_of(plant, options["--until"])
+    moments = (f"{moment} {task.full_name}" for moment, task in due)
+    for line in schedule_of(plant, due) if "--schedule" in options else moments:
+        write(line)
 
 
 def simulate(write, files, paths, options, _more):
@@ -426,7 +430,7 @@ def simulate(write, files, paths, options, _more):
             made.append(run.log[-1] if line.startswith("EVAL") else None)
     except Refusal as refusal:
         raise Refused(REFUSED_TEXT, f"{paths[1]}:{refusal.line}: {refusal.kind}") from None
-    files.write_traces(options, paths[0], 1, len(made) + 1, tracks_of(run.plant, made))
+    files.write_traces(options, paths[0], range(len(made) + 2), tracks_of(run.plant, made))
 
 
 def run_paced(write, files, paths, options, more):
@@ -448,7 +452,8 @@ def run_paced(write, files, paths, options, more):
     for made in run.log:
         write(made.line())
     write("REPLAY equal")
-    files.write_traces(options, paths[0], 1, len(run.log) + 1, tracks_of(plant, run.log))
+    times = [0, *(moment for moment, _ in due), options["--until"] + 1]
+    files.write_traces(options, paths[0], times, tracks_of(plant, run.log))
 
 
 def tracks_of(plant, made):
