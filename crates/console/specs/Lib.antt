@@ -12,4 +12,5 @@ pub mod ShellWord
 pub mod Warned
 pub mod Endings
 pub mod PageAnswer
+pub mod ExplainAnswer
 pub mod Steps

@@ -4,22 +4,18 @@ ghost use Rattle.console.specs.Endings.{EndsAfter, EndsText, status_of_differenc
 
 use crate::answered::Answered;
 use crate::command_fault::CommandFault;
-use crate::faults::{
-    print_difference, print_failure, print_fault_of_text, print_unwritten, print_word_refusal,
-};
+use crate::faults::{print_difference, print_failure, print_fault_of_text};
 use crate::files::file_text;
 use crate::piped::Piped;
-use crate::refusals::WordRefusal;
 use crate::request::{Color, TextRequest, TraceFiles, View};
 use crate::status::DONE;
 use crate::warned::warn;
-use guidance::{explain, kinds};
 use std::alloc::Global;
 use std::io;
 use std::io::Write;
 use std::rt::{Clock, Files};
 use text_commands::{Difference, Form, TextCommandFault, Traced, check, eval_traced, plan_text};
-use text_lines::{OnTerminal, ToldLines, write_text};
+use text_lines::{OnTerminal, ToldLines};
 use traces::{TraceTexts, Wanted};
 
 /// Whether there is color.
@@ -161,32 +157,4 @@ pub fn answer_text<R: Files + Clock + Print + Eprint + AllocGlobal>(
     let obeyed = obey(rt.alloc(), terminal, request, text.as_str(), &mut writer);
     writer.to.end();
     tell_text(rt, request, text.as_str(), writer.is_closed, obeyed)
-}
-
-/// Writes a text; the status.
-fn answer_with<R: Print + Eprint>(rt: &R, text: &str) -> io::Result<u8> {
-    let mut writer = Piped::new(io::writer(rt));
-    match write_text(&mut writer, text) {
-        Ok(()) => Ok(0),
-        Err(_) => print_unwritten(rt, writer.is_closed),
-    }
-}
-
-/// Writes what is told of the kinds of this name; the status.
-pub fn answer_kind<R: Print + Eprint + AllocGlobal>(rt: &R, kind: &str) -> io::Result<u8> {
-    let Ok(text) = explain(rt.alloc(), kind) else {
-        return print_failure(rt, CommandFault::Memory);
-    };
-    if text.is_empty() {
-        return print_word_refusal(rt, WordRefusal::NoKind(kind));
-    }
-    answer_with(rt, text.as_str())
-}
-
-/// Lists all kinds; the status.
-pub fn answer_kinds<R: Print + Eprint + AllocGlobal>(rt: &R) -> io::Result<u8> {
-    match kinds(rt.alloc()) {
-        Ok(text) => answer_with(rt, text.as_str()),
-        Err(_) => print_failure(rt, CommandFault::Memory),
-    }
 }

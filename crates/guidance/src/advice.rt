@@ -1,5 +1,5 @@
 ghost use Rattle.std.specs.Prelude.{◌≡◌};
-ghost use Rattle.guidance.specs.Steps.Advices.{heading_of, layer_text};
+ghost use Rattle.guidance.specs.Kinds.{heading_of, layer_text};
 
 /// What is refused.
 #[derive(Clone, Copy)]

@@ -1,5 +1,8 @@
 //! Kinds that are told of no text but of what happens: where each is met, and what it means. The guides in docs/ say the same.
 
+ghost use Rattle.std.specs.Prelude.{◌≡◌, map};
+ghost use Rattle.guidance.specs.Explaining.{occasion_text, remark, remarks_on};
+
 /// Where a kind is met.
 #[derive(Clone, Copy, Debug, PartialEq, Eq)]
 pub enum Occasion {
@@ -29,7 +32,9 @@ pub const OCCASIONS: [Occasion; 6] = [
 
 impl Occasion {
     /// Where it is met, in words.
-    pub fn text(self) -> &'static str {
+    pub fn text(self) -> &'static str
+        ensures { result.now ≡ occasion_text self }
+    {
         match self {
             Occasion::Event => "in a REFUSED line of plc sim",
             Occasion::Command => "in a FAULT line of plc run",
@@ -40,8 +45,10 @@ impl Occasion {
         }
     }
 
-    /// The kinds that are met there.
-    pub fn remarks(self) -> &'static [Remark] {
+    /// The kinds that are met there, each with what happened and what helps.
+    pub fn remarks(self) -> &'static [(&'static str, &'static str)]
+        ensures { map (λ r. remark r.0.now r.1.now) result.now ≡ remarks_on self }
+    {
         match self {
             Occasion::Event => &EVENTS,
             Occasion::Command => &COMMANDS,
@@ -53,193 +60,184 @@ impl Occasion {
     }
 }
 
-/// What is told of one kind.
-#[derive(Clone, Copy, Debug, PartialEq, Eq)]
-pub struct Remark {
-    /// The kind, as lines and messages name it.
-    pub kind: &'static str,
-    /// What happened, and what helps.
-    pub sentence: &'static str,
-}
-
-const EVENTS: [Remark; 6] = [
-    Remark {
-        kind: "NoSuchResource",
-        sentence: "The plant has no resource of that name.",
-    },
-    Remark {
-        kind: "NoSuchTask",
-        sentence: "The resource has no task of that name.",
-    },
-    Remark {
-        kind: "NoSuchMessage",
-        sentence: "Fewer evaluations were made so far, or the message is 0.",
-    },
-    Remark {
-        kind: "NumbersSpent",
-        sentence: "The task has made as many evaluations in this incarnation as there may be: --max-number, 4294967295 if not given. A restart of its resource begins anew.",
-    },
-    Remark {
-        kind: "IncarnationsSpent",
-        sentence: "The resource is in incarnation 4294967295.",
-    },
-    Remark {
-        kind: "NeverHeld",
-        sentence: "The resource of which is heard never was in that incarnation.",
-    },
+pub const EVENTS: [(&str, &str); 6] = [
+    (
+        "NoSuchResource",
+        "The plant has no resource of that name.",
+    ),
+    (
+        "NoSuchTask",
+        "The resource has no task of that name.",
+    ),
+    (
+        "NoSuchMessage",
+        "Fewer evaluations were made so far, or the message is 0.",
+    ),
+    (
+        "NumbersSpent",
+        "The task has made as many evaluations in this incarnation as there may be: --max-number, 4294967295 if not given. A restart of its resource begins anew.",
+    ),
+    (
+        "IncarnationsSpent",
+        "The resource is in incarnation 4294967295.",
+    ),
+    (
+        "NeverHeld",
+        "The resource of which is heard never was in that incarnation.",
+    ),
 ];
 
-const COMMANDS: [Remark; 8] = [
-    Remark {
-        kind: "OutOfTurns",
-        sentence: "With --paced, the command before wasn't done within 10,000,000 turns of waiting; with --clock, the clock couldn't be read. The command isn't given to its resource.",
-    },
-    Remark {
-        kind: "NoSuchTask",
-        sentence: "The resource has no such task. Commands of a plan always have one. The command isn't obeyed.",
-    },
-    Remark {
-        kind: "NumbersSpent",
-        sentence: "The task has made 4294967295 evaluations in this incarnation. The command isn't obeyed.",
-    },
-    Remark {
-        kind: "Memory",
-        sentence: "There was no memory left to note or make the evaluation. The command isn't obeyed. If the evaluation was made and couldn't be entered, the resource obeys no further command; if only what it retains couldn't be copied, it stands.",
-    },
-    Remark {
-        kind: "Misfit",
-        sentence: "The evaluation made doesn't fit the book. It isn't entered, and the resource obeys no further command.",
-    },
-    Remark {
-        kind: "Keeper",
-        sentence: "The incarnation couldn't be raised for a restart, of which a plan has none, or what a task retains couldn't be kept. A restart isn't obeyed; an evaluation stands.",
-    },
-    Remark {
-        kind: "NotSent",
-        sentence: "There was no memory left to send the command, or its evaluation or the news of its restart to a resource. A command isn't obeyed; an evaluation is in the book, but is lost to a resource that takes from it; a resource that misses the news goes on to make evaluations for the incarnation before.",
-    },
-    Remark {
-        kind: "Stopped",
-        sentence: "The resource had stopped obeying, because of an earlier fault. The command isn't obeyed.",
-    },
+pub const COMMANDS: [(&str, &str); 8] = [
+    (
+        "OutOfTurns",
+        "With --paced, the command before wasn't done within 10,000,000 turns of waiting; with --clock, the clock couldn't be read. The command isn't given to its resource.",
+    ),
+    (
+        "NoSuchTask",
+        "The resource has no such task. Commands of a plan always have one. The command isn't obeyed.",
+    ),
+    (
+        "NumbersSpent",
+        "The task has made 4294967295 evaluations in this incarnation. The command isn't obeyed.",
+    ),
+    (
+        "Memory",
+        "There was no memory left to note or make the evaluation. The command isn't obeyed. If the evaluation was made and couldn't be entered, the resource obeys no further command; if only what it retains couldn't be copied, it stands.",
+    ),
+    (
+        "Misfit",
+        "The evaluation made doesn't fit the book. It isn't entered, and the resource obeys no further command.",
+    ),
+    (
+        "Keeper",
+        "The incarnation couldn't be raised for a restart, of which a plan has none, or what a task retains couldn't be kept. A restart isn't obeyed; an evaluation stands.",
+    ),
+    (
+        "NotSent",
+        "There was no memory left to send the command, or its evaluation or the news of its restart to a resource. A command isn't obeyed; an evaluation is in the book, but is lost to a resource that takes from it; a resource that misses the news goes on to make evaluations for the incarnation before.",
+    ),
+    (
+        "Stopped",
+        "The resource had stopped obeying, because of an earlier fault. The command isn't obeyed.",
+    ),
 ];
 
-const RUNS: [Remark; 5] = [
-    Remark {
-        kind: "Spawn",
-        sentence: "A thread couldn't be started. Those started before were stopped and joined.",
-    },
-    Remark {
-        kind: "BookDisagrees",
-        sentence: "What a journal made isn't what the book has of its resource.",
-    },
-    Remark {
-        kind: "Stranger",
-        sentence: "An entry, or a restart, answers no command, an entry has heard of an incarnation that never was, or a fault is of no command that can have met it.",
-    },
-    Remark {
-        kind: "Doubled",
-        sentence: "In a journal the tickets don't rise.",
-    },
-    Remark {
-        kind: "Keeper",
-        sentence: "What is kept couldn't be read or raised at the start: with --state, a file of the folder is Unreadable, Unwritable or Spent.",
-    },
+pub const RUNS: [(&str, &str); 5] = [
+    (
+        "Spawn",
+        "A thread couldn't be started. Those started before were stopped and joined.",
+    ),
+    (
+        "BookDisagrees",
+        "What a journal made isn't what the book has of its resource.",
+    ),
+    (
+        "Stranger",
+        "An entry, or a restart, answers no command, an entry has heard of an incarnation that never was, or a fault is of no command that can have met it.",
+    ),
+    (
+        "Doubled",
+        "In a journal the tickets don't rise.",
+    ),
+    (
+        "Keeper",
+        "What is kept couldn't be read or raised at the start: with --state, a file of the folder is Unreadable, Unwritable or Spent.",
+    ),
 ];
 
-const STATES: [Remark; 3] = [
-    Remark {
-        kind: "Unreadable",
-        sentence: "NAME.inc can't be read, is no file, or isn't a number from 0 to 4294967295 without leading zeros and a line feed, or NAME.K.ret doesn't hold just the variables that the task retains. It is left as it is: write the last incarnation into the first, or one above, and a line for each variable into the second.",
-    },
-    Remark {
-        kind: "Unwritable",
-        sentence: "The folder is missing, or a file can't be replaced in it: NAME.inc, or at a node NAME.K.ret. No incarnation is used twice, and one may be skipped: make room or leave to write, and begin again.",
-    },
-    Remark {
-        kind: "Spent",
-        sentence: "NAME.inc is 4294967295, and no incarnation is left: begin with an empty folder.",
-    },
+pub const STATES: [(&str, &str); 3] = [
+    (
+        "Unreadable",
+        "NAME.inc can't be read, is no file, or isn't a number from 0 to 4294967295 without leading zeros and a line feed, or NAME.K.ret doesn't hold just the variables that the task retains. It is left as it is: write the last incarnation into the first, or one above, and a line for each variable into the second.",
+    ),
+    (
+        "Unwritable",
+        "The folder is missing, or a file can't be replaced in it: NAME.inc, or at a node NAME.K.ret. No incarnation is used twice, and one may be skipped: make room or leave to write, and begin again.",
+    ),
+    (
+        "Spent",
+        "NAME.inc is 4294967295, and no incarnation is left: begin with an empty folder.",
+    ),
 ];
 
-const NODES: [Remark; 11] = [
-    Remark {
-        kind: "Syntax",
-        sentence: "It is no EVAL, MESSAGE, HELLO, RESTART or, with --field, INPUT with its words. A MESSAGE is read only as a node of the same plant writes it behind SEND.",
-    },
-    Remark {
-        kind: "TooLong",
-        sentence: "It has more than 16,777,216 bytes. It was read to its end.",
-    },
-    Remark {
-        kind: "NotFromThere",
-        sentence: "With --field, the field says INPUT, EVAL and RESTART alone, and standard input MESSAGE and HELLO.",
-    },
-    Remark {
-        kind: "Cycling",
-        sentence: "With --cycle, no EVAL is read: the node makes its evaluations by itself.",
-    },
-    Remark {
-        kind: "Twice",
-        sentence: "Two words of the INPUT have one address. None of its words was taken.",
-    },
-    Remark {
-        kind: "NoSuchResource",
-        sentence: "The plant has no resource of that name.",
-    },
-    Remark {
-        kind: "NotHere",
-        sentence: "The resource is another one's node: give it the line.",
-    },
-    Remark {
-        kind: "NoSuchTask",
-        sentence: "The resource has no task of that name.",
-    },
-    Remark {
-        kind: "NumbersSpent",
-        sentence: "The task has made 4294967295 evaluations in this incarnation. RESTART begins anew.",
-    },
-    Remark {
-        kind: "TooHigh",
-        sentence: "The incarnation told is more than 1,000,000 above what was heard and is held of that resource. The line is forged, or the resource has risen so far, by a file of its folder of state or by as many restarts.",
-    },
-    Remark {
-        kind: "Keeper",
-        sentence: "The incarnation couldn't be raised: with --state, NAME.inc is Unreadable, Unwritable or Spent, without it 4294967295. The resource goes on in its incarnation.",
-    },
+pub const NODES: [(&str, &str); 11] = [
+    (
+        "Syntax",
+        "It is no EVAL, MESSAGE, HELLO, RESTART or, with --field, INPUT with its words. A MESSAGE is read only as a node of the same plant writes it behind SEND.",
+    ),
+    (
+        "TooLong",
+        "It has more than 16,777,216 bytes. It was read to its end.",
+    ),
+    (
+        "NotFromThere",
+        "With --field, the field says INPUT, EVAL and RESTART alone, and standard input MESSAGE and HELLO.",
+    ),
+    (
+        "Cycling",
+        "With --cycle, no EVAL is read: the node makes its evaluations by itself.",
+    ),
+    (
+        "Twice",
+        "Two words of the INPUT have one address. None of its words was taken.",
+    ),
+    (
+        "NoSuchResource",
+        "The plant has no resource of that name.",
+    ),
+    (
+        "NotHere",
+        "The resource is another one's node: give it the line.",
+    ),
+    (
+        "NoSuchTask",
+        "The resource has no task of that name.",
+    ),
+    (
+        "NumbersSpent",
+        "The task has made 4294967295 evaluations in this incarnation. RESTART begins anew.",
+    ),
+    (
+        "TooHigh",
+        "The incarnation told is more than 1,000,000 above what was heard and is held of that resource. The line is forged, or the resource has risen so far, by a file of its folder of state or by as many restarts.",
+    ),
+    (
+        "Keeper",
+        "The incarnation couldn't be raised: with --state, NAME.inc is Unreadable, Unwritable or Spent, without it 4294967295. The resource goes on in its incarnation.",
+    ),
 ];
 
-const AUDITS: [Remark; 8] = [
-    Remark {
-        kind: "Syntax",
-        sentence: "The line is none that a node of this plant's resource notes: a byte was changed, a line was cut, the plant is another one, or no START stands before it.",
-    },
-    Remark {
-        kind: "NotRisen",
-        sentence: "This START or RESTART isn't above the incarnation before. Two nodes of one resource wrote journals, each with a folder of state of its own, or the folder was lost.",
-    },
-    Remark {
-        kind: "TooHigh",
-        sentence: "This START or RESTART is above the incarnation before by more than 1,000,000, or more than that are skipped in all. It was changed, or one before it in a journal, or a file of a folder of state was.",
-    },
-    Remark {
-        kind: "Kept",
-        sentence: "The retained values that this START opens with aren't those that were left. A file of the folder of state was changed, or the journal of a run between isn't given.",
-    },
-    Remark {
-        kind: "Differs",
-        sentence: "The message was taken otherwise than it was made: with other values, or another list of what its maker had heard. Something between the nodes changed or forged it.",
-    },
-    Remark {
-        kind: "Unmade",
-        sentence: "The message was taken, and its maker, which went on to a later incarnation, never made it. Something between the nodes forged it.",
-    },
-    Remark {
-        kind: "Waits",
-        sentence: "The journal of the resource that is named can't be shown so far itself; look at its own UNSHOWN line. Where several wait for one another, a line was cut from the middle of a journal, or two nodes of one resource ran at once.",
-    },
-    Remark {
-        kind: "Missing",
-        sentence: "What the line needs stands in no journal that was given: one was cut off or isn't given, or the line is forged. It can't be shown, either way.",
-    },
+pub const AUDITS: [(&str, &str); 8] = [
+    (
+        "Syntax",
+        "The line is none that a node of this plant's resource notes: a byte was changed, a line was cut, the plant is another one, or no START stands before it.",
+    ),
+    (
+        "NotRisen",
+        "This START or RESTART isn't above the incarnation before. Two nodes of one resource wrote journals, each with a folder of state of its own, or the folder was lost.",
+    ),
+    (
+        "TooHigh",
+        "This START or RESTART is above the incarnation before by more than 1,000,000, or more than that are skipped in all. It was changed, or one before it in a journal, or a file of a folder of state was.",
+    ),
+    (
+        "Kept",
+        "The retained values that this START opens with aren't those that were left. A file of the folder of state was changed, or the journal of a run between isn't given.",
+    ),
+    (
+        "Differs",
+        "The message was taken otherwise than it was made: with other values, or another list of what its maker had heard. Something between the nodes changed or forged it.",
+    ),
+    (
+        "Unmade",
+        "The message was taken, and its maker, which went on to a later incarnation, never made it. Something between the nodes forged it.",
+    ),
+    (
+        "Waits",
+        "The journal of the resource that is named can't be shown so far itself; look at its own UNSHOWN line. Where several wait for one another, a line was cut from the middle of a journal, or two nodes of one resource ran at once.",
+    ),
+    (
+        "Missing",
+        "What the line needs stands in no journal that was given: one was cut off or isn't given, or the line is forged. It can't be shown, either way.",
+    ),
 ];

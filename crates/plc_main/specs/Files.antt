@@ -14,6 +14,7 @@ use Rattle.console.specs.declared.request.TextRequest.{TextRequest}
 use Rattle.console.specs.declared.request.TraceFiles.{TraceFiles}
 use Rattle.console.specs.CommandLine.{AsksFor, OnlyMemoryRefuses, files_in, plc_app}
 use Rattle.console.specs.Endings.{EndsSim, EndsText, EndsVerify, status_of_words}
+use Rattle.console.specs.ExplainAnswer.{EndsExplain}
 use Rattle.console.specs.PageAnswer.{EndsPage}
 use Rattle.plc_main.specs.declared.clashes.FileUse.{FileUse}
 use Rattle.plc_main.specs.Clashes.{first_clash}
@@ -53,7 +54,7 @@ EndsRequest terminal (Sim request) old new status =
 EndsRequest terminal (Run request) old new status =
     (answered : Answered) × EndsFiles request.files answered old new status
 EndsRequest terminal (Node request) old new status = new ≡ old
-EndsRequest terminal (Explain kind) old new status = new ≡ old
+EndsRequest terminal (Explain kind) old new status = EndsExplain kind status × (new ≡ old)
 EndsRequest terminal (Page file) old new status = EndsPage status × (new ≡ old)
 EndsRequest terminal (Audit request) old new status = new ≡ old
 
