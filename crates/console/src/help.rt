@@ -196,7 +196,8 @@ number of each command that wasn't done, FAULT and the resource, the number of t
 that went wrong; at last whether a run of these evaluations in one thread makes the same ones again.
 
 With --vcd FILE and --svg FILE the outputs of all tasks are written, as plc eval --help tells of variables: at 0 ms as they
-are before the first evaluation (FALSE, 0 or T#0ms), and at K ms as they are behind the line EVAL K.
+are before the first evaluation (FALSE, 0 or T#0ms), then as each command's evaluation leaves them, at its moment in the plan.
+The dump ends 1 ms behind MS. In the diagram each command is one column, and the marks tell the moments.
 
 Example:
 

@@ -7,7 +7,6 @@ use Rattle.plant.specs.PlantValue.{PlantValue}
 use Rattle.evaluation.specs.declared.field_input.FieldInput.{FieldInput}
 use Rattle.keepers.specs.Keepers.{Telling}
 use Rattle.keepers.specs.declared.keeper_fault.KeeperFault.{KeeperFault}
-use Rattle.node_reports.specs.declared.command.Command.{Command}
 use Rattle.node_reports.specs.declared.run_fault.RunFault.{RunFault}
 use Rattle.node_reports.specs.declared.report.Report.{Report}
 use Rattle.node_reports.specs.Journals.{BeginAbove}
@@ -20,7 +19,8 @@ use Rattle.text_lines.specs.declared.send_fault.SendFault.TheVariants as sending
 use Rattle.text_commands.specs.declared.text_command_fault.TextCommandFault.{TextCommandFault}
 use Rattle.text_commands.specs.declared.text_command_fault.TextCommandFault.TheVariants as text
 use Rattle.text_commands.specs.PlanText.{RefusesPlanOf}
-use Rattle.run_texts.specs.RunCommands.{ArePlanned}
+use Rattle.run_texts.specs.declared.planned_run.PlannedRun.{PlannedRun}
+use Rattle.run_texts.specs.RunCommands.{IsPlannedRun}
 use Rattle.run_texts.specs.ReportText.{TellsPart}
 use Rattle.text_commands.specs.Giving.{sending_fault}
 use Rattle.console.specs.Giving.{GivenForRun, command_fault}
@@ -38,12 +38,12 @@ pub run_refused : {K T : Type 0} (last : K → ℕ) (raises : K → Result ℕ K
 run_refused last raises tells keepers plant until inputs old found r is refused = kept_fault (command_fault found) (ExplainsRun last raises tells keepers plant until inputs old old) r is (no_plan last raises tells keepers plant until inputs old found refused)
 
 -- no report
-pub no_report : {K T : Type 0} (last : K → ℕ) (raises : K → Result ℕ KeeperFault → Type 0) (tells : K → Telling) (keepers : List K) (plant : PlantValue) (until : ℕ) (inputs : List FieldInput) (commands : List Command) (old : Option (List ℕ)) (found : RunFault) (r : Result T CommandFault) → ArePlanned plant until inputs commands
-    → IsRunFault plant 4294967295 commands found → IsErrAnd r (GivenForRun found) → IfErr r (ExplainsRun last raises tells keepers plant until inputs old old)
-no_report last raises tells keepers plant until inputs commands old found (Ok x) planned refused given = tt
-no_report last raises tells keepers plant until inputs commands old found (Err fault) planned refused given = elim given [
+pub no_report : {K T : Type 0} (last : K → ℕ) (raises : K → Result ℕ KeeperFault → Type 0) (tells : K → Telling) (keepers : List K) (plant : PlantValue) (until : ℕ) (inputs : List FieldInput) (run : PlannedRun) (old : Option (List ℕ)) (found : RunFault) (r : Result T CommandFault) → IsPlannedRun plant until inputs run
+    → IsRunFault plant 4294967295 run.commands.items found → IsErrAnd r (GivenForRun found) → IfErr r (ExplainsRun last raises tells keepers plant until inputs old old)
+no_report last raises tells keepers plant until inputs run old found (Ok x) planned refused given = tt
+no_report last raises tells keepers plant until inputs run old found (Err fault) planned refused given = elim given [
   | inl w ↦ subst (ExplainsRun last raises tells keepers plant until inputs old old) (sym w.1) (inl (Keeps-refl old))
-  | inr w ↦ subst (ExplainsRun last raises tells keepers plant until inputs old old) (sym w.1) (record { commands = commands; planned = planned; refused = refused; not_memory = w.0 }, Keeps-refl old)
+  | inr w ↦ subst (ExplainsRun last raises tells keepers plant until inputs old old) (sym w.1) (record { run = run; planned = planned; refused = refused; not_memory = w.0 }, Keeps-refl old)
 ]
 
 told_of : {K : Type 0} (last : K → ℕ) (raises : K → Result ℕ KeeperFault → Type 0) (tells : K → Telling) (keepers : List K) (plant : PlantValue) (until : ℕ) (inputs : List FieldInput) (old new : Option (List ℕ)) (report : Report) (found : SendFault) → IsReportOf last raises tells keepers plant until inputs report → TellsPart plant report old new found
@@ -58,12 +58,12 @@ told_partly last raises tells keepers plant until inputs old new report found r 
     kept_fault (command_fault (sending_fault found)) (ExplainsRun last raises tells keepers plant until inputs old new) r given (told_of last raises tells keepers plant until inputs old new report found is part)
 
 -- what the threads answered is a report of the commands for the plan
-pub report_of : {K : Type 0} (last : K → ℕ) (raises : K → Result ℕ KeeperFault → Type 0) (tells : K → Telling) (keepers : List K) (plant : PlantValue) (until : ℕ) (inputs : List FieldInput) (commands : List Command) (report : Report) → ArePlanned plant until inputs commands
+pub report_of : {K : Type 0} (last : K → ℕ) (raises : K → Result ℕ KeeperFault → Type 0) (tells : K → Telling) (keepers : List K) (plant : PlantValue) (until : ℕ) (inputs : List FieldInput) (run : PlannedRun) (report : Report) → IsPlannedRun plant until inputs run
     → IsFittingBook report.book report.journals → AreJournalsOf plant 4294967295 report.journals → BeginAbove last keepers report.journals → BeginAsRaised raises keepers report.journals → OpenAsTold tells plant keepers report.journals → AreInBook report.book.entries report.journals
-    → AreAnswers commands report.book.entries report.journals report.unanswered → RunsAgain plant 4294967295 report.book report.journals
-    → CanBeMadeAgain plant 4294967295 report.book report.journals → AreTold plant commands report.journals report.unanswered report.node_faults → IsReportOf last raises tells keepers plant until inputs report
-report_of last raises tells keepers plant until inputs commands report planned fitting journals begun given opened made answers again made_again faults = record {
-  commands = commands;
+    → AreAnswers run.commands.items report.book.entries report.journals report.unanswered → RunsAgain plant 4294967295 report.book report.journals
+    → CanBeMadeAgain plant 4294967295 report.book report.journals → AreTold plant run.commands.items report.journals report.unanswered report.node_faults → IsReportOf last raises tells keepers plant until inputs report
+report_of last raises tells keepers plant until inputs run report planned fitting journals begun given opened made answers again made_again faults = record {
+  run = run;
   planned = planned;
   reported = record { fitting = fitting; journals = journals; begun = begun; given = given; opened = opened; made = made; answers = answers; again = again; made_again = made_again; faults = faults };
 }

@@ -7,6 +7,7 @@ use Rattle.keepers.specs.declared.keeper_fault.KeeperFault.{KeeperFault}
 use Rattle.evaluation.specs.declared.field_input.FieldInput.{FieldInput}
 use Rattle.evaluation.specs.InputTexts.{IsRead}
 use Rattle.node_reports.specs.declared.command.Command.{Command}
+use Rattle.run_texts.specs.declared.planned_run.PlannedRun.{PlannedRun}
 use Rattle.node_reports.specs.declared.report.Report.{Report}
 use Rattle.node_reports.specs.Journals.{BeginAbove}
 use Rattle.node_reports.specs.Reports.{IsFittingBook, AreJournalsOf, AreInBook, AreAnswers, RunsAgain, CanBeMadeAgain, AreTold, IsRunFault}
@@ -23,10 +24,9 @@ use Rattle.node_reports.specs.declared.run_fault.RunFault.TheVariants as run
 use Rattle.text_commands.specs.declared.text_command_fault.TextCommandFault.TheVariants as text
 use Rattle.text_commands.specs.PlanText.{RefusesPlanOf}
 use Rattle.traces.specs.declared.texts.Wanted.{Wanted}
-use Rattle.traces.specs.Moments.{of_entries}
-use Rattle.traces.specs.Texts.{AreOutputTexts}
+use Rattle.traces.specs.Texts.{ArePlannedTexts}
 use Rattle.plc_main.specs.declared.run_command.Ran.{Ran}
-use Rattle.run_texts.specs.RunCommands.{ArePlanned}
+use Rattle.run_texts.specs.RunCommands.{IsPlannedRun}
 use Rattle.run_texts.specs.ReportText.{report_lines, replay_line}
 
 -- What a report of threads with these keepers is: its book fits; its journals are lawful, begin above what the keepers
@@ -49,12 +49,12 @@ pub record IsReport {K : Type 0} (last : K → ℕ) (raises : K → Result ℕ K
 -- a report of threads that ran the commands for the plan
 pub record IsReportOf {K : Type 0} (last : K → ℕ) (raises : K → Result ℕ KeeperFault → Type 0) (tells : K → Telling)
     (keepers : List K) (plant : PlantValue) (until : ℕ) (inputs : List FieldInput) (report : Report) : Type 0 where
-  pub commands : List Command
-  pub planned : ArePlanned plant until inputs commands
-  pub reported : IsReport last raises tells keepers plant commands 4294967295 report
+  pub run : PlannedRun
+  pub planned : IsPlannedRun plant until inputs run
+  pub reported : IsReport last raises tells keepers plant run.commands.items 4294967295 report
 
 -- The lines of such a report were written, and `REPLAY equal` last; the answer is whether there is a fault in the
--- report, with the texts that are wanted of its book.
+-- report, with the texts that are wanted of its book's evaluations at the moments of the plan.
 pub record WritesReport {K : Type 0} (last : K → ℕ) (raises : K → Result ℕ KeeperFault → Type 0) (tells : K → Telling)
     (keepers : List K) (plant : PlantValue) (until : ℕ) (inputs : List FieldInput) (wanted : Wanted)
     (old new : Option (List ℕ)) (ran : Ran) : Type 0 where
@@ -62,7 +62,7 @@ pub record WritesReport {K : Type 0} (last : K → ℕ) (raises : K → Result �
   pub is_report : IsReportOf last raises tells keepers plant until inputs report
   pub appended : Appends old new (report_lines plant report ++ replay_line true)
   pub faulty_is : IsTrue ran.faulty ↔ (report.node_faults ≢ [])
-  pub texts : AreOutputTexts wanted plant (of_entries report.book.entries) ran.texts
+  pub texts : ArePlannedTexts wanted plant until is_report.run.dues.items report.book.entries ran.texts
 
 -- the report of the plant up to the moment that was asked for was written, with the field inputs that the words give, and
 -- the texts for the files that were asked for
@@ -90,9 +90,9 @@ pub record WritesReportPart {K : Type 0} (last : K → ℕ) (raises : K → Resu
 
 -- threads that ran the commands for the plan gave no report, for this reason, which isn't want of memory
 pub record RefusesRun (plant : PlantValue) (until : ℕ) (inputs : List FieldInput) (fault : RunFault) : Type 0 where
-  pub commands : List Command
-  pub planned : ArePlanned plant until inputs commands
-  pub refused : IsRunFault plant 4294967295 commands fault
+  pub run : PlannedRun
+  pub planned : IsPlannedRun plant until inputs run
+  pub refused : IsRunFault plant 4294967295 run.commands.items fault
   pub not_memory : fault ≢ run.Memory
 
 -- why there was a fault, and what was written before: nothing before a plan that is too long and threads that gave no

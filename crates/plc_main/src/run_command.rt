@@ -8,12 +8,12 @@ use evaluation::Inputs;
 use keepers::Keeper;
 use node::{Gate, run_threads};
 use plant::Plant;
-use run_texts::{planned_commands, tell_report};
+use run_texts::{planned_run, tell_report};
 use std::alloc::Global;
 use std::io::Write;
 use std::sync::{Arc, Wait};
 use std::thread::Threads;
-use traces::{TraceTexts, Wanted, entry_texts};
+use traces::{TraceTexts, Wanted, planned_texts};
 
 /// What came of a run: whether there was a fault, and the texts of its trace.
 #[derive(Debug, Drop)]
@@ -25,7 +25,7 @@ pub struct Ran {
 /// Runs the plan of a plant up to and with `until` (in ms) in threads, a command with these field inputs for each
 /// entry, and writes what they did: a line for each evaluation, then for each command that wasn't answered and for each
 /// fault, and last whether one thread makes the same evaluations. It tells whether there was a fault, and the texts of the
-/// trace that are wanted.
+/// trace that are wanted, which has each entry's evaluation at the entry's moment.
 ///
 /// `TooLong` and `Run` come before anything is written. After `Write` and `Memory` what went out is a prefix, and not all.
 pub fn run_text<R: Threads + Wait + Sync, K: Keeper, G: Gate, W: Write>(
@@ -47,10 +47,17 @@ pub fn run_text<R: Threads + Wait + Sync, K: Keeper, G: Gate, W: Write>(
         (ExplainsRun K.last K.raise_gives K.kept_gives keepers.items plant.value until inputs
         (W.contents writer.old) (W.contents writer.new)) }
 {
-    let commands = planned_commands(alloc, &plant, until, &inputs)?;
+    let run = planned_run(alloc, &plant, until, &inputs)?;
     let shared = Arc::try_clone(&plant)?;
-    let report = run_threads(rt, alloc, shared, &commands, keepers, gate, u32::MAX)?;
-    let texts = entry_texts(alloc, wanted, &plant, report.book.entries())?;
+    let report = run_threads(rt, alloc, shared, &run.commands, keepers, gate, u32::MAX)?;
+    let texts = planned_texts(
+        alloc,
+        wanted,
+        &plant,
+        until,
+        &run.dues,
+        report.book.entries(),
+    )?;
     let faulty = tell_report(alloc, plant, &report, writer)?;
     Ok(Ran { faulty, texts })
 }

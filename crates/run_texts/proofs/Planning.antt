@@ -11,7 +11,8 @@ use Rattle.plant.specs.Plan.{timings_of}
 use Rattle.evaluation.specs.declared.field_input.FieldInput.{FieldInput}
 use Rattle.node_reports.specs.declared.command.Command.{Command}
 use Rattle.node_reports.specs.Commands.{AreNumbered, AreForPlant}
-use Rattle.run_texts.specs.RunCommands.{command_for, commands_from, ArePlanned}
+use Rattle.run_texts.specs.RunCommands.{command_for, commands_from, IsPlannedRun}
+use Rattle.run_texts.specs.declared.planned_run.PlannedRun.{PlannedRun}
 
 -- the tickets count from k on
 numbered_from : (plant : PlantValue) (inputs : List FieldInput) (j : ℕ) (dues : List Due) (k : ℕ) (c : Command) → slice_get (commands_from plant inputs j dues) k ≡ Some c → c.ticket ≡ j + k
@@ -34,11 +35,11 @@ for_plant_from plant until inputs j [] each k c lt = absurd (omega arith)
 for_plant_from plant until inputs j (d ∷ dues) each zero c lt = let due = each 0 d (omega arith) in resource_exists plant d due.timing due.stands
 for_plant_from plant until inputs j (d ∷ dues) each (suc k) c lt = for_plant_from plant until inputs (j + 1) dues (λ i x inside. each (suc i) x (omega arith)) k c (omega arith)
 
-pub planned_numbered : (plant : PlantValue) (until : ℕ) (inputs : List FieldInput) (commands : List Command) → ArePlanned plant until inputs commands → AreNumbered commands
-planned_numbered plant until inputs commands p = subst AreNumbered (sym p.commands_are) (numbered plant inputs p.dues)
+pub planned_numbered : (plant : PlantValue) (until : ℕ) (inputs : List FieldInput) (run : PlannedRun) → IsPlannedRun plant until inputs run → AreNumbered run.commands.items
+planned_numbered plant until inputs run p = subst AreNumbered (sym p.commands_are) (numbered plant inputs run.dues.items)
 
-pub planned_for_plant : (plant : PlantValue) (until : ℕ) (inputs : List FieldInput) (commands : List Command) → ArePlanned plant until inputs commands → AreForPlant plant commands
-planned_for_plant plant until inputs commands p = subst (AreForPlant plant) (sym p.commands_are) (for_plant_from plant until inputs 1 p.dues p.planned.each)
+pub planned_for_plant : (plant : PlantValue) (until : ℕ) (inputs : List FieldInput) (run : PlannedRun) → IsPlannedRun plant until inputs run → AreForPlant plant run.commands.items
+planned_for_plant plant until inputs run p = subst (AreForPlant plant) (sym p.commands_are) (for_plant_from plant until inputs 1 run.dues.items p.planned.each)
 
 -- what follows from what an answer has
 pub ok_more : {T E : Type 0} (P Q : T → Type 0) (r : Result T E) → ((x : T) → P x → Q x) → IfOk r P → IfOk r Q

@@ -8,6 +8,7 @@ use Rattle.plant.specs.Plan.{task_at, IsPlan}
 use Rattle.evaluation.specs.declared.field_input.FieldInput.{FieldInput}
 use Rattle.node_reports.specs.declared.command.Command.{Command}
 use Rattle.node_reports.specs.declared.act.Act.TheVariants.{Evaluate}
+use Rattle.run_texts.specs.declared.planned_run.PlannedRun.{PlannedRun}
 
 -- the interval of a task
 abbrev pub interval_at : PlantValue → TaskRef → ℕ
@@ -27,10 +28,8 @@ abbrev pub commands_from : PlantValue → List FieldInput → ℕ → List Due �
 commands_from plant inputs k [] = []
 commands_from plant inputs k (d ∷ dues) = command_for plant inputs k d ∷ commands_from plant inputs (k + 1) dues
 
--- the commands are those for the entries of the plan, of which there are at most 100,000
-pub record ArePlanned (plant : PlantValue) (until : ℕ) (inputs : List FieldInput)
-    (commands : List Command) : Type 0 where
-  pub dues : List Due
-  pub planned : IsPlan plant until dues
-  pub few : length dues ≤ 100000
-  pub commands_are : commands ≡ commands_from plant inputs 1 dues
+-- the entries are those of the plan, at most 100,000, and the commands those for them
+pub record IsPlannedRun (plant : PlantValue) (until : ℕ) (inputs : List FieldInput) (run : PlannedRun) : Type 0 where
+  pub planned : IsPlan plant until run.dues.items
+  pub few : length run.dues.items ≤ 100000
+  pub commands_are : run.commands.items ≡ commands_from plant inputs 1 run.dues.items

@@ -4,11 +4,13 @@
 
 mod audit_telling;
 mod audit_text;
+mod planned_run;
 mod replay;
 mod report_text;
 mod run_commands;
 mod telling;
 
 pub use audit_telling::tell_audit;
-pub use run_commands::planned_commands;
+pub use planned_run::PlannedRun;
+pub use run_commands::planned_run;
 pub use telling::tell_report;

@@ -1,8 +1,9 @@
 ghost use Rattle.std.specs.Prelude.{◌≡◌, IfOk, IfErr};
 ghost use Rattle.text_commands.specs.PlanText.{RefusesPlanOf};
 ghost use Rattle.node_reports.specs.Commands.{AreNumbered, AreForPlant};
-ghost use Rattle.run_texts.specs.RunCommands.{interval_at, command_for, commands_from, ArePlanned};
+ghost use Rattle.run_texts.specs.RunCommands.{interval_at, command_for, commands_from, IsPlannedRun};
 
+use crate::planned_run::PlannedRun;
 use evaluation::Inputs;
 use node_reports::{Act, Command};
 use plant::Plant;
@@ -52,32 +53,33 @@ fn commands_of(
     Ok(commands)
 }
 
-/// The commands for the entries of a plan.
-fn commands_until(
+/// The entries of a plan, and the commands for them.
+fn run_until(
     alloc: Global,
     plant: &Plant,
     until: u32,
     inputs: &Inputs,
-) -> Result<Vec<Command>, TextCommandFault>
-    ensures ok { IfOk result (λ commands. ArePlanned plant.now until inputs.now commands.items) }
+) -> Result<PlannedRun, TextCommandFault>
+    ensures ok { IfOk result (IsPlannedRun plant.now until inputs.now) }
     ensures fault { IfErr result (RefusesPlanOf plant.now until) }
 {
     let dues = plan_of(alloc, plant, until)?;
-    Ok(commands_of(alloc, plant, inputs, &dues)?)
+    let commands = commands_of(alloc, plant, inputs, &dues)?;
+    Ok(PlannedRun { dues, commands })
 }
 
-/// The commands for the plan of a plant up to and with `until` (in ms): one for each entry, with these field inputs.
+/// The plan of a plant up to and with `until` (in ms), and a command for each of its entries, with these field inputs.
 /// They are numbered, and for resources of the plant.
-pub fn planned_commands(
+pub fn planned_run(
     alloc: Global,
     plant: &Plant,
     until: u32,
     inputs: &Inputs,
-) -> Result<Vec<Command>, TextCommandFault>
-    ensures ok { IfOk result (λ commands. ArePlanned plant.now until inputs.now commands.items) }
-    ensures numbered { IfOk result (λ commands. AreNumbered commands.items) }
-    ensures resources { IfOk result (λ commands. AreForPlant plant.now commands.items) }
+) -> Result<PlannedRun, TextCommandFault>
+    ensures ok { IfOk result (IsPlannedRun plant.now until inputs.now) }
+    ensures numbered { IfOk result (λ run. AreNumbered run.commands.items) }
+    ensures resources { IfOk result (λ run. AreForPlant plant.now run.commands.items) }
     ensures fault { IfErr result (RefusesPlanOf plant.now until) }
 {
-    commands_until(alloc, plant, until, inputs)
+    run_until(alloc, plant, until, inputs)
 }

@@ -11,6 +11,7 @@ use Rattle.std.specs.Prelude.{length}
 use Rattle.std.proofs.lemmas.Bool.{and_parts}
 use Rattle.traces.specs.declared.texts.Wanted.{Wanted}
 use Rattle.traces.specs.declared.texts.TraceTexts.{TraceTexts}
+use Rattle.traces.specs.Times.{each}
 use Rattle.traces.specs.Tracks.{TrackValue}
 use Rattle.traces.specs.ValueChanges.{dump_of}
 use Rattle.traces.specs.Diagram.{diagram_of}
@@ -34,18 +35,18 @@ no_diagram None f is = refl
 no_diagram (Some title) f is = absurd (let no : ⊥ = cc in no)
 
 -- where nothing is wanted no texts are all
-pub untraced : (wanted : Wanted) (step moments : ℕ) (tracks : List TrackValue) (texts : TraceTexts) → is_nothing wanted ≡ true → texts.dump ≡ None → texts.diagram ≡ None → AreTexts wanted step moments tracks texts
-untraced wanted step moments tracks texts is dump diagram =
+pub untraced : (wanted : Wanted) (time : ℕ → ℕ) (moments : ℕ) (tracks : List TrackValue) (texts : TraceTexts) → is_nothing wanted ≡ true → texts.dump ≡ None → texts.diagram ≡ None → AreTexts wanted time moments tracks texts
+untraced wanted time moments tracks texts is dump diagram =
     let parts = and_parts (not wanted.dump) (option_map_or (λ title. false) wanted.diagram true) is in
     record {
-      dump = ap (option_map (λ t. string_bytes t)) dump ∙ sym (no_dump wanted.dump (Some (dump_of step moments tracks)) parts.0);
-      diagram = ap (option_map (λ t. string_bytes t)) diagram ∙ sym (no_diagram wanted.diagram (λ title. diagram_of title.now step moments tracks) parts.1);
+      dump = ap (option_map (λ t. string_bytes t)) dump ∙ sym (no_dump wanted.dump (Some (dump_of time moments tracks)) parts.0);
+      diagram = ap (option_map (λ t. string_bytes t)) diagram ∙ sym (no_diagram wanted.diagram (λ title. diagram_of title.now time moments tracks) parts.1);
     }
 
 -- the parts of a trace, with its texts
 pub traced_whole : (drawing : List ℕ) (ds : List Declaration) (networks : List Diagram) (dt : ℕ) (form : Form) (wanted : Wanted) (rows expected : List SeriesValue) (scans : ℕ) (states : List StateValue) (text : List ℕ)
     (traced : Traced) → scans ≡ test_scans rows expected → IsFormTrace form drawing ds networks dt rows scans states text → IsOutcome ds expected (slots_of states) traced.difference
-    → AreTexts wanted (step_of dt) (length states) (tracks_of ds (slots_of states)) traced.texts → IsTracedTest drawing ds networks dt form wanted rows expected text traced
+    → AreTexts wanted (each (step_of dt)) (length states) (tracks_of ds (slots_of states)) traced.texts → IsTracedTest drawing ds networks dt form wanted rows expected text traced
 traced_whole drawing ds networks dt form wanted rows expected scans states text traced many is outcome texts =
     let t = subst (λ n. IsFormTrace form drawing ds networks dt rows n states text) many is in
     let long : length states ≡ length t.0.0.states = sym (ap length t.0.1 ∙ length-map states (λ (s : StateValue). s.slots)) in
@@ -56,7 +57,7 @@ traced_whole drawing ds networks dt form wanted rows expected scans states text 
         text_is = t.1;
         outcome = subst (λ l. IsOutcome ds expected l traced.difference) (sym t.0.1) outcome;
       };
-      texts = subst (λ n. AreTexts wanted (step_of dt) n (tracks_of ds t.0.0.states) traced.texts) long (subst (λ (l : List (List Slot)). AreTexts wanted (step_of dt) (length states) (tracks_of ds l) traced.texts) (sym t.0.1) texts);
+      texts = subst (λ n. AreTexts wanted (each (step_of dt)) n (tracks_of ds t.0.0.states) traced.texts) long (subst (λ (l : List (List Slot)). AreTexts wanted (each (step_of dt)) (length states) (tracks_of ds l) traced.texts) (sym t.0.1) texts);
     }
 
 -- a test of which all was traced and written

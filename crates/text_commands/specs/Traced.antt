@@ -3,6 +3,7 @@ use Rattle.std.specs.Prelude.{ℕ, zero, suc, ◌==◌, ◌++◌, if◌then◌el
 use Rattle.std.specs.Option.{option_map_or}
 use Rattle.declared_names.specs.declared.declarations.Declaration.{Declaration}
 use Rattle.scan_steps.specs.declared.slot.Slot.{Slot}
+use Rattle.traces.specs.Times.{each}
 use Rattle.traces.specs.Tracks.{TrackValue}
 use Rattle.traces.specs.declared.texts.Wanted.{Wanted}
 use Rattle.traces.specs.Wanted.{AreTexts}
@@ -34,5 +35,5 @@ step_of dt = if dt == 0 then 1 else dt
 pub record WritesTraced (drawing : List ℕ) (words : List (List ℕ)) (dt : ℕ) (form : Form) (wanted : Wanted)
     (old new : Option (List ℕ)) (traced : Traced) : Type 0 where
   pub test : WritesTest drawing words dt form old new traced.difference
-  pub texts : AreTexts wanted (step_of dt) (length test.made.states)
+  pub texts : AreTexts wanted (each (step_of dt)) (length test.made.states)
       (tracks_of test.asked.declarations test.made.states) traced.texts

@@ -1,5 +1,6 @@
 ghost use Rattle.std.specs.Prelude.{◌≡◌, ◌++◌, [], IfOk, OnOk, length, slice_get};
 ghost use Rattle.std.specs.Option.{option_map_or};
+ghost use Rattle.traces.specs.Times.{each};
 ghost use Rattle.traces.specs.Wanted.{AreTexts};
 ghost use Rattle.text_commands.specs.Chart.{values_at};
 ghost use Rattle.text_commands.specs.Traced.{step_of, track_of, tracks_of};
@@ -10,7 +11,7 @@ use declared_names::Declarations;
 use power_flow::State;
 use std::alloc::{AllocError, Global};
 use std_blocks::Value;
-use traces::{TraceTexts, Track, Wanted, trace_texts};
+use traces::{Times, TraceTexts, Track, Wanted, trace_texts};
 
 /// The values of a variable after each scan.
 fn values_at(alloc: Global, states: &[State], place: usize) -> Result<Vec<Value>, AllocError>
@@ -86,10 +87,10 @@ pub fn state_texts(
     dt: u32,
     wanted: Wanted<'_>,
 ) -> Result<TraceTexts, AllocError>
-    ensures { IfOk result (AreTexts wanted.entry (step_of dt) (length states.now)
+    ensures { IfOk result (AreTexts wanted.entry (each (step_of dt)) (length states.now)
         (tracks_of declarations.now (slots_of states.now))) }
 {
     let moments = moments_in(states)?;
     let tracks = tracks_of(alloc, declarations, states)?;
-    trace_texts(alloc, wanted, step_of(dt), moments, &tracks)
+    trace_texts(alloc, wanted, Times::Each(step_of(dt)), moments, &tracks)
 }

@@ -4,6 +4,7 @@ pub mod Dumping
 pub mod Heads
 pub mod Moments
 pub mod Names
+pub mod Planning
 pub mod Reading
 pub mod Stretches
 pub mod Tracks

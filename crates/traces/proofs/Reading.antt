@@ -1,5 +1,5 @@
 -- What a reader gets of a whole dump.
-use Rattle.std.proofs.Common.{◌≡◌, ℕ, zero, suc, ◌+◌, ◌*◌, ◌/◌, ◌%◌, ◌^◌, ◌<◌, ◌≤◌, Bool, true, false, cond, eqb, List, [], ◌∷◌, ◌++◌, All, Option, Some, None, IsSomeAnd, codes, fold, length, take, slice_get, refl, sym, ap, ◌∙◌, subst, append_assoc, append-nil, add-one, pow-suc, take_all, arith}
+use Rattle.std.proofs.Common.{◌≡◌, ℕ, zero, suc, ◌+◌, ◌/◌, ◌%◌, ◌^◌, ◌<◌, ◌≤◌, Bool, true, false, cond, eqb, List, [], ◌∷◌, ◌++◌, All, Option, Some, None, IsSomeAnd, codes, fold, length, take, slice_get, refl, sym, ap, ◌∙◌, subst, append_assoc, append-nil, add-one, pow-suc, take_all, arith}
 use Rattle.std.specs.Fmt.{digit_glyph, digits, digits_onto}
 use Rattle.std.specs.Int.{w16, cast_unsigned}
 use Rattle.std.specs.List.{AllZip}
@@ -15,12 +15,13 @@ use Rattle.std_blocks.specs.declared.value.Value.{Value}
 use Rattle.std_blocks.specs.declared.value.Value.TheVariants.{Bool as BoolValue, Int as IntValue, Time as TimeValue}
 use Rattle.traces.specs.Laws.{AreDigitsOf, IsDumpable, IsFound, IsReadBack, bits_of, path_of}
 use Rattle.traces.specs.Reader.{Head, Variable, digits_at, head_of, show, shown_of, words_of}
+use Rattle.traces.specs.Times.{AreTimes}
 use Rattle.traces.specs.Tracks.{TrackValue, value_at}
-use Rattle.traces.specs.ValueChanges.{declared_lines, dump_of, end_of_definitions, leave_lines, moments_lines, scope_before, time_line, timescale_line, width_of}
+use Rattle.traces.specs.ValueChanges.{declared_lines, dump_of, end_of_definitions, last_told, leave_lines, moments_lines, scope_before, time_line, timescale_line, width_of}
 use Rattle.traces.proofs.Changes.{Turns, digits_text, state, time_turns}
 use Rattle.traces.proofs.Declarations.{declares, found, found_first, head, leaves, timescale}
 use Rattle.traces.proofs.Heads.{Declares, body_of, declared, one_after}
-use Rattle.traces.proofs.Moments.{none_seen, shown_after}
+use Rattle.traces.proofs.Moments.{none_seen, shown_after, told_low}
 
 -- no more digits than bits
 short : (i width n : ℕ) (after : List ℕ) → 0 < width → n < 2 ^ width → length (digits_onto i 2 false n after) ≤ width + length after
@@ -80,7 +81,7 @@ zip_found R tracks each (suc j) low =
     (subst (λ o. AllZip R (found_first tracks j ++ option_map_or (λ (x : TrackValue). found j x ∷ []) o []) (take j tracks ++ t ∷ [])) (sym here.1)
     (zip_push R (found_first tracks j) (take j tracks) (found j t) t (zip_found R tracks each j (omega arith)) (each j t here.1)))
 
-module _ (step moments : ℕ) (tracks : List TrackValue) (small : step * moments < 2 ^ 64) (few : length tracks < 2 ^ 64) (all : All (λ t. IsDumpable t) tracks) where
+module _ (time : ℕ → ℕ) (moments : ℕ) (tracks : List TrackValue) (times : AreTimes time moments) (few : length tracks < 2 ^ 64) (all : All (λ t. IsDumpable t) tracks) where
   abbrev declarations : List ℕ
   declarations = timescale_line ++ declared_lines tracks (length tracks) ++ leave_lines (scope_before tracks (length tracks))
 
@@ -96,9 +97,9 @@ module _ (step moments : ℕ) (tracks : List TrackValue) (small : step * moments
       (one_after timescale_line (declared_lines tracks many) empty (head [] []) (head (path_of last) variables) timescale (declares tracks many (omega arith) few all)) (leaves last variables)
 
   abbrev body : List ℕ
-  body = moments_lines step tracks moments ++ time_line (step * moments)
+  body = moments_lines time tracks moments ++ time_line (time moments)
 
-  spelled : dump_of step moments tracks ≡ declarations ++ (end_of_definitions ++ body)
+  spelled : dump_of time moments tracks ≡ declarations ++ (end_of_definitions ++ body)
   spelled = simp append_assoc
 
   head_ends : (h : Head) (rest : List ℕ) → declared h (words_of (end_of_definitions ++ rest)) ≡ h
@@ -109,7 +110,7 @@ module _ (step moments : ℕ) (tracks : List TrackValue) (small : step * moments
   unfolding end_of_definitions
   body_begins rest = refl
 
-  head_read : head_of (dump_of step moments tracks) ≡ head [] (found_first tracks (length tracks))
+  head_read : head_of (dump_of time moments tracks) ≡ head [] (found_first tracks (length tracks))
   head_read = ap head_of spelled ∙ all_declared.head (end_of_definitions ++ body) ∙ head_ends (head [] (found_first tracks (length tracks))) body
 
   fits : (i k : ℕ) (x : TrackValue) (v : Value) → slice_get tracks i ≡ Some x → value_at x k ≡ Some v → bits_of v < 2 ^ width_of (value_at x 0)
@@ -121,49 +122,47 @@ module _ (step moments : ℕ) (tracks : List TrackValue) (small : step * moments
   small_fits i k x v at value = no_wider (value_at x 0) (bits_of v) (fits i k x v at value)
 
   -- what the moments show is shown behind the dump, and the time is the last one
-  dump_shows : (looked : List ℕ) (at later : ℕ) (shown : Option (List ℕ)) → later ≤ step * moments
-      → Turns looked at (moments_lines step tracks moments) (state 0 None) (state later shown)
-      → shown_of (dump_of step moments tracks) looked at ≡ state (step * moments) shown
-  dump_shows looked at later shown low turns =
+  dump_shows : (looked : List ℕ) (at : ℕ) (shown : Option (List ℕ)) → Turns looked at (moments_lines time tracks moments) (state 0 None) (state (last_told time tracks moments) shown)
+      → shown_of (dump_of time moments tracks) looked at ≡ state (time moments) shown
+  dump_shows looked at shown turns =
       let start = state 0 None in
+      let told = last_told time tracks moments in
       ap (λ d. fold (show looked at) start (body_of (words_of d))) spelled
       ∙ ap (fold (show looked at) start) (all_declared.body (end_of_definitions ++ body) ∙ body_begins body)
-      ∙ turns.words (time_line (step * moments))
-      ∙ ap (λ l. fold (show looked at) (state later shown) (words_of l)) (sym (append-nil (time_line (step * moments))))
-      ∙ (time_turns looked at later (step * moments) shown low small).words []
+      ∙ turns.words (time_line (time moments))
+      ∙ ap (λ l. fold (show looked at) (state told shown) (words_of l)) (sym (append-nil (time_line (time moments))))
+      ∙ (time_turns looked at told (time moments) shown (told_low time moments times tracks moments (omega arith)) times.small).words []
 
-  times_read : shown_of (dump_of step moments tracks) [] 0 ≡ state (step * moments) None
-  times_read =
-      let turns = none_seen [] 0 tracks few small_fits step (λ i time. refl) moments small None in dump_shows [] 0 turns.0 None turns.1 turns.2
+  times_read : shown_of (dump_of time moments tracks) [] 0 ≡ state (time moments) None
+  times_read = dump_shows [] 0 None (none_seen [] 0 tracks few small_fits time moments times (λ i now. refl) moments (omega arith) None)
 
-  values_read : (j k time : ℕ) (t : TrackValue) (v : Value) → slice_get tracks j ≡ Some t → value_at t k ≡ Some v → k < moments → step * k ≤ time → time < step * (k + 1)
-      → digits_at (dump_of step moments tracks) (found j t).code time ≡ Some (digits_text v)
-  values_read j k time t v at value low from to =
-      let next : time < step * suc k = subst (λ n. time < step * n) (add-one k) to in
-      let turns = shown_after step time j tracks t at few small_fits k v from next value moments low small in
-      ap (λ s. s.digits) (dump_shows (found j t).code time turns.0 (Some (digits_text v)) turns.1 turns.2)
+  values_read : (j k at : ℕ) (t : TrackValue) (v : Value) → slice_get tracks j ≡ Some t → value_at t k ≡ Some v → k < moments → time k ≤ at → at < time (k + 1)
+      → digits_at (dump_of time moments tracks) (found j t).code at ≡ Some (digits_text v)
+  values_read j k at t v is value low from to =
+      let next : at < time (suc k) = subst (λ n. at < time n) (add-one k) to in
+      ap (λ s. s.digits) (dump_shows (found j t).code at (Some (digits_text v)) (shown_after time moments times at j tracks t is few small_fits k v from next value moments low (omega arith)))
 
-  track_found : (j : ℕ) (t : TrackValue) → slice_get tracks j ≡ Some t → IsFound step moments (dump_of step moments tracks) (found j t) t
+  track_found : (j : ℕ) (t : TrackValue) → slice_get tracks j ≡ Some t → IsFound time moments (dump_of time moments tracks) (found j t) t
   track_found j t at = record {
     path = refl;
     name = refl;
     width = refl;
-    values = λ k time v low value from to.
+    values = λ k now v low value from to.
         let width = width_of (value_at t 0) in
         let fit = fits j k t v at value in
-        subst (λ o. IsSomeAnd o (AreDigitsOf width (bits_of v))) (sym (values_read j k time t v at value low from to))
+        subst (λ o. IsSomeAnd o (AreDigitsOf width (bits_of v))) (sym (values_read j k now t v at value low from to))
         (value_digits width v (some_width (value_at t 0)) fit (no_wider (value_at t 0) (bits_of v) fit));
   }
 
-  pub is_read_back : IsReadBack step moments tracks (dump_of step moments tracks)
+  pub is_read_back : IsReadBack time moments tracks (dump_of time moments tracks)
   is_read_back =
-      let dump = dump_of step moments tracks in
+      let dump = dump_of time moments tracks in
       let many = length tracks in
       record {
         unit = ap (λ h. h.unit) head_read;
         path = ap (λ h. h.path) head_read;
         end = ap (λ s. s.time) times_read;
         order = ap (λ s. s.in_order) times_read;
-        variables = subst (λ l. AllZip (IsFound step moments dump) (head_of dump).variables l) (take_all many tracks (omega arith))
-            (subst (λ h. AllZip (IsFound step moments dump) h.variables (take many tracks)) (sym head_read) (zip_found (IsFound step moments dump) tracks track_found many (omega arith)));
+        variables = subst (λ l. AllZip (IsFound time moments dump) (head_of dump).variables l) (take_all many tracks (omega arith))
+            (subst (λ h. AllZip (IsFound time moments dump) h.variables (take many tracks)) (sym head_read) (zip_found (IsFound time moments dump) tracks track_found many (omega arith)));
       }

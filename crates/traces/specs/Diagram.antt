@@ -77,14 +77,14 @@ mark_time x time = mark_place x ++ mark_label time
 abbrev pub mark_text : ℕ → ℕ → ℕ → List ℕ
 mark_text x bottom time = mark_line x bottom ++ mark_time x time
 
-abbrev pub mark_at : Scale → ℕ → ℕ → ℕ → List ℕ
-mark_at scale bottom step k =
-    if k % mark_every scale == 0 then mark_text (x_of scale k) bottom (step * k) else []
+abbrev pub mark_at : Scale → ℕ → (ℕ → ℕ) → ℕ → List ℕ
+mark_at scale bottom time k =
+    if k % mark_every scale == 0 then mark_text (x_of scale k) bottom (time k) else []
 
 -- the marks of the first so many moments
-abbrev pub marks : Scale → ℕ → ℕ → ℕ → List ℕ
-marks scale bottom step zero = []
-marks scale bottom step (suc k) = marks scale bottom step k ++ mark_at scale bottom step k
+abbrev pub marks : Scale → ℕ → (ℕ → ℕ) → ℕ → List ℕ
+marks scale bottom time zero = []
+marks scale bottom time (suc k) = marks scale bottom time k ++ mark_at scale bottom time k
 
 -- a path begins here; it goes up, right and down
 abbrev pub corner : ℕ → ℕ → List ℕ
@@ -162,9 +162,9 @@ abbrev pub rows_of : Scale → List TrackValue → ℕ → List ℕ
 rows_of scale tracks zero = []
 rows_of scale tracks (suc row) = rows_of scale tracks row ++ option_map_or (row_text scale row) (slice_get tracks row) []
 
--- The diagram of variables over so many moments, of which each lasts so many ms, under a title.
-abbrev pub diagram_of : List ℕ → ℕ → ℕ → List TrackValue → List ℕ
-diagram_of title step moments tracks =
+-- The diagram of variables over so many moments that begin at these times, under a title. Each is as wide as the others.
+abbrev pub diagram_of : List ℕ → (ℕ → ℕ) → ℕ → List TrackValue → List ℕ
+diagram_of title time moments tracks =
     head_text (x_of (scale_of tracks moments) moments + 100) (y_of (length tracks) + 10) title
-    ++ marks (scale_of tracks moments) (y_of (length tracks)) step moments
+    ++ marks (scale_of tracks moments) (y_of (length tracks)) time moments
     ++ rows_of (scale_of tracks moments) tracks (length tracks) ++ codes "</svg>\n"

@@ -6,7 +6,11 @@ use Rattle.std.specs.Str.Parse.{IsNumeral, digits_value}
 use Rattle.std_blocks.specs.declared.value.Value.{Value}
 use Rattle.std_blocks.specs.declared.value.Value.TheVariants.{Bool as BoolValue, Int as IntValue, Time as TimeValue}
 use Rattle.words.specs.Chars.{is_name}
+use Rattle.task_codes.specs.declared.due.Due.{Due}
+use Rattle.task_codes.specs.declared.timing.Timing.{Timing}
+use Rattle.task_codes.specs.Plan.{IsPlanOf}
 use Rattle.traces.specs.Reader.{Variable, digits_at, end_of, head_of, is_in_order}
+use Rattle.traces.specs.Times.{AreTimes, each, planned}
 use Rattle.traces.specs.Tracks.{ScopeValue, TrackValue, value_at}
 use Rattle.traces.specs.ValueChanges.{dump_of, width_of}
 
@@ -42,25 +46,35 @@ abbrev pub AreDigitsOf : ℕ → ℕ → List ℕ → Type 0
 AreDigitsOf width n digits = IsNumeral 2 digits × (length digits ≤ width) × (digits_value 2 digits ≡ n)
 
 -- A reader finds a variable: its scopes, its name, its bits, and its value at each moment for as long as this lasts.
-pub record IsFound (step moments : ℕ) (dump : List ℕ) (x : Variable) (t : TrackValue) : Type 0 where
+pub record IsFound (time : ℕ → ℕ) (moments : ℕ) (dump : List ℕ) (x : Variable) (t : TrackValue) : Type 0 where
   pub path : x.path ≡ path_of t.scope
   pub name : x.name ≡ t.name
   pub width : x.width ≡ width_of (value_at t 0)
-  pub values : (k time : ℕ) (v : Value) → k < moments → value_at t k ≡ Some v
-      → step * k ≤ time → time < step * (k + 1) → IsSomeAnd (digits_at dump x.code time) (AreDigitsOf x.width (bits_of v))
+  pub values : (k at : ℕ) (v : Value) → k < moments → value_at t k ≡ Some v
+      → time k ≤ at → at < time (k + 1) → IsSomeAnd (digits_at dump x.code at) (AreDigitsOf x.width (bits_of v))
 
 -- Times are in ms and in order, the last one is the end of the last moment; all scopes are left; a reader finds just these
 -- variables, one after the other
-pub record IsReadBack (step moments : ℕ) (tracks : List TrackValue) (dump : List ℕ) : Type 0 where
+pub record IsReadBack (time : ℕ → ℕ) (moments : ℕ) (tracks : List TrackValue) (dump : List ℕ) : Type 0 where
   pub unit : (head_of dump).unit ≡ codes "1ms"
   pub path : (head_of dump).path ≡ []
-  pub end : end_of dump ≡ step * moments
+  pub end : end_of dump ≡ time moments
   pub order : is_in_order dump ≡ true
-  pub variables : AllZip (IsFound step moments dump) (head_of dump).variables tracks
+  pub variables : AllZip (IsFound time moments dump) (head_of dump).variables tracks
 
--- A reader of the dump of variables that a dump can show finds them and their values. Times, and the number of variables,
--- are below 2 ^ 64.
+-- A reader of the dump of variables that a dump can show finds them and their values, whatever the times of the moments, which
+-- may be of one time. The number of variables is below 2 ^ 64.
 abbrev pub DumpReadsBack : Type 0
 DumpReadsBack =
-    (step moments : ℕ) (tracks : List TrackValue) → step * moments < 2 ^ 64 → length tracks < 2 ^ 64
-    → All (λ t. IsDumpable t) tracks → IsReadBack step moments tracks (dump_of step moments tracks)
+    (time : ℕ → ℕ) (moments : ℕ) (tracks : List TrackValue) → AreTimes time moments → length tracks < 2 ^ 64
+    → All (λ t. IsDumpable t) tracks → IsReadBack time moments tracks (dump_of time moments tracks)
+
+-- Equally long moments begin so.
+abbrev pub EachTimes : Type 0
+EachTimes = (step moments : ℕ) → step * moments < 2 ^ 64 → AreTimes (each step) moments
+
+-- The moments of a plan begin so, with the one before it.
+abbrev pub PlannedTimes : Type 0
+PlannedTimes =
+    (resources : List (List Timing)) (until : ℕ) (dues : List Due) → IsPlanOf resources until dues → until + 1 < 2 ^ 64
+    → AreTimes (planned dues until) (length dues + 1)

@@ -1,4 +1,5 @@
 pub mod Tracks
+pub mod Times
 pub mod ValueChanges
 pub mod Reader
 pub mod Laws

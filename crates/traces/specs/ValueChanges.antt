@@ -1,5 +1,5 @@
 -- A value change dump of IEEE 1364: what programs that show waves read.
-use Rattle.std.specs.Prelude.{ℕ, zero, suc, ◌-◌, ◌*◌, ◌==◌, ◌++◌, if◌then◌else◌, List, [], ◌∷◌, false, Option, None, Some, codes, length, slice_get}
+use Rattle.std.specs.Prelude.{ℕ, zero, suc, ◌-◌, ◌==◌, ◌++◌, if◌then◌else◌, List, [], ◌∷◌, false, Option, None, Some, codes, length, slice_get}
 use Rattle.std.specs.Option.{option_map_or}
 use Rattle.std.specs.Fmt.{decimal, digits}
 use Rattle.std.specs.Int.{w16, cast_unsigned}
@@ -90,10 +90,15 @@ change_lines k tracks (suc j) = change_lines k tracks j ++ change_of k tracks j
 abbrev pub time_line : ℕ → List ℕ
 time_line time = codes "#" ++ decimal time ++ codes "\n"
 
--- what changes at a time, if anything does
-abbrev pub timed : ℕ → List ℕ → List ℕ
-timed time [] = []
-timed time (c ∷ changes) = time_line time ++ (c ∷ changes)
+-- what changes at a time, if anything does; behind the time, unless that was told last
+abbrev pub timed : ℕ → ℕ → List ℕ → List ℕ
+timed told time [] = []
+timed told time (c ∷ changes) = (if time == told then [] else time_line time) ++ (c ∷ changes)
+
+-- the time that was told last behind that
+abbrev pub told_behind : ℕ → ℕ → List ℕ → ℕ
+told_behind told time [] = told
+told_behind told time (c ∷ changes) = time
 
 unfoldable pub begin_of_values : List ℕ
 begin_of_values = codes "#0\n$dumpvars\n"
@@ -105,17 +110,27 @@ end_of_values = codes "$end\n"
 abbrev pub first_lines : List TrackValue → List ℕ
 first_lines tracks = begin_of_values ++ change_lines 0 tracks (length tracks) ++ end_of_values
 
--- what changes at each further one, so many ms after the one before
-abbrev pub moment_lines : ℕ → List TrackValue → ℕ → List ℕ
-moment_lines step tracks k =
-    if k == 0 then first_lines tracks else timed (step * k) (change_lines k tracks (length tracks))
+-- what changes at each further one, of this time
+abbrev pub moment_lines : ℕ → ℕ → List TrackValue → ℕ → List ℕ
+moment_lines told time tracks k =
+    if k == 0 then first_lines tracks else timed told time (change_lines k tracks (length tracks))
+
+abbrev pub told_at : ℕ → ℕ → List TrackValue → ℕ → ℕ
+told_at told time tracks k =
+    if k == 0 then 0 else told_behind told time (change_lines k tracks (length tracks))
+
+-- which time the first so many moments tell last
+abbrev pub last_told : (ℕ → ℕ) → List TrackValue → ℕ → ℕ
+last_told time tracks zero = 0
+last_told time tracks (suc k) = told_at (last_told time tracks k) (time k) tracks k
 
 -- the first so many moments
-abbrev pub moments_lines : ℕ → List TrackValue → ℕ → List ℕ
-moments_lines step tracks zero = []
-moments_lines step tracks (suc k) = moments_lines step tracks k ++ moment_lines step tracks k
+abbrev pub moments_lines : (ℕ → ℕ) → List TrackValue → ℕ → List ℕ
+moments_lines time tracks zero = []
+moments_lines time tracks (suc k) =
+    moments_lines time tracks k ++ moment_lines (last_told time tracks k) (time k) tracks k
 
--- The dump of variables over so many moments, of which each lasts so many ms. The last line is the end of the last one.
-abbrev pub dump_of : ℕ → ℕ → List TrackValue → List ℕ
-dump_of step moments tracks =
-    head_lines tracks ++ moments_lines step tracks moments ++ time_line (step * moments)
+-- The dump of variables over so many moments that begin at these times. The last line is the end of the last one.
+abbrev pub dump_of : (ℕ → ℕ) → ℕ → List TrackValue → List ℕ
+dump_of time moments tracks =
+    head_lines tracks ++ moments_lines time tracks moments ++ time_line (time moments)

@@ -7,12 +7,12 @@ use Rattle.traces.specs.Tracks.{TrackValue}
 use Rattle.traces.specs.ValueChanges.{dump_of}
 use Rattle.traces.specs.Diagram.{diagram_of}
 
--- The texts of variables over so many moments, of which each lasts so many ms: the dump, if it is wanted, and the diagram
--- under its title, if it is wanted.
-pub record AreTexts (wanted : Wanted) (step moments : ℕ) (tracks : List TrackValue) (texts : TraceTexts) : Type 0 where
-  pub dump : option_map (λ t. string_bytes t) texts.dump ≡ (if wanted.dump then Some (dump_of step moments tracks) else None)
+-- The texts of variables over so many moments that begin at these times: the dump, if it is wanted, and the diagram under its
+-- title, if it is wanted.
+pub record AreTexts (wanted : Wanted) (time : ℕ → ℕ) (moments : ℕ) (tracks : List TrackValue) (texts : TraceTexts) : Type 0 where
+  pub dump : option_map (λ t. string_bytes t) texts.dump ≡ (if wanted.dump then Some (dump_of time moments tracks) else None)
   pub diagram : option_map (λ t. string_bytes t) texts.diagram
-      ≡ option_map (λ title. diagram_of title.now step moments tracks) wanted.diagram
+      ≡ option_map (λ title. diagram_of title.now time moments tracks) wanted.diagram
 
 -- neither of them is wanted
 abbrev pub is_nothing : Wanted → Bool

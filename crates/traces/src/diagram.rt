@@ -2,12 +2,14 @@ ghost use Rattle.std.specs.Prelude.{◌≡◌, ◌<◌, ◌^◌, [], IfOk, OnOk,
 ghost use Rattle.std.specs.List.{flat_map};
 ghost use Rattle.std.specs.Option.{option_map_or};
 ghost use Rattle.text_lines.specs.Growing.{GrowsBy};
+ghost use Rattle.traces.specs.Times.{time_of};
 ghost use Rattle.traces.specs.Diagram.{diagram_of, marks, row_text, rows_of, segment_text};
 
 use crate::diagram_parts::{push_head, push_mark_at, push_row_head, push_segment, y_of};
 use crate::label::label_of;
 use crate::scale::Scale;
 use crate::segments::{Segment, segments_of};
+use crate::times::Times;
 use crate::track::Track;
 use std::alloc::{AllocError, Global};
 
@@ -15,13 +17,13 @@ fn push_marks(
     text: &mut String,
     scale: Scale,
     bottom: u64,
-    step: u32,
+    times: Times<'_>,
     moments: u32,
 ) -> Result<(), AllocError>
-    ensures { OnOk result (GrowsBy text.old text.new (marks scale bottom step moments)) }
+    ensures { OnOk result (GrowsBy text.old text.new (marks scale bottom (time_of times.entry) moments)) }
 {
     for moment in 0..moments {
-        push_mark_at(text, scale, bottom, step, moment)?;
+        push_mark_at(text, scale, bottom, times, moment)?;
     }
     Ok(())
 }
@@ -99,22 +101,22 @@ fn rows_in(tracks: &[Track]) -> Result<u32, AllocError>
     }
 }
 
-/// The timing diagram of variables over so many moments, of which each lasts `step` ms, as an SVG document with a title.
+/// The timing diagram of variables over so many moments that begin at these times, as an SVG document with a title.
 pub fn diagram_text(
     alloc: Global,
     title: &str,
-    step: u32,
+    times: Times<'_>,
     moments: u32,
     tracks: &[Track],
 ) -> Result<String, AllocError>
-    ensures { IfOk result (λ text. string_bytes text ≡ diagram_of title.now step moments tracks.now) }
+    ensures { IfOk result (λ text. string_bytes text ≡ diagram_of title.now (time_of times.entry) moments tracks.now) }
 {
     let rows = rows_in(tracks)?;
     let scale = Scale::of(alloc, tracks, moments)?;
     let bottom = y_of(rows);
     let mut text = String::new(alloc);
     push_head(&mut text, scale.x(moments) + 100, bottom + 10, title)?;
-    push_marks(&mut text, scale, bottom, step, moments)?;
+    push_marks(&mut text, scale, bottom, times, moments)?;
     push_rows(&mut text, alloc, scale, rows, tracks)?;
     text.push_str("</svg>\n")?;
     Ok(text)

@@ -1,11 +1,12 @@
 ghost use Rattle.std.specs.Prelude.{◌≡◌, ◌<◌, ◌^◌, OnOk};
 ghost use Rattle.text_lines.specs.Growing.{GrowsBy};
+ghost use Rattle.traces.specs.Times.{time_of};
 ghost use Rattle.traces.specs.Diagram.{band_text, corner, drawn_value, high_text, head_text, low_text, lower_side, extent_text, mark_at, mark_label, mark_line, mark_place, mark_text, mark_time, row_head, row_name, row_title, segment_text, shown_text, sides, size_text, style_text, svg_text, title_text, upper_side, value_band, y_of};
 
 use crate::escaped::push_escaped;
 use crate::scale::Scale;
 use crate::segments::Segment;
-use crate::track::time_of;
+use crate::times::Times;
 use std::alloc::{AllocError, Global};
 use std::fmt::Write;
 use std_blocks::Value;
@@ -150,15 +151,15 @@ pub fn push_mark_at(
     text: &mut String,
     scale: Scale,
     bottom: u64,
-    step: u32,
+    times: Times<'_>,
     moment: u32,
 ) -> Result<(), AllocError>
-    ensures { OnOk result (GrowsBy text.old text.new (mark_at scale bottom step moment)) }
+    ensures { OnOk result (GrowsBy text.old text.new (mark_at scale bottom (time_of times.entry) moment)) }
 {
     if moment % scale.mark_every() != 0 {
         return Ok(());
     }
-    push_mark(text, scale.x(moment), bottom, time_of(step, moment))
+    push_mark(text, scale.x(moment), bottom, times.time_of(moment))
 }
 
 /// Writes a BOOL that is on.

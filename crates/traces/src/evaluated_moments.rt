@@ -1,25 +1,11 @@
 ghost use Rattle.std.specs.Prelude.{◌≡◌, ◌++◌, ◌∷◌, [], IfOk, List, length};
 ghost use Rattle.evaluation.specs.Meaning.{Evaluated};
-ghost use Rattle.traces.specs.Moments.{made_at, of_entries, of_events};
+ghost use Rattle.traces.specs.Moments.{made_at, of_events};
 
 use evaluation::{Evaluation, Frame};
 use std::alloc::{AllocError, Global};
 
-/// What was evaluated at each moment, where each entry of a book is one.
-pub fn of_entries<'a>(
-    alloc: Global,
-    entries: &'a [Frame],
-) -> Result<Vec<Option<&'a Evaluation>>, AllocError>
-    ensures { IfOk result (λ moments. made_at moments.items ≡ of_entries entries.entry.now) }
-{
-    let mut moments = Vec::with_capacity(alloc, entries.len())?;
-    for entry in entries {
-        moments.push(Some(entry.evaluation()))?;
-    }
-    Ok(moments)
-}
-
-/// An evaluation stands at the moment of the event whose number is its ticket, if there is such a moment.
+/// An evaluation stands at the moment of the event or command whose number is its ticket, if there is such a moment.
 fn set_made<'a>(moments: &mut [Option<&'a Evaluation>], made: &'a Evaluation)
     ensures many { length moments.new ≡ length moments.old }
     ensures more { (log : List Evaluated) → made_at moments.old ≡ of_events (length moments.old) log
@@ -31,8 +17,8 @@ fn set_made<'a>(moments: &mut [Option<&'a Evaluation>], made: &'a Evaluation)
     }
 }
 
-/// What was evaluated at each moment, where each of so many events of a schedule is one. An evaluation's ticket is the
-/// number of its event. More events than `usize` counts don't fit into memory.
+/// What was evaluated at each moment, where each of so many events of a schedule, or commands of a plan, is one. An
+/// evaluation's ticket is the number of its event or command. More than `usize` counts don't fit into memory.
 pub fn of_events<'a>(
     alloc: Global,
     events: u64,

@@ -1,10 +1,12 @@
 ghost use Rattle.std.specs.Prelude.{◌≡◌, IfOk, None, Some, if◌then◌else◌, string_bytes};
 ghost use Rattle.std.specs.Option.{option_map};
+ghost use Rattle.traces.specs.Times.{time_of};
 ghost use Rattle.traces.specs.ValueChanges.{dump_of};
 ghost use Rattle.traces.specs.Diagram.{diagram_of};
 ghost use Rattle.traces.specs.Wanted.{AreTexts, is_nothing};
 
 use crate::diagram::diagram_text;
+use crate::times::Times;
 use crate::track::Track;
 use crate::value_changes::change_dump;
 use std::alloc::{AllocError, Global};
@@ -48,49 +50,49 @@ impl TraceTexts {
 fn wanted_dump(
     alloc: Global,
     wanted: bool,
-    step: u32,
+    times: Times<'_>,
     moments: u32,
     tracks: &[Track],
 ) -> Result<Option<String>, AllocError>
     ensures { IfOk result (λ dump. option_map (λ t. string_bytes t) dump
-        ≡ (if wanted then Some (dump_of step moments tracks.now) else None)) }
+        ≡ (if wanted then Some (dump_of (time_of times.entry) moments tracks.now) else None)) }
 {
     if !wanted {
         return Ok(None);
     }
-    let dump = change_dump(alloc, step, moments, tracks)?;
+    let dump = change_dump(alloc, times, moments, tracks)?;
     Ok(Some(dump))
 }
 
 fn wanted_diagram(
     alloc: Global,
     title: Option<&str>,
-    step: u32,
+    times: Times<'_>,
     moments: u32,
     tracks: &[Track],
 ) -> Result<Option<String>, AllocError>
     ensures { IfOk result (λ diagram. option_map (λ t. string_bytes t) diagram
-        ≡ option_map (λ title. diagram_of title.now step moments tracks.now) title.entry) }
+        ≡ option_map (λ title. diagram_of title.now (time_of times.entry) moments tracks.now) title.entry) }
 {
     let Some(title) = title else {
         return Ok(None);
     };
-    let diagram = diagram_text(alloc, title, step, moments, tracks)?;
+    let diagram = diagram_text(alloc, title, times, moments, tracks)?;
     Ok(Some(diagram))
 }
 
-/// The texts that are wanted of variables over so many moments, of which each lasts `step` ms.
+/// The texts that are wanted of variables over so many moments that begin at these times.
 pub fn trace_texts(
     alloc: Global,
     wanted: Wanted<'_>,
-    step: u32,
+    times: Times<'_>,
     moments: u32,
     tracks: &[Track],
 ) -> Result<TraceTexts, AllocError>
-    ensures { IfOk result (AreTexts wanted.entry step moments tracks.now) }
+    ensures { IfOk result (AreTexts wanted.entry (time_of times.entry) moments tracks.now) }
 {
     Ok(TraceTexts {
-        dump: wanted_dump(alloc, wanted.dump, step, moments, tracks)?,
-        diagram: wanted_diagram(alloc, wanted.diagram, step, moments, tracks)?,
+        dump: wanted_dump(alloc, wanted.dump, times, moments, tracks)?,
+        diagram: wanted_diagram(alloc, wanted.diagram, times, moments, tracks)?,
     })
 }

@@ -1,4 +1,4 @@
-ghost use Rattle.std.specs.Prelude.{◌≡◌, ◌*◌, string_bytes};
+ghost use Rattle.std.specs.Prelude.{◌≡◌, string_bytes};
 ghost use Rattle.std.specs.Option.{option_map};
 ghost use Rattle.traces.specs.Tracks.{ScopeValue, TrackValue};
 
@@ -93,11 +93,4 @@ impl Track {
     {
         self.values.as_slice()
     }
-}
-
-/// When a moment begins, in ms, where each lasts so many.
-pub(crate) fn time_of(step: u32, moment: u32) -> u64
-    ensures { result ≡ step * moment }
-{
-    u64::from(step) * u64::from(moment)
 }

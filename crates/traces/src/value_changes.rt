@@ -1,10 +1,12 @@
-ghost use Rattle.std.specs.Prelude.{◌≡◌, ◌++◌, OnOk, IfOk, length, string_bytes};
+ghost use Rattle.std.specs.Prelude.{◌≡◌, ◌==◌, ◌++◌, [], if◌then◌else◌, OnOk, IfOk, length, string_bytes};
 ghost use Rattle.std.specs.Option.{option_map};
 ghost use Rattle.text_lines.specs.Growing.{GrowsBy};
+ghost use Rattle.traces.specs.Times.{time_of};
 ghost use Rattle.traces.specs.Tracks.{is_same, is_same_scope, value_at, value_before};
-ghost use Rattle.traces.specs.ValueChanges.{width_of, variable_line, scope_line, enter_lines, leave_lines, scope_lines, scope_before, declared_lines, declared_lines_of, timescale_line, end_of_definitions, head_lines, begin_of_values, end_of_values, value_line, change_line, change_of, change_lines, time_line, timed, first_lines, moment_lines, dump_of};
+ghost use Rattle.traces.specs.ValueChanges.{width_of, variable_line, scope_line, enter_lines, leave_lines, scope_lines, scope_before, declared_lines, declared_lines_of, timescale_line, end_of_definitions, head_lines, begin_of_values, end_of_values, value_line, change_line, change_of, change_lines, time_line, timed, told_behind, told_at, first_lines, moment_lines, dump_of};
 
-use crate::track::{Scope, Track, time_of};
+use crate::times::Times;
+use crate::track::{Scope, Track};
 use std::alloc::{AllocError, Global};
 use std::fmt::Write;
 use std_blocks::Value;
@@ -246,15 +248,27 @@ fn push_time(text: &mut String, time: u64) -> Result<(), AllocError>
     write!(text, "#{time}\n")
 }
 
-/// Writes what changes at a time, if anything does.
-fn push_timed(text: &mut String, time: u64, changes: &str) -> Result<(), AllocError>
-    ensures { OnOk result (GrowsBy text.old text.new (timed time changes.now)) }
+/// Writes a time, unless it was told last.
+fn push_time_once(text: &mut String, told: u64, time: u64) -> Result<(), AllocError>
+    ensures { OnOk result (GrowsBy text.old text.new (if time == told then [] else time_line time)) }
 {
-    if changes.is_empty() {
+    if time == told {
         return Ok(());
     }
-    push_time(text, time)?;
-    text.push_str(changes)
+    push_time(text, time)
+}
+
+/// Writes what changes at a time, if anything does; the time that was told last.
+fn push_timed(text: &mut String, told: u64, time: u64, changes: &str) -> Result<u64, AllocError>
+    ensures text { OnOk result (GrowsBy text.old text.new (timed told time changes.now)) }
+    ensures told { IfOk result (λ last. last ≡ told_behind told time changes.now) }
+{
+    if changes.is_empty() {
+        return Ok(told);
+    }
+    push_time_once(text, told, time)?;
+    text.push_str(changes)?;
+    Ok(time)
 }
 
 fn push_begin_of_values(text: &mut String) -> Result<(), AllocError>
@@ -279,38 +293,49 @@ fn push_first(text: &mut String, tracks: &[Track]) -> Result<(), AllocError>
     Ok(())
 }
 
-/// Writes what a moment shows.
+/// Writes what a moment shows that is of this time; the time that was told last.
 fn push_moment(
     text: &mut String,
     alloc: Global,
-    step: u32,
+    told: u64,
+    time: u64,
     tracks: &[Track],
     moment: u32,
-) -> Result<(), AllocError>
-    ensures { OnOk result (GrowsBy text.old text.new (moment_lines step tracks.now moment)) }
+) -> Result<u64, AllocError>
+    ensures text { OnOk result (GrowsBy text.old text.new (moment_lines told time tracks.now moment)) }
+    ensures told { IfOk result (λ last. last ≡ told_at told time tracks.now moment) }
 {
     if moment == 0 {
-        return push_first(text, tracks);
+        push_first(text, tracks)?;
+        return Ok(0);
     }
     let mut changes = String::new(alloc);
     push_changes(&mut changes, moment as usize, tracks)?;
-    push_timed(text, time_of(step, moment), changes.as_str())
+    push_timed(text, told, time, changes.as_str())
 }
 
-/// The value change dump of variables over so many moments, of which each lasts `step` ms.
+/// The value change dump of variables over so many moments that begin at these times.
 pub fn change_dump(
     alloc: Global,
-    step: u32,
+    times: Times<'_>,
     moments: u32,
     tracks: &[Track],
 ) -> Result<String, AllocError>
-    ensures { IfOk result (λ text. string_bytes text ≡ dump_of step moments tracks.now) }
+    ensures { IfOk result (λ text. string_bytes text ≡ dump_of (time_of times.entry) moments tracks.now) }
 {
     let mut text = String::new(alloc);
     push_head(&mut text, tracks)?;
+    let mut told = 0;
     for moment in 0..moments {
-        push_moment(&mut text, alloc, step, tracks, moment)?;
+        told = push_moment(
+            &mut text,
+            alloc,
+            told,
+            times.time_of(moment),
+            tracks,
+            moment,
+        )?;
     }
-    push_time(&mut text, time_of(step, moments))?;
+    push_time(&mut text, times.time_of(moments))?;
     Ok(text)
 }

@@ -180,12 +180,12 @@ class Files:
         except (OSError, UnicodeDecodeError):
             raise Refused(NO_FILE) from None
 
-    def write_traces(self, options, title, step, moments, tracks):
-        """The files of a trace that are asked for."""
+    def write_traces(self, options, title, times, tracks):
+        """The files of a trace that are asked for: when each moment begins, and when the last one ends."""
         if "--vcd" in options:
-            self.write(options["--vcd"], dump(step, moments, tracks))
+            self.write(options["--vcd"], dump(times, tracks))
         if "--svg" in options:
-            self.write(options["--svg"], diagram(title, step, moments, tracks))
+            self.write(options["--svg"], diagram(title, times, tracks))
 
     def write(self, path, text):
         with open(os.path.join(self.folder, path), "w", encoding="utf-8", newline="") as file:
@@ -256,7 +256,8 @@ def evaluate(write, files, paths, options, more):
     for line in lines:
         write(line)
     tracks = [Track(None, it.name, it.kind, [values[words.fold(it.name)] for values in traced]) for it in variables]
-    files.write_traces(options, paths[0], options.get("--dt", 0) or 1, len(traced), tracks)
+    step = options.get("--dt", 0) or 1
+    files.write_traces(options, paths[0], [k * step for k in range(len(traced) + 1)], tracks)
     difference = first_difference(variables, expected, traced)
     warnings = warnings_of(ladder.drawing, ladder.networks)
     end_with_warnings(paths[0], warnings, options, DIFFERS if difference else 0, difference and f"{paths[0]}: {difference}")
@@ -426,7 +427,7 @@ def simulate(write, files, paths, options, _more):
             made.append(run.log[-1] if line.startswith("EVAL") else None)
     except Refusal as refusal:
         raise Refused(REFUSED_TEXT, f"{paths[1]}:{refusal.line}: {refusal.kind}") from None
-    files.write_traces(options, paths[0], 1, len(made) + 1, tracks_of(run.plant, made))
+    files.write_traces(options, paths[0], range(len(made) + 2), tracks_of(run.plant, made))
 
 
 def run_paced(write, files, paths, options, more):
@@ -448,7 +449,8 @@ def run_paced(write, files, paths, options, more):
     for made in run.log:
         write(made.line())
     write("REPLAY equal")
-    files.write_traces(options, paths[0], 1, len(run.log) + 1, tracks_of(plant, run.log))
+    times = [0, *(moment for moment, _ in due), options["--until"] + 1]
+    files.write_traces(options, paths[0], times, tracks_of(plant, run.log))
 
 
 def tracks_of(plant, made):

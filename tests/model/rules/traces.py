@@ -1,5 +1,6 @@
 """Variables with their values at each of some moments: as a value change dump, and as a timing diagram."""
 from dataclasses import dataclass
+from itertools import groupby
 
 from . import words
 
@@ -19,15 +20,21 @@ class Track:
         return ".".join([*(self.scope or ()), self.name])
 
 
-def dump(step, moments, tracks):
-    """A value change dump (IEEE 1364): the first moment is at 0, and each lasts so many ms."""
+def dump(times, tracks):
+    """A value change dump (IEEE 1364): when each moment begins, the first one at 0, and when the last one ends.
+
+    What changes at several moments of one time stands below that time, one moment behind the other."""
     lines = ["$timescale 1 ms $end", *declared(tracks), "$enddefinitions $end", "#0", "$dumpvars"]
     lines += [value_line(code, it.kind, it.values[0]) for code, it in coded(tracks)]
     lines += ["$end"]
-    for k in range(1, moments):
-        changes = [value_line(code, it.kind, it.values[k]) for code, it in coded(tracks) if it.values[k] != it.values[k - 1]]
-        lines += [f"#{k * step}", *changes] if changes else []
-    return "".join(f"{line}\n" for line in [*lines, f"#{moments * step}"])
+    for time, moments in groupby(range(1, len(times) - 1), key=lambda k: times[k]):
+        changes = [line for k in moments for line in changes_at(k, tracks)]
+        lines += [f"#{time}", *changes] if changes else []
+    return "".join(f"{line}\n" for line in [*lines, f"#{times[-1]}"])
+
+
+def changes_at(k, tracks):
+    return [value_line(code, it.kind, it.values[k]) for code, it in coded(tracks) if it.values[k] != it.values[k - 1]]
 
 
 def coded(tracks):
@@ -76,8 +83,9 @@ class Scale:
         return next((marks for least, marks in ((60, 2), (24, 5), (12, 10), (6, 20)) if self.unit >= least), 100)
 
 
-def diagram(title, step, moments, tracks):
-    """A timing diagram (SVG)."""
+def diagram(title, times, tracks):
+    """A timing diagram (SVG): the moments stand side by side, whatever their times."""
+    moments = len(times) - 1
     longest = max((len(it.label()) for it in tracks), default=0)
     scale = Scale(8 * min(255, longest) + 24, max(2, min(60, 1600 // max(1, moments))))
     bottom = row_top(len(tracks))
@@ -85,7 +93,7 @@ def diagram(title, step, moments, tracks):
     lines += [f"<title>{escaped(title)}</title>", f"<style>{STYLE}</style>", "<rect width='100%' height='100%' fill='#fff'/>"]
     for k in range(0, moments, scale.mark_every()):
         x = scale.x(k)
-        lines.append(f"<path class='g' d='M{x} 22V{bottom}'/><text class='s' x='{x}' y='16'>{k * step} ms</text>")
+        lines.append(f"<path class='g' d='M{x} 22V{bottom}'/><text class='s' x='{x}' y='16'>{times[k]} ms</text>")
     for row, it in enumerate(tracks):
         lines += row_lines(scale, row_top(row), it)
     return "".join(f"{line}\n" for line in [*lines, "</svg>"])

@@ -3,6 +3,7 @@ use Rattle.std.specs.Prelude.{ℕ, List, length}
 use Rattle.network.specs.Links.{Diagram}
 use Rattle.declared_names.specs.declared.declarations.Declaration.{Declaration}
 use Rattle.traces.specs.declared.texts.Wanted.{Wanted}
+use Rattle.traces.specs.Times.{each}
 use Rattle.traces.specs.Wanted.{AreTexts}
 use Rattle.text_commands.specs.Series.{SeriesValue}
 use Rattle.text_commands.specs.declared.form.Form.{Form}
@@ -14,4 +15,4 @@ use Rattle.text_commands.specs.Steps.Testing.{IsTestTrace}
 pub record IsTracedTest (drawing : List ℕ) (ds : List Declaration) (networks : List Diagram) (dt : ℕ) (form : Form)
     (wanted : Wanted) (rows expected : List SeriesValue) (text : List ℕ) (traced : Traced) : Type 0 where
   pub test : IsTestTrace drawing ds networks dt form rows expected text traced.difference
-  pub texts : AreTexts wanted (step_of dt) (length test.made.states) (tracks_of ds test.made.states) traced.texts
+  pub texts : AreTexts wanted (each (step_of dt)) (length test.made.states) (tracks_of ds test.made.states) traced.texts
