@@ -128,7 +128,7 @@ pub eval_parts : (found : List Row) (r : Request) → AsksFor (Some (codes "eval
     × GivesStrictness (is_given (codes "strict") found) (is_given (codes "no-warnings") found) s
 eval_parts found (OfText (Eval drawing dt view color files strictness words)) asked = (dt, view, color, strictness, asked.1.1, asked.1.2, asked.1.3, asked.1.6)
 eval_parts found (OfText (Check plant strictness)) asked = absurd (unlike (codes "eval") (codes "check") refl refl asked.0)
-eval_parts found (OfText (Plan plant until)) asked = absurd (unlike (codes "eval") (codes "plan") refl refl asked.0)
+eval_parts found (OfText (Plan plant until form)) asked = absurd (unlike (codes "eval") (codes "plan") refl refl asked.0)
 eval_parts found (Verify verify) asked = absurd (unlike (codes "eval") (codes "verify") refl refl asked.0)
 eval_parts found (Sim sim) asked = absurd (unlike (codes "eval") (codes "sim") refl refl asked.0)
 eval_parts found (Run run) asked = absurd (unlike (codes "eval") (codes "run") refl refl asked.0)
@@ -142,7 +142,7 @@ pub check_parts : (found : List Row) (r : Request) → AsksFor (Some (codes "che
     → (s : Strictness) × GivesStrictness (is_given (codes "strict") found) (is_given (codes "no-warnings") found) s
 check_parts found (OfText (Eval drawing dt view color files strictness words)) asked = absurd (unlike (codes "check") (codes "eval") refl refl asked.0)
 check_parts found (OfText (Check plant strictness)) asked = (strictness, asked.1.1)
-check_parts found (OfText (Plan plant until)) asked = absurd (unlike (codes "check") (codes "plan") refl refl asked.0)
+check_parts found (OfText (Plan plant until form)) asked = absurd (unlike (codes "check") (codes "plan") refl refl asked.0)
 check_parts found (Verify verify) asked = absurd (unlike (codes "check") (codes "verify") refl refl asked.0)
 check_parts found (Sim sim) asked = absurd (unlike (codes "check") (codes "sim") refl refl asked.0)
 check_parts found (Run run) asked = absurd (unlike (codes "check") (codes "run") refl refl asked.0)
@@ -157,7 +157,7 @@ pub verify_parts : (found : List Row) (r : Request) → AsksFor (Some (codes "ve
     × GivesStrictness (is_given (codes "strict") found) (is_given (codes "no-warnings") found) s
 verify_parts found (OfText (Eval drawing dt view color files strictness words)) asked = absurd (unlike (codes "verify") (codes "eval") refl refl asked.0)
 verify_parts found (OfText (Check plant strictness)) asked = absurd (unlike (codes "verify") (codes "check") refl refl asked.0)
-verify_parts found (OfText (Plan plant until)) asked = absurd (unlike (codes "verify") (codes "plan") refl refl asked.0)
+verify_parts found (OfText (Plan plant until form)) asked = absurd (unlike (codes "verify") (codes "plan") refl refl asked.0)
 verify_parts found (Verify verify) asked = (verify.dt, verify.most_states, verify.most_waiting, verify.strictness, asked.1.4, asked.1.5, asked.1.6, asked.1.8)
 verify_parts found (Sim sim) asked = absurd (unlike (codes "verify") (codes "sim") refl refl asked.0)
 verify_parts found (Run run) asked = absurd (unlike (codes "verify") (codes "run") refl refl asked.0)
@@ -171,7 +171,7 @@ pub plan_parts : (found : List Row) (r : Request) → AsksFor (Some (codes "plan
     → (n : ℕ) × GivesNumber 0 (first_of (codes "until") found) n
 plan_parts found (OfText (Eval drawing dt view color files strictness words)) asked = absurd (unlike (codes "plan") (codes "eval") refl refl asked.0)
 plan_parts found (OfText (Check plant strictness)) asked = absurd (unlike (codes "plan") (codes "check") refl refl asked.0)
-plan_parts found (OfText (Plan plant until)) asked = (until, asked.1.1)
+plan_parts found (OfText (Plan plant until form)) asked = (until, asked.1.1)
 plan_parts found (Verify verify) asked = absurd (unlike (codes "plan") (codes "verify") refl refl asked.0)
 plan_parts found (Sim sim) asked = absurd (unlike (codes "plan") (codes "sim") refl refl asked.0)
 plan_parts found (Run run) asked = absurd (unlike (codes "plan") (codes "run") refl refl asked.0)
@@ -185,7 +185,7 @@ pub sim_parts : (found : List Row) (r : Request) → AsksFor (Some (codes "sim",
     → (n : ℕ) × GivesNumber 4294967295 (first_of (codes "max-number") found) n
 sim_parts found (OfText (Eval drawing dt view color files strictness words)) asked = absurd (unlike (codes "sim") (codes "eval") refl refl asked.0)
 sim_parts found (OfText (Check plant strictness)) asked = absurd (unlike (codes "sim") (codes "check") refl refl asked.0)
-sim_parts found (OfText (Plan plant until)) asked = absurd (unlike (codes "sim") (codes "plan") refl refl asked.0)
+sim_parts found (OfText (Plan plant until form)) asked = absurd (unlike (codes "sim") (codes "plan") refl refl asked.0)
 sim_parts found (Verify verify) asked = absurd (unlike (codes "sim") (codes "verify") refl refl asked.0)
 sim_parts found (Sim sim) asked = (sim.max_number, asked.1.2)
 sim_parts found (Run run) asked = absurd (unlike (codes "sim") (codes "run") refl refl asked.0)
@@ -199,7 +199,7 @@ pub run_parts : (found : List Row) (r : Request) → AsksFor (Some (codes "run",
     → (n : ℕ) × (p : Pace) × GivesNumber 0 (first_of (codes "until") found) n × GivesPace (is_given (codes "paced") found) (is_given (codes "clock") found) p
 run_parts found (OfText (Eval drawing dt view color files strictness words)) asked = absurd (unlike (codes "run") (codes "eval") refl refl asked.0)
 run_parts found (OfText (Check plant strictness)) asked = absurd (unlike (codes "run") (codes "check") refl refl asked.0)
-run_parts found (OfText (Plan plant until)) asked = absurd (unlike (codes "run") (codes "plan") refl refl asked.0)
+run_parts found (OfText (Plan plant until form)) asked = absurd (unlike (codes "run") (codes "plan") refl refl asked.0)
 run_parts found (Verify verify) asked = absurd (unlike (codes "run") (codes "verify") refl refl asked.0)
 run_parts found (Sim sim) asked = absurd (unlike (codes "run") (codes "sim") refl refl asked.0)
 run_parts found (Run run) asked = (run.until, run.pace, asked.1.1, asked.1.3)
@@ -213,7 +213,7 @@ pub node_parts : (found : List Row) (r : Request) → AsksFor (Some (codes "node
     → (end : Option ℕ) × GivesEnd found end
 node_parts found (OfText (Eval drawing dt view color files strictness words)) asked = absurd (unlike (codes "node") (codes "eval") refl refl asked.0)
 node_parts found (OfText (Check plant strictness)) asked = absurd (unlike (codes "node") (codes "check") refl refl asked.0)
-node_parts found (OfText (Plan plant until)) asked = absurd (unlike (codes "node") (codes "plan") refl refl asked.0)
+node_parts found (OfText (Plan plant until form)) asked = absurd (unlike (codes "node") (codes "plan") refl refl asked.0)
 node_parts found (Verify verify) asked = absurd (unlike (codes "node") (codes "verify") refl refl asked.0)
 node_parts found (Sim sim) asked = absurd (unlike (codes "node") (codes "sim") refl refl asked.0)
 node_parts found (Run run) asked = absurd (unlike (codes "node") (codes "run") refl refl asked.0)
@@ -236,7 +236,7 @@ pub no_command : (name : List ℕ) (found : List Row) (r : Request)
     → (name ≡ codes "page" → ⊥) → AsksFor (Some (name, found)) r → ⊥
 no_command name found (OfText (Eval drawing dt view color files strictness words)) no_eval no_check no_plan no_verify no_sim no_run no_node no_explain no_audit no_page asked = no_eval asked.0
 no_command name found (OfText (Check plant strictness)) no_eval no_check no_plan no_verify no_sim no_run no_node no_explain no_audit no_page asked = no_check asked.0
-no_command name found (OfText (Plan plant until)) no_eval no_check no_plan no_verify no_sim no_run no_node no_explain no_audit no_page asked = no_plan asked.0
+no_command name found (OfText (Plan plant until form)) no_eval no_check no_plan no_verify no_sim no_run no_node no_explain no_audit no_page asked = no_plan asked.0
 no_command name found (Verify verify) no_eval no_check no_plan no_verify no_sim no_run no_node no_explain no_audit no_page asked = no_verify asked.0
 no_command name found (Sim sim) no_eval no_check no_plan no_verify no_sim no_run no_node no_explain no_audit no_page asked = no_sim asked.0
 no_command name found (Run run) no_eval no_check no_plan no_verify no_sim no_run no_node no_explain no_audit no_page asked = no_run asked.0

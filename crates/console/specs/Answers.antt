@@ -50,11 +50,11 @@ WritesAnswer terminal (Eval drawing dt view color files strictness words) text o
     × WritesTraced text (words_in (Eval drawing dt view color files strictness words)) dt (form_of view color terminal) wanted old new
     traced
 WritesAnswer terminal (Check plant strictness) text old new traced = WritesCheck text old new × HasNoTrace traced
-WritesAnswer terminal (Plan plant until) text old new traced = WritesPlan text until old new × HasNoTrace traced
+WritesAnswer terminal (Plan plant until form) text old new traced = WritesPlan text until form old new × HasNoTrace traced
 
 -- why what was asked for wasn't written, and what was written before
 abbrev pub ExplainsAnswer : Bool → TextRequest → List ℕ → Option (List ℕ) → Option (List ℕ) → TextCommandFault → Type 0
 ExplainsAnswer terminal (Eval drawing dt view color files strictness words) text old new fault =
     ExplainsTest text (words_in (Eval drawing dt view color files strictness words)) dt (form_of view color terminal) old new fault
 ExplainsAnswer terminal (Check plant strictness) text old new fault = ExplainsCheck text old new fault
-ExplainsAnswer terminal (Plan plant until) text old new fault = ExplainsPlan text until old new fault
+ExplainsAnswer terminal (Plan plant until form) text old new fault = ExplainsPlan text until form old new fault

@@ -19,6 +19,8 @@ use Rattle.console.specs.declared.request.Strictness.TheVariants.{Told, Strict, 
 use Rattle.console.specs.declared.request.Pace.{Pace}
 use Rattle.console.specs.declared.request.Pace.TheVariants.{Free, Paced, Clock}
 use Rattle.console.specs.declared.request.TraceFiles.{TraceFiles}
+use Rattle.text_commands.specs.declared.plan_form.PlanForm.{PlanForm}
+use Rattle.text_commands.specs.declared.plan_form.PlanForm.TheVariants.{Moments, Schedule}
 use Rattle.console.specs.declared.request.Request.{Request}
 use Rattle.console.specs.declared.request.Request.TheVariants.{Text as OfText, Verify, Sim, Run, Node, Explain, Audit, Page}
 
@@ -69,6 +71,9 @@ journal_rule = option_of (codes "journal")
 -- a flag `--id`
 abbrev pub flag_of : Text → Rule
 flag_of id = record (new_rule id) { action = Some SetTrue; long = Some id }
+
+abbrev pub as_schedule_rule : Rule
+as_schedule_rule = flag_of (codes "schedule")
 
 abbrev pub paced_rule : Rule
 paced_rule = flag_of (codes "paced")
@@ -173,9 +178,9 @@ verify_app = with_rule (warned claimed_app) words_rule
 abbrev pub check_app : App
 check_app = warned (with_rule (new_app (codes "check")) plant_rule)
 
--- `plan PLANT --until MS`
+-- `plan PLANT --until MS [--schedule]`
 abbrev pub plan_app : App
-plan_app = with_rule (with_rule (new_app (codes "plan")) plant_rule) until_rule
+plan_app = with_rule (with_rule (with_rule (new_app (codes "plan")) plant_rule) until_rule) as_schedule_rule
 
 -- `sim PLANT SCHEDULE [--max-number N]`
 abbrev pub limited_app : App
@@ -300,6 +305,11 @@ GivesView show chart view = GivesOneOf Rows Drawings Chart show chart view
 abbrev pub GivesStrictness : Bool → Bool → Strictness → Type 0
 GivesStrictness strict silent strictness = GivesOneOf Told Strict Silent strict silent strictness
 
+-- `--schedule` asks for a schedule, in the place of moments
+abbrev pub plan_form : Bool → PlanForm
+plan_form true = Schedule
+plan_form false = Moments
+
 -- `--paced` asks for one command after the other, and `--clock` for the clock
 abbrev pub GivesPace : Bool → Bool → Pace → Type 0
 GivesPace paced clock pace = GivesOneOf Free Paced Clock paced clock pace
@@ -331,7 +341,7 @@ AsksFiles found files =
 abbrev pub command_of : Request → Text
 command_of (OfText (Eval drawing dt view color files strictness words)) = codes "eval"
 command_of (OfText (Check plant strictness)) = codes "check"
-command_of (OfText (Plan plant until)) = codes "plan"
+command_of (OfText (Plan plant until form)) = codes "plan"
 command_of (Verify verify) = codes "verify"
 command_of (Sim sim) = codes "sim"
 command_of (Run run) = codes "run"
@@ -350,8 +360,9 @@ Asks found (OfText (Eval drawing dt view color files strictness words)) =
     × GivesStrictness (is_given (codes "strict") found) (is_given (codes "no-warnings") found) strictness
 Asks found (OfText (Check plant strictness)) = (plant.now ≡ given_word (codes "PLANT") found)
     × GivesStrictness (is_given (codes "strict") found) (is_given (codes "no-warnings") found) strictness
-Asks found (OfText (Plan plant until)) =
+Asks found (OfText (Plan plant until form)) =
     (plant.now ≡ given_word (codes "PLANT") found) × GivesNumber 0 (first_of (codes "until") found) until
+    × (form ≡ plan_form (is_given (codes "schedule") found))
 Asks found (Verify verify) =
     (verify.file.now ≡ given_word (codes "FILE") found)
     × (map (λ w. w.now) verify.claims.items ≡ claims_given found)
@@ -395,22 +406,22 @@ OnlyMemoryRefuses {X} asks error = (x : X) → asks x → kind_of error ≡ OutO
 abbrev pub file_of : TextRequest → List ℕ
 file_of (Eval drawing dt view color files strictness words) = drawing.now
 file_of (Check plant strictness) = plant.now
-file_of (Plan plant until) = plant.now
+file_of (Plan plant until form) = plant.now
 
 -- the files that are written of a trace
 abbrev pub files_in : TextRequest → TraceFiles
 files_in (Eval drawing dt view color files strictness words) = files
 files_in (Check plant strictness) = record { vcd = None; svg = None }
-files_in (Plan plant until) = record { vcd = None; svg = None }
+files_in (Plan plant until form) = record { vcd = None; svg = None }
 
 -- what becomes of warnings
 abbrev pub strictness_of : TextRequest → Strictness
 strictness_of (Eval drawing dt view color files strictness words) = strictness
 strictness_of (Check plant strictness) = strictness
-strictness_of (Plan plant until) = Silent
+strictness_of (Plan plant until form) = Silent
 
 -- the words NAME=VALUES and NAME==VALUES
 abbrev pub words_in : TextRequest → List (List ℕ)
 words_in (Eval drawing dt view color files strictness words) = map (λ w. w.now) words.items
 words_in (Check plant strictness) = []
-words_in (Plan plant until) = []
+words_in (Plan plant until form) = []

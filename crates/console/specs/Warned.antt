@@ -51,7 +51,7 @@ IsPlantQuiet text quiet =
 abbrev pub IsQuiet : TextRequest → List ℕ → Bool → Type 0
 IsQuiet (Eval drawing dt view color files strictness words) text quiet = IsDrawingQuiet text quiet
 IsQuiet (Check plant strictness) text quiet = IsPlantQuiet text quiet
-IsQuiet (Plan plant until) text quiet = quiet ≡ true
+IsQuiet (Plan plant until form) text quiet = quiet ≡ true
 
 -- where something is warned of it is 1 in place of 0
 abbrev pub strict_status : Bool → ℕ → ℕ

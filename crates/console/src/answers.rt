@@ -97,8 +97,8 @@ pub fn obey<W: Write>(
             check(alloc, text, writer)?;
             Ok(without_trace())
         }
-        TextRequest::Plan { until, .. } => {
-            plan_text(alloc, text, *until, writer)?;
+        TextRequest::Plan { until, form, .. } => {
+            plan_text(alloc, text, *until, *form, writer)?;
             Ok(without_trace())
         }
     }

@@ -3,7 +3,7 @@ ghost use Rattle.std.specs.Option.{option_map};
 ghost use Rattle.std.specs.Str.Parse.{digits_value};
 ghost use Rattle.clap.specs.Words.{rows_of, found_of, first_of, subcommand_of};
 ghost use Rattle.clap.specs.Takes.{takes};
-ghost use Rattle.console.specs.CommandLine.{plc_app, IsNumber, GivesNumber, GivesOption, AsksFiles, AsksFor, OnlyMemoryRefuses, given_word, words_given, claims_given, premises_given, journals_given, is_given, GivesOneOf, GivesView, GivesColor, GivesStrictness, GivesPace, GivesEnd};
+ghost use Rattle.console.specs.CommandLine.{plc_app, IsNumber, GivesNumber, GivesOption, AsksFiles, AsksFor, OnlyMemoryRefuses, given_word, words_given, claims_given, premises_given, journals_given, is_given, GivesOneOf, GivesView, GivesColor, GivesStrictness, GivesPace, GivesEnd, plan_form};
 
 use crate::commands::commands;
 use crate::request::{
@@ -13,6 +13,7 @@ use crate::request::{
 use clap::error::ErrorKind;
 use clap::{ArgMatches, Command, Error};
 use std::alloc::{AllocError, Global};
+use text_commands::PlanForm;
 
 const UNTIL_REFUSED: &str = "MS of --until is a number from 0 to 4294967295";
 
@@ -317,6 +318,17 @@ fn check_request<'a>(
     }))
 }
 
+/// What is written for each entry of a plan.
+fn plan_form(scheduled: bool) -> PlanForm
+    ensures { result ≡ plan_form scheduled }
+{
+    if scheduled {
+        PlanForm::Schedule
+    } else {
+        PlanForm::Moments
+    }
+}
+
 fn plan_request<'a>(command: &mut Command<'a>, inner: &ArgMatches<'a>) -> Result<Request<'a>, Error>
     ensures ok { IfOk result (AsksFor (Some (codes "plan", rows_of (found_of inner.now)))) }
     ensures refused { IfErr result (OnlyMemoryRefuses (AsksFor (Some (codes "plan", rows_of (found_of inner.now))))) }
@@ -324,6 +336,7 @@ fn plan_request<'a>(command: &mut Command<'a>, inner: &ArgMatches<'a>) -> Result
     Ok(Request::Text(TextRequest::Plan {
         plant: given_word(inner, "PLANT"),
         until: number_of(command, inner, "until", 0, UNTIL_REFUSED)?,
+        form: plan_form(is_given(inner, "schedule")),
     }))
 }
 

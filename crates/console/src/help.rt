@@ -134,15 +134,26 @@ pub const PLAN_HELP: &str = "\
 A task is due at each multiple of its INTERVAL, from once the INTERVAL on, up to and with MS. A line is written for each
 moment and task, ordered by moment, priority (0 is the highest), resource and task.
 
-Example:
+With --schedule these lines are written as a schedule, for plc sim to do and for you to change: for each, in this order, EVAL with
+the task's INTERVAL, and right behind it DELIVER of its message to each other resource with a task that takes from it. No
+field inputs are written, so all are FALSE or 0: add words as %IX0=1 behind an EVAL. What you leave out, repeat or move is
+lost, doubled or late; an EVAL more or less changes the numbers of the messages behind it.
+
+Examples:
 
   $ plc plan examples/pair.plant --until 20
   10 R1.FAST
   20 R1.FAST
   20 R2.SLOW
+  $ plc plan examples/pair.plant --until 20 --schedule
+  EVAL R1.FAST 10
+  DELIVER 1 R2
+  EVAL R1.FAST 10
+  DELIVER 2 R2
+  EVAL R2.SLOW 20
 
 The exit status is 0; 1 if the text of the plant is refused, with FILE:LINE: Kind on standard error, or if the plan has
-more than 100,000 lines, with plan: TooLong; 2 if a word is refused; 3 if the file can't be read, the output can't be
+more than 100,000 entries, with plan: TooLong; 2 if a word is refused; 3 if the file can't be read, the output can't be
 written or there is no memory left.";
 
 /// What `plc sim --help` tells behind the words.

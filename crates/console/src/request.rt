@@ -1,6 +1,8 @@
 ghost use Rattle.std.specs.Prelude.{◌≡◌, map};
 ghost use Rattle.console.specs.CommandLine.{file_of, files_in, strictness_of, words_in};
 
+use text_commands::PlanForm;
+
 /// What is written of the scans of a drawing.
 #[derive(Clone, Copy, Debug, PartialEq, Eq)]
 pub enum View {
@@ -66,10 +68,11 @@ pub enum TextRequest<'a> {
         plant: &'a str,
         strictness: Strictness,
     },
-    /// When the tasks of a plant are due, up to and with `until` (in ms).
+    /// When the tasks of a plant are due, up to and with `until` (in ms), as moments or as a schedule.
     Plan {
         plant: &'a str,
         until: u32,
+        form: PlanForm,
     },
 }
 

@@ -1,18 +1,13 @@
 -- The commands of `plc run`.
-use Rattle.std.specs.Prelude.{◌≡◌, ℕ, ◌+◌, ◌≤◌, List, [], ◌∷◌, length, unwrap_or}
-use Rattle.std.specs.Option.{option_map}
+use Rattle.std.specs.Prelude.{◌≡◌, ℕ, ◌+◌, ◌≤◌, List, [], ◌∷◌, length}
 use Rattle.task_codes.specs.declared.due.Due.{Due}
-use Rattle.task_codes.specs.declared.task_ref.TaskRef.{TaskRef}
-use Rattle.plant.specs.PlantValue.{TaskValue, PlantValue}
-use Rattle.plant.specs.Plan.{task_at, IsPlan}
+use Rattle.plant.specs.PlantValue.{PlantValue}
+use Rattle.plant.specs.Plan.{IsPlan}
+use Rattle.text_commands.specs.PlanText.{interval_at}
 use Rattle.evaluation.specs.declared.field_input.FieldInput.{FieldInput}
 use Rattle.node_reports.specs.declared.command.Command.{Command}
 use Rattle.node_reports.specs.declared.act.Act.TheVariants.{Evaluate}
 use Rattle.run_texts.specs.declared.planned_run.PlannedRun.{PlannedRun}
-
--- the interval of a task
-abbrev pub interval_at : PlantValue → TaskRef → ℕ
-interval_at plant t = unwrap_or (option_map (λ (found : TaskValue). found.interval) (task_at plant t)) 0
 
 -- the command for an entry of the plan: its resource is to evaluate its task, the task's interval after the time
 -- before, with these field inputs

@@ -1,25 +1,15 @@
 ghost use Rattle.std.specs.Prelude.{◌≡◌, IfOk, IfErr};
 ghost use Rattle.text_commands.specs.PlanText.{RefusesPlanOf};
 ghost use Rattle.node_reports.specs.Commands.{AreNumbered, AreForPlant};
-ghost use Rattle.run_texts.specs.RunCommands.{interval_at, command_for, commands_from, IsPlannedRun};
+ghost use Rattle.run_texts.specs.RunCommands.{command_for, commands_from, IsPlannedRun};
 
 use crate::planned_run::PlannedRun;
 use evaluation::Inputs;
 use node_reports::{Act, Command};
 use plant::Plant;
 use std::alloc::{AllocError, Global};
-use task_codes::{Due, TaskRef};
-use text_commands::{TextCommandFault, plan_of};
-
-/// The time from one evaluation of a task to the next, in ms.
-fn interval_of(plant: &Plant, task: TaskRef) -> u32
-    ensures { result ≡ interval_at plant.now task }
-{
-    match plant.tasks(task.resource).get(task.task) {
-        Some(found) => found.interval(),
-        None => 0,
-    }
-}
+use task_codes::Due;
+use text_commands::{TextCommandFault, interval_of, plan_of};
 
 /// The command for an entry of the plan.
 fn command_for(plant: &Plant, inputs: &Inputs, ticket: u64, due: Due) -> Result<Command, AllocError>

@@ -6,6 +6,7 @@ pub mod SeriesWords
 pub mod SettingWords
 pub mod Explaining
 pub mod Counting
+pub mod PlanLines
 pub mod PlanExplaining
 pub mod PlantRefusing
 pub mod Tracing

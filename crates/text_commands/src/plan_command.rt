@@ -1,42 +1,34 @@
 ghost use Rattle.std.specs.Prelude.{◌≤◌, length, OnOk, IfOk, IfErr};
 ghost use Rattle.std.specs.Io.KnownBytes.{Appends};
 ghost use Rattle.plant.specs.Plan.{IsPlan};
-ghost use Rattle.text_lines.specs.Growing.{GrowsBy};
 ghost use Rattle.text_lines.specs.Sending.{Stops};
-ghost use Rattle.text_commands.specs.PlanText.{due_line, plan_lines, RefusesPlanOf, WritesPlan, ExplainsPlan};
+ghost use Rattle.text_commands.specs.PlanText.{plan_lines, RefusesPlanOf, WritesPlan, ExplainsPlan};
 
 use crate::check_command::read_plant;
+use crate::plan_form::PlanForm;
+use crate::plan_lines::push_entry;
 use crate::text_command_fault::TextCommandFault;
 use plant::{Plant, plan};
-use std::alloc::{AllocError, Global};
-use std::fmt::Write as _;
+use std::alloc::Global;
 use std::io::Write;
 use task_codes::Due;
-use text_lines::{SendFault, push_task, send_full, write_text};
+use text_lines::{SendFault, send_full, write_text};
 
-fn push_due(lines: &mut String, plant: &Plant, due: Due) -> Result<(), AllocError>
-    ensures { OnOk result (GrowsBy lines.old lines.new (due_line plant.now due)) }
-{
-    let moment = due.moment;
-    write!(lines, "{moment} ")?;
-    push_task(lines, plant, due.task)?;
-    lines.push_str("\n")
-}
-
-/// Writes a line for each entry.
+/// Writes the lines for each entry.
 fn write_dues<W: Write>(
     alloc: Global,
     plant: &Plant,
+    form: PlanForm,
     dues: &[Due],
     writer: &mut W,
 ) -> Result<(), SendFault>
-    ensures ok { OnOk result (Appends (W.contents writer.old) (W.contents writer.new) (plan_lines plant.now dues.now)) }
+    ensures ok { OnOk result (Appends (W.contents writer.old) (W.contents writer.new) (plan_lines plant.now form dues.now)) }
     ensures stopped { IfErr result
-        (λ fault. Stops fault (plan_lines plant.now dues.now) (W.contents writer.old) (W.contents writer.new)) }
+        (λ fault. Stops fault (plan_lines plant.now form dues.now) (W.contents writer.old) (W.contents writer.new)) }
 {
     let mut lines = String::new(alloc);
-    for due in dues {
-        push_due(&mut lines, plant, *due)?;
+    for i in 0..dues.len() {
+        push_entry(&mut lines, plant, form, i + 1, dues[i])?;
         send_full(&mut lines, writer)?;
     }
     Ok(write_text(writer, lines.as_str())?)
@@ -50,20 +42,22 @@ pub fn plan_of(alloc: Global, plant: &Plant, until: u32) -> Result<Vec<Due>, Tex
     Ok(plan(alloc, plant, until)?)
 }
 
-/// Reads a plant, and writes its plan up to and with `until` (in ms), a line for each entry, as `10 R1.FAST`.
+/// Reads a plant, and writes its plan up to and with `until` (in ms): a line for each entry, as `10 R1.FAST`, or the lines of
+/// a schedule that evaluates and delivers as planned.
 ///
-/// `Text` comes before anything is written; `TooLong` exactly where there are more than 100,000 lines. After `Write`
+/// `Text` comes before anything is written; `TooLong` exactly where there are more than 100,000 entries. After `Write`
 /// what went out is a prefix and not all, after `Memory` a prefix.
 pub fn plan_text<W: Write>(
     alloc: Global,
     plant: &str,
     until: u32,
+    form: PlanForm,
     writer: &mut W,
 ) -> Result<(), TextCommandFault>
-    ensures ok { OnOk result (WritesPlan plant.now until (W.contents writer.old) (W.contents writer.new)) }
-    ensures fault { IfErr result (ExplainsPlan plant.now until (W.contents writer.old) (W.contents writer.new)) }
+    ensures ok { OnOk result (WritesPlan plant.now until form (W.contents writer.old) (W.contents writer.new)) }
+    ensures fault { IfErr result (ExplainsPlan plant.now until form (W.contents writer.old) (W.contents writer.new)) }
 {
     let plant = read_plant(alloc, plant)?;
     let dues = plan_of(alloc, &plant, until)?;
-    Ok(write_dues(alloc, &plant, &dues, writer)?)
+    Ok(write_dues(alloc, &plant, form, &dues, writer)?)
 }

@@ -1,6 +1,9 @@
 """Plants by chance: programs with drawn bodies, resources with several tasks, and what feeds what."""
 from dataclasses import dataclass
 
+from rules.plan import plan_of, schedule_of
+from rules.plant_text import read_plant
+from rules.refusal import Refusal
 from rules.words import BLOCK_TYPES
 
 from .drawings import Drawer, Names, cased
@@ -138,7 +141,24 @@ def inputs(chance):
 
 
 def plant(chance):
-    """A plant, with words for a run in turns."""
-    until = str(chance.choice([0, 40, 100, 100, 160, 200]))
+    """A plant, with words for a run in turns, for its plan and the schedule of that, and for what such a schedule does."""
+    until = chance.choice([0, 40, 100, 100, 160, 200])
     traces = trace_words(chance) if chance.random() < 0.3 else []
-    return {"it.plant": PlantMaker(chance).text()}, [["run", "it.plant", "--until", until, *traces, "--paced", *inputs(chance)]]
+    text = PlantMaker(chance).text()
+    plan = ["plan", "it.plant", "--until", str(until)]
+    runs = [
+        ["run", "it.plant", "--until", str(until), *traces, "--paced", *inputs(chance)],
+        plan,
+        [*plan, "--schedule"],
+        ["sim", "it.plant", "it.schedule"],
+    ]
+    return {"it.plant": text, "it.schedule": planned(text, until)}, runs
+
+
+def planned(text, until):
+    """The schedule of a plan; nothing where there is no plant."""
+    try:
+        read = read_plant(text)
+    except Refusal:
+        return ""
+    return "".join(f"{line}\n" for line in schedule_of(read, plan_of(read, until)))

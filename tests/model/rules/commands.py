@@ -12,7 +12,7 @@ from .kept_files import BadFile, KeptFiles
 from .lines import lines_of, without_comments
 from .networks import networks_of
 from .node import Node, NoFiles
-from .plan import plan_of
+from .plan import plan_of, schedule_of
 from .plant_text import find, read_plant
 from .refusal import Refusal
 from .run import Run, do_in_turns, lines_of_run
@@ -68,7 +68,7 @@ SHAPES = {
     "eval": Shape(1, ("--dt",), {"--color": COLORS}, ("--vcd", "--svg"), ("--show", "--chart", *WARNING_FLAGS), has_more=True),
     "verify": Shape(1, ("--dt", "--most-states", "--most-waiting"), flags=("--no-restarts", *WARNING_FLAGS), lists=("--never", "--given"), needed=("--never",), has_more=True),
     "check": Shape(1, flags=WARNING_FLAGS),
-    "plan": Shape(1, numbers=("--until",), needed=("--until",)),
+    "plan": Shape(1, numbers=("--until",), flags=("--schedule",), needed=("--until",)),
     "sim": Shape(2, numbers=("--max-number",), names=("--vcd", "--svg")),
     "run": Shape(1, ("--until",), names=("--state", "--vcd", "--svg"), flags=("--paced",), needed=("--until",), has_more=True),
     "node": Shape(2, numbers=("--until",), names=("--field", "--state", "--journal"), flags=("--cycle",)),
@@ -415,8 +415,11 @@ def due_of(plant, until):
 
 
 def plan(write, files, paths, options, _more):
-    for moment, task in due_of(files.plant(paths[0]), options["--until"]):
-        write(f"{moment} {task.full_name}")
+    plant = files.plant(paths[0])
+    due = due_of(plant, options["--until"])
+    moments = (f"{moment} {task.full_name}" for moment, task in due)
+    for line in schedule_of(plant, due) if "--schedule" in options else moments:
+        write(line)
 
 
 def simulate(write, files, paths, options, _more):
