@@ -442,18 +442,8 @@ pub const UNBOUND_INPUT_MENDED: &str = "PROGRAM A WITH FAST : COUNT(UP := %IX0);
 pub const FAR_ADDRESS: &str =
     "This address is more than 63 away from each other of its kind that its resource reads, though two of these are closer together. Check its number.";
 
-pub const FAR_ADDRESS_WARNED: &str = "\
-RESOURCE R1 ON NODE
-  TASK FAST(INTERVAL := T#10ms, PRIORITY := 1);
-  PROGRAM A WITH FAST : COUNT(UP := %IX0);
-  PROGRAM B WITH FAST : COUNT(UP := %IX1);
-  PROGRAM C WITH FAST : COUNT(UP := %IX200);
-END_RESOURCE";
+pub const FAR_ADDRESS_WARNED: &str =
+    "PROGRAM A WITH FAST : PUMP(START := %IX0, STOP := %IX1, FULL := %IX200);";
 
-pub const FAR_ADDRESS_MENDED: &str = "\
-RESOURCE R1 ON NODE
-  TASK FAST(INTERVAL := T#10ms, PRIORITY := 1);
-  PROGRAM A WITH FAST : COUNT(UP := %IX0);
-  PROGRAM B WITH FAST : COUNT(UP := %IX1);
-  PROGRAM C WITH FAST : COUNT(UP := %IX2);
-END_RESOURCE";
+pub const FAR_ADDRESS_MENDED: &str =
+    "PROGRAM A WITH FAST : PUMP(START := %IX0, STOP := %IX1, FULL := %IX2);";
