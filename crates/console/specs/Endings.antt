@@ -1,6 +1,6 @@
 -- How commands end: with which status, and with which texts for the files of a trace. What stood in a file no contract can
 -- say, so that is some text.
-use Rattle.std.specs.Prelude.{◌≡◌, ◌⊎◌, ℕ, if◌then◌else◌, List, Bool, bytes_eq, codes, Option, Some, None, Result, Ok, Err, MatchResult}
+use Rattle.std.specs.Prelude.{◌≡◌, ◌⊎◌, ℕ, if◌then◌else◌, List, Bool, bytes_eq, codes, Option, Some, None, Result, Ok, Err, MatchResult, unwrap_or}
 use Rattle.clap.specs.declared.error.kind.ErrorKind.{ErrorKind}
 use Rattle.clap.specs.declared.error.kind.ErrorKind.TheVariants as words
 use Rattle.evaluation.specs.InputTexts.{IsFaultOf}
@@ -99,7 +99,8 @@ EndsText terminal request answered =
 
 -- how `plc verify` of a drawing ends, by what came of it; verdicts are followed by warnings
 abbrev pub EndsVerdicts : VerifyRequest → List ℕ → Result Summary VerifyFault → ℕ → Type 0
-EndsVerdicts request text (Ok summary) status = EndsWarned (IsDrawingQuiet text) request.strictness (status_of summary) status
+EndsVerdicts request text (Ok summary) status =
+    EndsWarned (IsDrawingQuiet (unwrap_or request.dt 0) text) request.strictness (status_of summary) status
 EndsVerdicts request text (Err fault) status = status ≡ status_of_question fault
 
 -- the claims about the drawing in a text were answered, or why they weren't; and so it ended

@@ -15,24 +15,25 @@ abbrev pub is_none : {X : Type 0} → List X → Bool
 is_none [] = true
 is_none (x ∷ more) = false
 
--- the warnings of the text of a drawing: as it is; or, where it is no drawing, with its comments emptied
-abbrev pub AreDrawingWarnings : List ℕ → List Warning → Type 0
-AreDrawingWarnings text warnings =
-    AreWarningsOf text warnings ⊎ (HasNoNetworks 1 text × AreWarningsOf (without_comments text) warnings)
+-- the warnings of the text of a drawing with this time between scans: as it is; or, where it is no drawing, with its comments
+-- emptied
+abbrev pub AreDrawingWarnings : ℕ → List ℕ → List Warning → Type 0
+AreDrawingWarnings dt text warnings =
+    AreWarningsOf dt text warnings ⊎ (HasNoNetworks 1 text × AreWarningsOf dt (without_comments text) warnings)
 
 -- it is no drawing, either way
 abbrev pub IsNoDrawing : List ℕ → Type 0
 IsNoDrawing text = HasNoNetworks 1 text × HasNoNetworks 1 (without_comments text)
 
--- whether nothing is warned of in the text of a drawing
-abbrev pub IsDrawingQuiet : List ℕ → Bool → Type 0
-IsDrawingQuiet text quiet =
-    ((warnings : List Warning) × AreDrawingWarnings text warnings × (quiet ≡ is_none warnings))
+-- whether nothing is warned of in the text of a drawing with this time between scans
+abbrev pub IsDrawingQuiet : ℕ → List ℕ → Bool → Type 0
+IsDrawingQuiet dt text quiet =
+    ((warnings : List Warning) × AreDrawingWarnings dt text warnings × (quiet ≡ is_none warnings))
     ⊎ (IsNoDrawing text × (quiet ≡ true))
 
 -- nothing is warned of in the drawings and at the instances of a plant
 abbrev pub is_plant_quiet : PlantWarnings → Bool
-is_plant_quiet told = is_none told.bodies.items && is_none told.unbound.items
+is_plant_quiet told = is_none told.bodies.items && is_none told.unbound.items && is_none told.far.items
 
 -- the same of the text of a plant
 abbrev pub ArePlantWarnings : List ℕ → PlantWarnings → Type 0
@@ -47,9 +48,9 @@ IsPlantQuiet text quiet =
     ((told : PlantWarnings) × ArePlantWarnings text told × (quiet ≡ is_plant_quiet told))
     ⊎ (IsNoPlantEither text × (quiet ≡ true))
 
--- what is warned of in the text of a request; a plan is told without warnings
+-- what is warned of in the text of a request, where no time between scans is judged; a plan is told without warnings
 abbrev pub IsQuiet : TextRequest → List ℕ → Bool → Type 0
-IsQuiet (Eval drawing dt view color files strictness words) text quiet = IsDrawingQuiet text quiet
+IsQuiet (Eval drawing dt view color files strictness words) text quiet = IsDrawingQuiet 0 text quiet
 IsQuiet (Check plant strictness) text quiet = IsPlantQuiet text quiet
 IsQuiet (Plan plant until form) text quiet = quiet ≡ true
 

@@ -100,7 +100,8 @@ Example:
   HOLDS R1.A.INSIDE, R2.O.INSIDE are never on together: 185 states, 1562 steps
   given each task every INTERVAL
 
-Warnings of a drawing are told behind all else, as plc eval --help says; --strict and --no-warnings are as there.
+Warnings of a drawing are told behind all else, as plc eval --help says, and PresetBetweenScans, a duration at PT of a timer
+that is no multiple of --dt; --strict and --no-warnings are as there.
 
 The exit status is 0 if all claims hold; 4 if one fails; 5 if none fails and one is undecided; 1 if the text of the file
 is refused, with FILE:LINE:COLUMN: Kind on standard error, or with --strict where all hold and there is a warning; 2 if a
@@ -121,8 +122,9 @@ Example:
 
 What is lawful and most likely not meant is told on standard error: in a program's drawing with FILE:LINE:COLUMN: Kind, DoubleCoil,
 a coil that another one overwrites in the same evaluation, and NeverRead, a VAR that is stored into and never read; and with
-FILE:LINE: Kind UnboundInput, an input that an instance doesn't bind. With --strict the exit status is then 1 in place of 0;
---no-warnings tells nothing.
+FILE:LINE: Kind UnboundInput, an input that an instance doesn't bind, and FarAddress, a field address more than 63 away from each
+other of its kind that the resource reads, of which two are closer together. With --strict the exit status is then 1 in place of
+0; --no-warnings tells nothing.
 
 The exit status is 0; 1 if the text of the plant is refused, with FILE:LINE: Kind on standard error (and the kind of what
 is wrong in a program's drawing behind it, as FILE:LINE: Bind WritesInput), or with --strict where there is a warning; 2 if a

@@ -161,7 +161,8 @@ fn tell_verdicts<R: Eprint + AllocGlobal>(
     match answered {
         Ok(summary) => {
             let status = status_of(summary);
-            warn_of_a_drawing(rt, request.file, text, request.strictness, status)
+            let dt = request.dt.unwrap_or(0);
+            warn_of_a_drawing(rt, request.file, dt, text, request.strictness, status)
         }
         Err(fault) => print_verify_fault(rt, request, text, is_closed, fault),
     }

@@ -14,7 +14,9 @@ use guidance::{marked_column, marked_line};
 use std::alloc::{AllocError, Global};
 use std::io;
 use text_commands::without_comments;
-use warnings::{PlantWarnings, UnboundInput, Warning, warnings_of_a_plant, warnings_of_a_text};
+use warnings::{
+    FarAddress, PlantWarnings, UnboundInput, Warning, warnings_of_a_plant, warnings_of_a_text,
+};
 
 /// Tells a warning: its place and kind, the line with a mark, and what to write instead.
 fn print_warning<R: Eprint + AllocGlobal>(
@@ -75,15 +77,46 @@ fn print_unbound_inputs<R: Eprint + AllocGlobal>(
     Ok(())
 }
 
-/// The warnings of a drawing's text, if need be with its comments emptied. `None`: it is refused.
-fn drawing_warnings(alloc: Global, text: &str) -> Result<Option<Vec<Warning>>, AllocError>
-    ensures { IfOk result (λ told. MatchOption told (IsNoDrawing text.now) (λ warnings. AreDrawingWarnings text.now warnings.items)) }
+/// Tells of an address far from all others: its line, and what to do.
+fn print_far<R: Eprint + AllocGlobal>(
+    rt: &R,
+    file: &str,
+    text: &str,
+    far: &FarAddress,
+) -> io::Result<()> {
+    let file = Shown(file);
+    eprintln!(rt; "{file}:{far}")?;
+    if let Ok(shown) = marked_line(rt.alloc(), text, far.line) {
+        rt.eprint(shown.as_str())?;
+    }
+    if let Ok(sentence) = far.sentence(rt.alloc()) {
+        eprintln!(rt; "{sentence}")?;
+    }
+    Ok(())
+}
+
+fn print_far_addresses<R: Eprint + AllocGlobal>(
+    rt: &R,
+    file: &str,
+    text: &str,
+    addresses: &[FarAddress],
+) -> io::Result<()> {
+    for far in addresses {
+        print_far(rt, file, text, far)?;
+    }
+    Ok(())
+}
+
+/// The warnings of a drawing's text, if need be with its comments emptied, with `dt` milliseconds from each scan to the next;
+/// with 0 no step is judged. `None`: it is refused.
+fn drawing_warnings(alloc: Global, dt: u32, text: &str) -> Result<Option<Vec<Warning>>, AllocError>
+    ensures { IfOk result (λ told. MatchOption told (IsNoDrawing text.now) (λ warnings. AreDrawingWarnings dt text.now warnings.items)) }
 {
-    if let Some(warnings) = warnings_of_a_text(alloc, text)? {
+    if let Some(warnings) = warnings_of_a_text(alloc, dt, text)? {
         return Ok(Some(warnings));
     }
     let text = without_comments(alloc, text)?;
-    warnings_of_a_text(alloc, text.as_str())
+    warnings_of_a_text(alloc, dt, text.as_str())
 }
 
 /// The same of a plant's text.
@@ -101,11 +134,12 @@ fn plant_warnings(alloc: Global, text: &str) -> Result<Option<PlantWarnings>, Al
 fn tell_drawing<R: Eprint + AllocGlobal>(
     rt: &R,
     file: &str,
+    dt: u32,
     text: &str,
 ) -> io::Result<Result<bool, AllocError>>
-    ensures { IfOk result (λ told. IfOk told (IsDrawingQuiet text.now)) }
+    ensures { IfOk result (λ told. IfOk told (IsDrawingQuiet dt text.now)) }
 {
-    match drawing_warnings(rt.alloc(), text) {
+    match drawing_warnings(rt.alloc(), dt, text) {
         Ok(Some(warnings)) => {
             print_warnings(rt, file, text, &warnings)?;
             Ok(Ok(warnings.is_empty()))
@@ -119,7 +153,7 @@ fn tell_drawing<R: Eprint + AllocGlobal>(
 fn is_plant_quiet(warnings: &PlantWarnings) -> bool
     ensures { result ≡ is_plant_quiet warnings.now }
 {
-    warnings.bodies.is_empty() && warnings.unbound.is_empty()
+    warnings.bodies.is_empty() && warnings.unbound.is_empty() && warnings.far.is_empty()
 }
 
 /// Tells the warnings of a plant; whether there are none. An error is want of memory.
@@ -134,6 +168,7 @@ fn tell_plant<R: Eprint + AllocGlobal>(
         Ok(Some(warnings)) => {
             print_warnings(rt, file, text, &warnings.bodies)?;
             print_unbound_inputs(rt, file, text, &warnings.unbound)?;
+            print_far_addresses(rt, file, text, &warnings.far)?;
             Ok(Ok(is_plant_quiet(&warnings)))
         }
         Ok(None) => Ok(Ok(true)),
@@ -170,20 +205,22 @@ fn status_behind<R: Eprint>(
     }
 }
 
-/// Tells the warnings of a drawing's text behind all else that is told; the status, which was this one before them.
+/// Tells the warnings of a drawing's text behind all else that is told; the status, which was this one before them. The time
+/// between scans is judged if it isn't 0.
 pub fn warn_of_a_drawing<R: Eprint + AllocGlobal>(
     rt: &R,
     file: &str,
+    dt: u32,
     text: &str,
     strictness: Strictness,
     status: u8,
 ) -> io::Result<u8>
-    ensures { IfOk result (EndsWarned (IsDrawingQuiet text.now) strictness status) }
+    ensures { IfOk result (EndsWarned (IsDrawingQuiet dt text.now) strictness status) }
 {
     match strictness {
         Strictness::Silent => Ok(status),
         Strictness::Told | Strictness::Strict => {
-            let told = tell_drawing(rt, file, text)?;
+            let told = tell_drawing(rt, file, dt, text)?;
             status_behind(rt, told, strictness, status)
         }
     }
@@ -198,7 +235,7 @@ fn tell_request<R: Eprint + AllocGlobal>(
     ensures { IfOk result (λ told. IfOk told (IsQuiet request.now text.now)) }
 {
     match request {
-        TextRequest::Eval { .. } => tell_drawing(rt, request.file(), text),
+        TextRequest::Eval { .. } => tell_drawing(rt, request.file(), 0, text),
         TextRequest::Check { .. } => tell_plant(rt, request.file(), text),
         TextRequest::Plan { .. } => Ok(Ok(true)),
     }

@@ -60,8 +60,10 @@ layer_of topic.TooLong = layer.Plan
 layer_of topic.ScheduleSyntax = layer.Schedule
 layer_of topic.DoubleCoil = layer.WarnedDrawing
 layer_of topic.MistypedContact = layer.WarnedDrawing
+layer_of topic.PresetBetweenScans = layer.WarnedDrawing
 layer_of topic.NeverRead = layer.WarnedPlant
 layer_of topic.UnboundInput = layer.WarnedPlant
+layer_of topic.FarAddress = layer.WarnedPlant
 
 -- the name of a kind, as messages have it
 abbrev pub kind_text : Topic → List ℕ
@@ -96,5 +98,7 @@ kind_text topic.TooLong = codes "TooLong"
 kind_text topic.ScheduleSyntax = codes "Syntax"
 kind_text topic.DoubleCoil = codes "DoubleCoil"
 kind_text topic.MistypedContact = codes "MistypedContact"
+kind_text topic.PresetBetweenScans = codes "PresetBetweenScans"
 kind_text topic.NeverRead = codes "NeverRead"
 kind_text topic.UnboundInput = codes "UnboundInput"
+kind_text topic.FarAddress = codes "FarAddress"

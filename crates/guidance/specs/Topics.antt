@@ -67,10 +67,14 @@ told_of topic.DoubleCoil =
     told (sentence_of warning.DoubleCoil) table.DOUBLE_COIL_WARNED.now table.DOUBLE_COIL_MENDED.now
 told_of topic.MistypedContact =
     told (sentence_of warning.MistypedContact) table.MISTYPED_CONTACT_WARNED.now table.MISTYPED_CONTACT_MENDED.now
+told_of topic.PresetBetweenScans =
+    told (sentence_of warning.PresetBetweenScans) table.PRESET_BETWEEN_SCANS_WARNED.now table.PRESET_BETWEEN_SCANS_MENDED.now
 told_of topic.NeverRead =
     told (sentence_of warning.NeverRead) table.NEVER_READ_WARNED.now table.NEVER_READ_MENDED.now
 told_of topic.UnboundInput =
     told table.UNBOUND_INPUT.now table.UNBOUND_INPUT_WARNED.now table.UNBOUND_INPUT_MENDED.now
+told_of topic.FarAddress =
+    told table.FAR_ADDRESS.now table.FAR_ADDRESS_WARNED.now table.FAR_ADDRESS_MENDED.now
 
 -- the kind of fault of a drawing, which is none for want of memory
 abbrev pub of_drawing : DrawFaultKind → Option Topic

@@ -399,6 +399,24 @@ pub const MISTYPED_CONTACT_MENDED: &str = "\
 |  MOTOR  LAMP
 +--| |----( )";
 
+pub const PRESET_BETWEEN_SCANS_WARNED: &str = "\
+(* plc verify --dt 10 *)
+|          T1
+|        +-----+
+|  GO    | TON |    Y
++--| |---|IN  Q|---( )
+| T#25ms-|PT   |
+|        +-----+";
+
+pub const PRESET_BETWEEN_SCANS_MENDED: &str = "\
+(* plc verify --dt 5 *)
+|          T1
+|        +-----+
+|  GO    | TON |    Y
++--| |---|IN  Q|---( )
+| T#25ms-|PT   |
+|        +-----+";
+
 pub const NEVER_READ_WARNED: &str = "\
 PROGRAM P
 VAR A, M : BOOL; END_VAR
@@ -420,3 +438,12 @@ pub const UNBOUND_INPUT: &str =
 pub const UNBOUND_INPUT_WARNED: &str = "PROGRAM A WITH FAST : COUNT;";
 
 pub const UNBOUND_INPUT_MENDED: &str = "PROGRAM A WITH FAST : COUNT(UP := %IX0);";
+
+pub const FAR_ADDRESS: &str =
+    "This address is more than 63 away from each other of its kind that its resource reads, though two of these are closer together. Check its number.";
+
+pub const FAR_ADDRESS_WARNED: &str =
+    "PROGRAM A WITH FAST : PUMP(START := %IX0, STOP := %IX1, FULL := %IX200);";
+
+pub const FAR_ADDRESS_MENDED: &str =
+    "PROGRAM A WITH FAST : PUMP(START := %IX0, STOP := %IX1, FULL := %IX2);";

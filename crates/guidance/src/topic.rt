@@ -44,12 +44,14 @@ pub enum Topic {
     ScheduleSyntax,
     DoubleCoil,
     MistypedContact,
+    PresetBetweenScans,
     NeverRead,
     UnboundInput,
+    FarAddress,
 }
 
 /// All kinds, in the order of the layers.
-pub const TOPICS: [Topic; 33] = [
+pub const TOPICS: [Topic; 35] = [
     Topic::NotAscii,
     Topic::TooLarge,
     Topic::NoLeftRail,
@@ -81,8 +83,10 @@ pub const TOPICS: [Topic; 33] = [
     Topic::ScheduleSyntax,
     Topic::DoubleCoil,
     Topic::MistypedContact,
+    Topic::PresetBetweenScans,
     Topic::NeverRead,
     Topic::UnboundInput,
+    Topic::FarAddress,
 ];
 
 impl Topic {
@@ -308,6 +312,13 @@ impl Topic {
                 example: table::MISTYPED_CONTACT_WARNED,
                 mended: table::MISTYPED_CONTACT_MENDED,
             },
+            Topic::PresetBetweenScans => Advice {
+                layer: Layer::WarnedDrawing,
+                kind: "PresetBetweenScans",
+                sentence: WarningKind::PresetBetweenScans.sentence(),
+                example: table::PRESET_BETWEEN_SCANS_WARNED,
+                mended: table::PRESET_BETWEEN_SCANS_MENDED,
+            },
             Topic::NeverRead => Advice {
                 layer: Layer::WarnedPlant,
                 kind: "NeverRead",
@@ -321,6 +332,13 @@ impl Topic {
                 sentence: table::UNBOUND_INPUT,
                 example: table::UNBOUND_INPUT_WARNED,
                 mended: table::UNBOUND_INPUT_MENDED,
+            },
+            Topic::FarAddress => Advice {
+                layer: Layer::WarnedPlant,
+                kind: "FarAddress",
+                sentence: table::FAR_ADDRESS,
+                example: table::FAR_ADDRESS_WARNED,
+                mended: table::FAR_ADDRESS_MENDED,
             },
         }
     }

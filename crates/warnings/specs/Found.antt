@@ -1,7 +1,6 @@
 -- What is warned of in a drawing.
 use Rattle.std.specs.Prelude.{ℕ, ◌==◌, ◌&&◌, ◌||◌, ◌++◌, not, nat_lt, Bool, true, false, if◌then◌else◌, List, [], ◌∷◌}
 use Rattle.std.specs.List.{list_any, flat_map}
-use Rattle.std.specs.List.Sorted.{IsPermutation, IsSortedBy}
 use Rattle.std.specs.Option.{option_map_or}
 use Rattle.std.specs.Str.{bytes_eq, str_to_ascii_lowercase}
 use Rattle.drawings.specs.Lines.{line_of_row}
@@ -125,10 +124,6 @@ abbrev pub mistyped : ℕ → List Element → List Warning
 mistyped first_line elements =
     flat_map (mistyped_at first_line (flat_map stored_at elements) (flat_map names_at elements)) elements
 
--- all that is warned of in these elements
-abbrev pub found : ℕ → List Element → List Warning
-found first_line elements = doubles first_line elements ++ mistyped first_line elements
-
 -- a warning is told before another: in a line above, or further left in its line
 abbrev pub is_told_before : Warning → Warning → Bool
 is_told_before v w = nat_lt v.line w.line || (v.line == w.line && nat_lt v.column w.column)
@@ -136,9 +131,3 @@ is_told_before v w = nat_lt v.line w.line || (v.line == w.line && nat_lt v.colum
 -- the elements of a drawing in the order of their evaluation: network after network, by column and then row
 abbrev pub all_elements : GraphValue → List Element
 all_elements graph = flat_map (λ (elements : List Element). elements) graph.networks
-
--- The warnings of a drawing: those of all its elements, in the order of their evaluation, each once; told by line and
--- then column.
-pub record AreWarnings (graph : GraphValue) (warnings : List Warning) : Type 0 where
-  pub all : IsPermutation (found graph.first_line (all_elements graph)) warnings
-  pub sorted : IsSortedBy is_told_before warnings

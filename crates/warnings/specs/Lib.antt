@@ -1,8 +1,11 @@
 pub mod Near
 pub mod Found
+pub mod Presets
 pub mod NeverRead
+pub mod OfDrawing
 pub mod OfText
 pub mod Unbound
+pub mod Far
 pub mod OfPlant
 pub mod Sentences
 pub mod Steps

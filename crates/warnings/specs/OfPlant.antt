@@ -12,6 +12,7 @@ use Rattle.warnings.specs.declared.warning.Warning.{Warning}
 use Rattle.warnings.specs.NeverRead.{AreProgramWarnings}
 use Rattle.warnings.specs.OfText.{AreNetworksOf, HasNoNetworks}
 use Rattle.warnings.specs.Unbound.{names_in, all_unbound}
+use Rattle.warnings.specs.Far.{address_in, all_far}
 
 -- the number of the first line of a program's drawing, from 1 to the greatest on which a drawing may begin
 abbrev pub drawing_line : TextValue → ℕ
@@ -45,6 +46,7 @@ AreBodiesWarned (t ∷ texts) warnings =
 pub record AreWarningsOfTree (texts : List TextValue) (resources : List Resource) (told : PlantWarnings) : Type 0 where
   pub bodies : AreBodiesWarned texts told.bodies.items
   pub unbound : map names_in told.unbound.items ≡ all_unbound texts resources
+  pub far : map address_in told.far.items ≡ all_far resources
 
 -- the words of a text
 abbrev pub tokens_of : List WordValue → List Token

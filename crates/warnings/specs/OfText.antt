@@ -8,7 +8,7 @@ use Rattle.drawings.specs.Picture.{Picture}
 use Rattle.network.specs.GraphValue.{GraphValue}
 use Rattle.network.specs.Networks.{AreNetworks, HasFaultlessNetworks}
 use Rattle.warnings.specs.declared.warning.Warning.{Warning}
-use Rattle.warnings.specs.Found.{AreWarnings}
+use Rattle.warnings.specs.OfDrawing.{AreWarnings}
 
 -- what is drawn in a text that begins on this line
 abbrev pub drawn_in : ℕ → List ℕ → Picture
@@ -24,6 +24,6 @@ pub record AreNetworksOf (first_line : ℕ) (text : List ℕ) (graph : GraphValu
 abbrev pub HasNoNetworks : ℕ → List ℕ → Type 0
 HasNoNetworks first_line text = IsIllDrawn (rows_of text) ⊎ (HasFaultlessNetworks (drawn_in first_line text) → ⊥)
 
--- a text is a drawing with networks, and these are its warnings
-abbrev pub AreWarningsOf : List ℕ → List Warning → Type 0
-AreWarningsOf text warnings = (graph : GraphValue) × AreNetworksOf 1 text graph × AreWarnings graph warnings
+-- a text is a drawing with networks, and these are its warnings with this time between scans
+abbrev pub AreWarningsOf : ℕ → List ℕ → List Warning → Type 0
+AreWarningsOf dt text warnings = (graph : GraphValue) × AreNetworksOf 1 text graph × AreWarnings dt graph warnings

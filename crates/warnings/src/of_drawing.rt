@@ -3,12 +3,14 @@
 ghost use Rattle.std.specs.Prelude.{◌≡◌, IfOk, OnOk, map};
 ghost use Rattle.std.specs.List.Sorted.{IsPermutation, IsSortedBy};
 ghost use Rattle.warnings.specs.NeverRead.{found_in_a_program, AreProgramWarnings};
-ghost use Rattle.warnings.specs.Found.{found, is_told_before, AreWarnings};
+ghost use Rattle.warnings.specs.Found.{is_told_before};
+ghost use Rattle.warnings.specs.OfDrawing.{found, AreWarnings};
 
 use crate::elements::elements_of;
 use crate::mistyped::mistyped;
 use crate::never_read::never_read;
 use crate::overwritten::doubles;
+use crate::presets::presets;
 use crate::warning::Warning;
 use declared_names::Declarations;
 use network::{Element, Graph};
@@ -39,22 +41,34 @@ fn found_in_a_program(
 }
 
 /// All that is warned of, kind after kind.
-fn found(alloc: Global, first_line: u64, elements: &[&Element]) -> Result<Vec<Warning>, AllocError>
-    ensures { IfOk result (λ found_here. found_here.items ≡ found first_line (map (λ e. e.now) elements.now)) }
+fn found(
+    alloc: Global,
+    dt: u32,
+    first_line: u64,
+    elements: &[&Element],
+) -> Result<Vec<Warning>, AllocError>
+    ensures { IfOk result (λ found_here. found_here.items ≡ found dt first_line (map (λ e. e.now) elements.now)) }
 {
     let mut warnings = doubles(alloc, first_line, elements)?;
     let mut more = mistyped(alloc, first_line, elements)?;
+    let mut last = presets(alloc, dt, first_line, elements)?;
     warnings.append(&mut more)?;
+    warnings.append(&mut last)?;
     Ok(warnings)
 }
 
-/// What is warned of in a drawing, by line and then column: each coil that a later one overwrites in the same scan, and
-/// each contact with a name that is most likely mistyped.
-pub fn warnings_of_a_drawing(alloc: Global, graph: &Graph) -> Result<Vec<Warning>, AllocError>
-    ensures { IfOk result (λ warnings. AreWarnings graph.now warnings.items) }
+/// What is warned of in a drawing, by line and then column: each coil that a later one overwrites in the same scan, each
+/// contact with a name that is most likely mistyped, and, with `dt` milliseconds from each scan to the next, each duration of
+/// a timer that ends between two scans; none of these where `dt` is 0.
+pub fn warnings_of_a_drawing(
+    alloc: Global,
+    dt: u32,
+    graph: &Graph,
+) -> Result<Vec<Warning>, AllocError>
+    ensures { IfOk result (λ warnings. AreWarnings dt graph.now warnings.items) }
 {
     let elements = elements_of(alloc, graph)?;
-    let mut warnings = found(alloc, graph.first_line(), &elements)?;
+    let mut warnings = found(alloc, dt, graph.first_line(), &elements)?;
     sort_warnings(&mut warnings)?;
     Ok(warnings)
 }

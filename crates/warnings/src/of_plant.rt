@@ -3,6 +3,7 @@
 ghost use Rattle.std.specs.Prelude.{IfOk, MatchOption};
 ghost use Rattle.warnings.specs.OfPlant.{HasNoDrawing, HasNoDrawingIn, IsBodyWarned, AreBodiesWarned, AreWarningsOfTree, AreWarningsOfPlant, IsNoPlant};
 
+use crate::far_address::{FarAddress, far_addresses};
 use crate::of_drawing::warnings_of_a_program;
 use crate::of_text::networks_of;
 use crate::unbound::{UnboundInput, unbound_inputs};
@@ -19,6 +20,7 @@ const LAST_LINE: u64 = 9_223_372_036_854_775_807;
 pub struct PlantWarnings {
     pub bodies: Vec<Warning>,
     pub unbound: Vec<UnboundInput>,
+    pub far: Vec<FarAddress>,
 }
 
 /// The warnings of a program's drawing. `None`: it is no drawing, or one whose networks have a fault.
@@ -59,15 +61,21 @@ fn tree_warnings(
     ensures { IfOk result (λ told. MatchOption told (HasNoDrawingIn texts.items) (AreWarningsOfTree texts.items resources.now)) }
 {
     let unbound = unbound_inputs(alloc, &texts, resources)?;
+    let far = far_addresses(alloc, resources)?;
     match bodies_warnings(alloc, texts)? {
-        Some(bodies) => Ok(Some(PlantWarnings { bodies, unbound })),
+        Some(bodies) => Ok(Some(PlantWarnings {
+            bodies,
+            unbound,
+            far,
+        })),
         None => Ok(None),
     }
 }
 
 /// What is warned of in a plant's text: in the drawing of each program, by line and then column, each coil that a later one
-/// overwrites in the same evaluation and each place where a local variable is stored into that nothing reads; and each input
-/// that an instance doesn't bind. `None`: the text isn't as the grammar of plants has it, or a program's drawing is refused.
+/// overwrites in the same evaluation and each place where a local variable is stored into that nothing reads; each input
+/// that an instance doesn't bind; and each that reads an address far from all others that its resource reads. `None`: the text
+/// isn't as the grammar of plants has it, or a program's drawing is refused.
 pub fn warnings_of_a_plant(alloc: Global, text: &str) -> Result<Option<PlantWarnings>, AllocError>
     ensures { IfOk result (λ told. MatchOption told (IsNoPlant text.now) (AreWarningsOfPlant text.now)) }
 {

@@ -37,13 +37,17 @@ pub(crate) fn networks_of(
     }
 }
 
-/// What is warned of in a text that is a drawing, by line and then column. `None`: it is no drawing, or one whose networks
-/// have a fault.
-pub fn warnings_of_a_text(alloc: Global, text: &str) -> Result<Option<Vec<Warning>>, AllocError>
-    ensures { IfOk result (λ told. MatchOption told (HasNoNetworks 1 text.now) (λ warnings. AreWarningsOf text.now warnings.items)) }
+/// What is warned of in a text that is a drawing, by line and then column, with `dt` milliseconds from each scan to the next, or
+/// 0 where none are given. `None`: it is no drawing, or one whose networks have a fault.
+pub fn warnings_of_a_text(
+    alloc: Global,
+    dt: u32,
+    text: &str,
+) -> Result<Option<Vec<Warning>>, AllocError>
+    ensures { IfOk result (λ told. MatchOption told (HasNoNetworks 1 text.now) (λ warnings. AreWarningsOf dt text.now warnings.items)) }
 {
     match networks_of(alloc, text, 1)? {
-        Some(graph) => Ok(Some(warnings_of_a_drawing(alloc, &graph)?)),
+        Some(graph) => Ok(Some(warnings_of_a_drawing(alloc, dt, &graph)?)),
         None => Ok(None),
     }
 }

@@ -14,6 +14,8 @@ pub enum WarningKind {
     MistypedContact,
     /// A coil or an output pin on a variable of a program that nothing reads, and that isn't an output.
     NeverRead,
+    /// A duration at PT of a timer that is no multiple of the time between scans.
+    PresetBetweenScans,
 }
 
 impl WarningKind {
@@ -28,6 +30,8 @@ impl WarningKind {
                 "Nothing stores into this variable, and another name is nearly the same. Where that one is meant, write it alike; a variable of its own has a name that differs by more than a letter.",
             WarningKind::NeverRead =>
                 "Nothing reads this variable, and it is no output. Read it, declare it as VAR_OUTPUT, or leave it out.",
+            WarningKind::PresetBetweenScans =>
+                "PT isn't a multiple of --dt, so that this timer is done later, at the next scan. Choose a --dt that divides PT.",
         }
     }
 }

@@ -359,7 +359,7 @@ def verify_drawing(write, files, paths, options, more):
             write(line)
     if told := premises(question):
         write("given " + ", ".join(told))
-    warnings = warnings_of(question.ladder.drawing, question.ladder.networks)
+    warnings = warnings_of(question.ladder.drawing, question.ladder.networks, question.elapsed)
     end_with_warnings(paths[0], warnings, options, CLAIM_FAILS if found.runs else UNDECIDED if found.depth is not None else 0)
 
 

@@ -42,13 +42,14 @@ class Given:
 
 @dataclass(eq=False)
 class Program:
-    """An instance of a program type, with its bound inputs in their order."""
+    """An instance of a program type, with its bound inputs in their order, and the line of each."""
 
     name: str
     type: ProgramType
     task: "Task"
     binds: list = field(default_factory=list)
     line: int = 0
+    lines: list = field(default_factory=list)
 
 
 @dataclass(eq=False)

@@ -187,6 +187,7 @@ class PlantText:
             raise Refusal("TooMany", line)
         self.expect(":=")
         program.binds.append((declared, self.source(declared.kind)))
+        program.lines.append(line)
 
     def source(self, kind):
         word, line = self.words.take()

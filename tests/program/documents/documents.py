@@ -28,8 +28,8 @@ KINDS = {
     "in a plant": "Syntax Drawing Graph Bind NameTwice UnknownName WrongKind InputBoundTwice TooMany",
     "in the plan of a plant": "TooLong",
     "in a schedule": "Syntax",
-    "as a warning of a drawing": "DoubleCoil MistypedContact",
-    "as a warning of a plant": "NeverRead UnboundInput",
+    "as a warning of a drawing": "DoubleCoil MistypedContact PresetBetweenScans",
+    "as a warning of a plant": "NeverRead UnboundInput FarAddress",
 }
 CONFIGURATION = """
 CONFIGURATION C
@@ -39,12 +39,18 @@ PROGRAM I WITH K : P;
 END_RESOURCE
 END_CONFIGURATION
 """
-# A program type and a task for the examples that are parts of a plant.
-COUNT = """PROGRAM COUNT
+# Program types and a task for the examples that are parts of a plant.
+TYPES = """PROGRAM COUNT
 VAR_INPUT UP : BOOL; END_VAR
 VAR_OUTPUT Y : BOOL; END_VAR
 |  UP     Y
 +--| |---( )
+END_PROGRAM
+PROGRAM PUMP
+VAR_INPUT START, STOP, FULL : BOOL; END_VAR
+VAR_OUTPUT Y : BOOL; END_VAR
+|  START    STOP    FULL     Y
++--| |------|/|------|/|----( )
 END_PROGRAM
 """
 TASK = "RESOURCE R1 ON NODE\nTASK FAST(INTERVAL := T#10ms, PRIORITY := 1);\n"
@@ -118,6 +124,11 @@ def without_indent(lines):
     return "\n".join(line[2:] for line in lines.split("\n"))
 
 
+def is_in_words(part):
+    """Whether an example is told in words, in parentheses, and not written."""
+    return part.startswith("(") and not part.startswith("(*")
+
+
 def try_kind(where, kind, place):
     explained = run(f"./plc explain {kind}", place).stdout
     heading = "Warned of" if "warning" in where else "Refused"
@@ -129,10 +140,10 @@ def try_kind(where, kind, place):
         told.append(f"{kind} {where}: " + ("no such heading in the guide" if found else "plc explain doesn't tell it"))
         return
     for part in (found[1], without_indent(found[2]), without_indent(found[3])):
-        part = part[1:-1] if part.startswith("(") else part
+        part = part[1:-1] if is_in_words(part) else part
         if f"\n{part}\n" not in guide and f"{part}." not in guide:
             told.append(f"{kind} {where}: docs/{name} doesn't say: {part}")
-    if not found[2].startswith("  ("):
+    if not is_in_words(without_indent(found[2])):
         try_example(where, kind, without_indent(found[2]), place, 1)
         try_example(where, kind, without_indent(found[3]), place, 0)
 
@@ -140,9 +151,9 @@ def try_kind(where, kind, place):
 def whole_of(text):
     """The plant that an example is part of; a drawing or a schedule as it is."""
     if text.startswith("RESOURCE"):
-        return f"{COUNT}CONFIGURATION C\n{text}\nEND_CONFIGURATION\n"
+        return f"{TYPES}CONFIGURATION C\n{text}\nEND_CONFIGURATION\n"
     if text.startswith("PROGRAM") and " WITH " in text:
-        return f"{COUNT}CONFIGURATION C\n{TASK}{text}\nEND_RESOURCE\nEND_CONFIGURATION\n"
+        return f"{TYPES}CONFIGURATION C\n{TASK}{text}\nEND_RESOURCE\nEND_CONFIGURATION\n"
     if text.startswith("PROGRAM"):
         body = "" if "END_PROGRAM" in text else "\n+-\nEND_PROGRAM"
         return text + body + CONFIGURATION
@@ -155,6 +166,8 @@ def try_example(where, kind, text, place, status):
     with open(os.path.join(place, "example"), "w", encoding="utf-8") as file:
         file.write(whole)
     command = "check example" if whole != text else "sim examples/pair.plant example" if "schedule" in where else "eval example"
+    step = re.match(r"\(\* plc verify (--dt \d+) \*\)", text)
+    command = f"verify example {step[1]} --never Y GO=0" if step else command
     command += " --strict >/dev/null" if "warning" in where else ""
     ran = run(f"./plc {command}", place)
     first = ran.stdout.partition("\n")[0]
