@@ -3,6 +3,6 @@ pub mod Ending
 pub mod LinesEnding
 pub mod LineSteps
 pub mod Incarnations
-pub mod Finding
-pub mod Answering
+pub mod Outputs
+pub mod Words
 pub mod Untested

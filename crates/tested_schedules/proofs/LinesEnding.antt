@@ -23,7 +23,7 @@ use Rattle.world.proofs.LinesRead.{fed, fed_more, whole_more, lines_with, lines_
 use Rattle.world.proofs.LiveEnding.{words_of_each}
 use Rattle.tested_schedules.specs.declared.tested.Tested.{Tested}
 use Rattle.tested_schedules.specs.Tested.{StopsAt}
-use Rattle.tested_schedules.specs.TestedText.{tested_text}
+use Rattle.tested_schedules.specs.TestedText.{of_event, tested_text}
 use Rattle.tested_schedules.specs.TestedLines.{EndsTestedLines, HasAnswered, HasTestedLines, StopsWithin, WritesBeginningOf, WritesFirstOf, WritesTested}
 use Rattle.tested_schedules.specs.Steps.Lines.{HasDoneNext, HasGoneOn, HasStoppedNext}
 use Rattle.tested_schedules.specs.Steps.Testing.{HasBroken, HasDone, TestState}
@@ -80,7 +80,7 @@ last_line text lines line last e is =
 
 -- a line without words was done
 blank_done : (t : TestState) (now : Option (List ℕ)) → HasDone t t [] now now
-blank_done t now = record { piece = inl []; made = (refl, inl (refl, refl, refl)); written = Appends-nil now }
+blank_done t now = record { piece = of_event []; made = (refl, inl (refl, refl, refl)); written = Appends-nil now }
 
 -- where it stands after whole lines alone: a text without a line is one blank line
 whole_stands : (s : Setting) (lines : List (List ℕ)) (t : TestState) (old now : Option (List ℕ)) → AllByRecursion HasNoFeed lines → Standing s (map line_words lines) t old now → Standing s (schedule_lines (fed lines)) t old now

@@ -17,7 +17,7 @@ use Rattle.world.specs.Steps.Simulating.{HasDone as HasDoneLine}
 use Rattle.world.proofs.Simulating.{Stands, stands_first, stands_next}
 use Rattle.tested_schedules.specs.declared.answer.Answer.{Answer}
 use Rattle.tested_schedules.specs.Expectations.{IsAnswer, expected_words, is_expectation}
-use Rattle.tested_schedules.specs.TestedText.{AreAnswers, ArePieces, IsRunOf, Piece, are_unmet, event_lines, events_text, has_unmet, piece_text, tested_text}
+use Rattle.tested_schedules.specs.TestedText.{AreAnswers, ArePieces, IsRunOf, Piece, are_unmet, event_lines, events_text, has_unmet, of_answers, of_event, piece_text, tested_text}
 use Rattle.tested_schedules.specs.Steps.Testing.{HasAnswers, HasDone, HasDoneEvent, HasMade, TestState}
 
 -- where it stands after lines, the newest first, for which these pieces were made
@@ -75,18 +75,18 @@ answers_of s earlier line answers w n old now a h = record {
 -- one more line
 pub made_next : (s : Setting) (earlier : List (List (List ℕ))) (old new : TestState) (words : List (List ℕ)) (pieces : List Piece) (piece : Piece) → StandsSo s earlier old pieces → HasMade old new words piece
     → StandsSo s (words ∷ earlier) new (piece ∷ pieces)
-made_next s earlier old new words pieces (inl text) a h =
+made_next s earlier old new words pieces (of_event text) a h =
     let before = events_text pieces in
     let next = stands_next s (event_lines earlier) old.world new.world old.events new.events words (Some []) (Some before) (Some (before ++ text)) a.stands (line_done old new words text before h.1) in
     let stands : Stands s (event_lines (words ∷ earlier)) new.world new.events (Some []) (Some (before ++ text)) =
     subst (λ L. Stands s L new.world new.events (Some []) (Some (before ++ text))) (sym (one_event words earlier h.0)) next in
     record {
-      told = (a.told, (h.0, run_of s (words ∷ earlier) (inl text ∷ pieces) new.world new.events stands));
+      told = (a.told, (h.0, run_of s (words ∷ earlier) (of_event text ∷ pieces) new.world new.events stands));
       unmet = unmet_kept old new words text h.1 ∙ a.unmet;
       few = few_more old new words text (length earlier) h.1 a.few;
       stands = stands;
     }
-made_next s earlier old new words pieces (inr answers) a h =
+made_next s earlier old new words pieces (of_answers answers) a h =
     let before = Some (events_text pieces) in
     let lines : Stands s (event_lines (words ∷ earlier)) old.world old.events (Some []) before =
     subst (λ L. Stands s L old.world old.events (Some []) before) (sym (no_event words earlier h.0)) a.stands in

@@ -1,5 +1,5 @@
 -- A schedule without EXPECT lines.
-use Rattle.std.proofs.Common.{◌≡◌, inl, inr, ℕ, ◌-◌, ◌<◌, Bool, true, false, List, [], ◌∷◌, ◌++◌, get_or, length, refl, sym, ap, ◌∙◌, subst, arith}
+use Rattle.std.proofs.Common.{◌≡◌, ℕ, ◌-◌, ◌<◌, Bool, true, false, List, [], ◌∷◌, ◌++◌, get_or, length, refl, sym, ap, ◌∙◌, subst, arith}
 use Rattle.std.specs.Prelude.{All, if◌then◌else◌, reverse}
 use Rattle.std.specs.List.{AllByRecursion}
 use Rattle.std.proofs.lemmas.Grind.{reverse_onto}
@@ -10,7 +10,7 @@ use Rattle.world.specs.History.{Setting}
 use Rattle.world.specs.RunText.{IsRunText}
 use Rattle.world.specs.ScheduleText.{Spell}
 use Rattle.tested_schedules.specs.Expectations.{is_expectation}
-use Rattle.tested_schedules.specs.TestedText.{ArePieces, IsRunOf, IsTested, Piece, event_lines, events_text, has_unmet, tested_text}
+use Rattle.tested_schedules.specs.TestedText.{ArePieces, IsRunOf, IsTested, Piece, event_lines, events_text, has_unmet, of_answers, of_event, tested_text}
 use Rattle.tested_schedules.specs.Untested.{IsRunOfLines, UntestedRuns}
 
 -- a line is no EXPECT line
@@ -34,7 +34,7 @@ events_all s [] [] none told =
     record { lines = refl; text = refl; met = refl; run = record { events = []; spelled = tt; told = record { lines = []; many = refl; each = λ k e line at told. absurd cc; text_is = refl } } }
 events_all s [] (piece ∷ before) none told = absurd told
 events_all s (line ∷ earlier) [] none told = absurd told
-events_all s (line ∷ earlier) (inl text ∷ before) none told =
+events_all s (line ∷ earlier) (of_event text ∷ before) none told =
     let rest = events_all s earlier before none.1 told.0 in
     record {
       lines =
@@ -44,7 +44,7 @@ events_all s (line ∷ earlier) (inl text ∷ before) none told =
       met = rest.met;
       run = told.1.1;
     }
-events_all s (line ∷ earlier) (inr answers ∷ before) none told = let both : true ≡ false = sym told.1.0 ∙ none.0 in absurd cc
+events_all s (line ∷ earlier) (of_answers answers ∷ before) none told = let both : true ≡ false = sym told.1.0 ∙ none.0 in absurd cc
 
 -- without EXPECT lines the text is that of a run
 pub untested : UntestedRuns

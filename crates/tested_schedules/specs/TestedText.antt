@@ -1,5 +1,5 @@
 -- The text of a schedule with EXPECT lines. Lines and what is written for them stand newest first, as in a history.
-use Rattle.std.specs.Prelude.{◌≡◌, ◌≢◌, ℕ, ◌++◌, ◌||◌, ◌⊎◌, if◌then◌else◌, Bool, true, false, not, List, [], ◌∷◌, reverse}
+use Rattle.std.specs.Prelude.{◌≡◌, ◌≢◌, ℕ, ◌++◌, ◌||◌, if◌then◌else◌, Bool, true, false, not, List, [], ◌∷◌, reverse}
 use Rattle.std.specs.List.{AllZip, flat_map, list_any}
 use Rattle.plant.specs.PlantValue.{PlantValue}
 use Rattle.evaluation.specs.Meaning.{Evaluated}
@@ -13,13 +13,14 @@ use Rattle.tested_schedules.specs.Expectations.{IsAnswer, answer_line, expected_
 
 -- what is written for a line: the text of an event, which is empty for a blank line or a comment, or the answers to an
 -- EXPECT line
-abbrev pub Piece : Type 0
-Piece = List ℕ ⊎ List Answer
+pub data Piece : Type 0 where
+  of_event : List ℕ → Piece
+  of_answers : List Answer → Piece
 
 -- its text: a line for each answer
 abbrev pub piece_text : PlantValue → Piece → List ℕ
-piece_text plant (inl text) = text
-piece_text plant (inr answers) = flat_map (answer_line plant) answers
+piece_text plant (of_event text) = text
+piece_text plant (of_answers answers) = flat_map (answer_line plant) answers
 
 -- some of these answers is unmet
 abbrev pub are_unmet : List Answer → Bool
@@ -33,14 +34,14 @@ tested_text plant (piece ∷ before) = tested_text plant before ++ piece_text pl
 -- the text of the events alone
 abbrev pub events_text : List Piece → List ℕ
 events_text [] = []
-events_text (inl text ∷ before) = events_text before ++ text
-events_text (inr answers ∷ before) = events_text before
+events_text (of_event text ∷ before) = events_text before ++ text
+events_text (of_answers answers ∷ before) = events_text before
 
 -- some expectation was unmet
 abbrev pub has_unmet : List Piece → Bool
 has_unmet [] = false
-has_unmet (inl text ∷ before) = has_unmet before
-has_unmet (inr answers ∷ before) = has_unmet before || are_unmet answers
+has_unmet (of_event text ∷ before) = has_unmet before
+has_unmet (of_answers answers ∷ before) = has_unmet before || are_unmet answers
 
 -- the lines that are no EXPECT lines, in their order
 abbrev pub event_lines : List (List (List ℕ)) → List (List (List ℕ))
@@ -66,8 +67,8 @@ pub record AreAnswers (s : Setting) (earlier : List (List (List ℕ))) (line : L
 
 -- what is written for a line behind those before it
 abbrev pub IsPiece : Setting → List (List (List ℕ)) → List Piece → List (List ℕ) → Piece → Type 0
-IsPiece s earlier before line (inl text) = (is_expectation line ≡ false) × IsRunOf s (line ∷ earlier) (inl text ∷ before)
-IsPiece s earlier before line (inr answers) = (is_expectation line ≡ true) × AreAnswers s earlier line answers
+IsPiece s earlier before line (of_event text) = (is_expectation line ≡ false) × IsRunOf s (line ∷ earlier) (of_event text ∷ before)
+IsPiece s earlier before line (of_answers answers) = (is_expectation line ≡ true) × AreAnswers s earlier line answers
 
 -- what is written for these lines, piece by piece
 abbrev pub ArePieces : Setting → List (List (List ℕ)) → List Piece → Type 0

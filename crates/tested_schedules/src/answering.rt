@@ -1,6 +1,6 @@
 //! What expectations find.
 
-ghost use Rattle.std.specs.Prelude.{◌≡◌, ◌≢◌, ◌==◌, ◌&&◌, IfErr, IfOk, reverse};
+ghost use Rattle.std.specs.Prelude.{◌≡◌, ◌≢◌, ◌==◌, ◌&&◌, IfErr, IfOk, reverse, slice_get};
 ghost use Rattle.std.specs.Option.{option_copied};
 ghost use Rattle.evaluation.specs.Last.{same_task};
 ghost use Rattle.world.specs.Step.{history_at};
@@ -39,19 +39,20 @@ fn last_of(log: &[Frame], task: TaskRef, incarnation: u32) -> Option<&Frame>
         .find(|frame| is_of(frame, task, incarnation))
 }
 
+/// What an evaluation gave to an output.
+fn given_by(frame: &Frame, place: usize) -> Option<Value>
+    ensures { result ≡ slice_get frame.now.outputs place }
+{
+    frame.evaluation().outputs().values().get(place).copied()
+}
+
 /// What an output is: what its task's last evaluation in the present incarnation gave, else its initial value.
 fn value_of(log: &[Frame], expectation: Expectation, incarnation: u32) -> Value
     ensures { result ≡ found_in incarnation (reverse log.now) expectation }
 {
     let initial = first_value(kind_of(expectation.value));
     match last_of(log, expectation.task, incarnation) {
-        Some(frame) => frame
-            .evaluation()
-            .outputs()
-            .values()
-            .get(expectation.place)
-            .copied()
-            .unwrap_or(initial),
+        Some(frame) => given_by(frame, expectation.place).unwrap_or(initial),
         None => initial,
     }
 }
@@ -97,7 +98,10 @@ pub fn answer_words(
     }
     let mut answers = Vec::new(alloc);
     for word in words {
-        answers.push(answer_word(alloc, world, incarnations, word)?)?;
+        let answer = answer_word(alloc, world, incarnations, word)?;
+        if answers.push(answer).is_err() {
+            return Err(LineFault::Memory);
+        }
     }
     Ok(answers)
 }

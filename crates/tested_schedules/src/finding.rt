@@ -1,6 +1,6 @@
 //! The expectation that a word spells.
 
-ghost use Rattle.std.specs.Prelude.{◌≡◌, ◌<◌, ℕ, Some, IfNone, IfOk, IfSome, length};
+ghost use Rattle.std.specs.Prelude.{◌≡◌, ◌<◌, ℕ, List, Some, IfNone, IfOk, IfSome, length};
 ghost use Rattle.std_blocks.specs.declared.value.Value.{Value as OutputValue};
 ghost use Rattle.evaluation.specs.InputTexts.{sign_of};
 ghost use Rattle.plant.specs.Find.{Finds};
@@ -26,11 +26,21 @@ struct Parts<'a> {
     value: &'a [u8],
 }
 
+/// Where the first `=` stands.
+fn sign_in(word: &[u8]) -> Option<usize>
+    ensures value { result ≡ sign_of word.now }
+    ensures bound { IfSome result (λ i. i < length word.now) }
+{
+    word.iter().position(|c| *c == b'=')
+}
+
 /// The parts of a word. `None`: it has no `=`.
 fn parts_of(word: &[u8]) -> Option<Parts<'_>>
     ensures { IsParted word.entry.now result }
 {
-    let sign = word.iter().position(|c| *c == b'=')?;
+    let Some(sign) = sign_in(word) else {
+        return None;
+    };
     Some(Parts {
         name: &word[..sign],
         value: &word[sign + 1..],
@@ -53,7 +63,7 @@ fn value_at(
     task: TaskRef,
     place: usize,
 ) -> Result<Option<Value>, AllocError>
-    ensures { IfOk result (λ value. value ≡ expected_at plant.now parts.name.now parts.value.now task place) }
+    ensures { IfOk result (λ value. value ≡ expected_at plant.now parts.entry.name.now parts.entry.value.now task place) }
 {
     let Some(kind) = kind_at(plant, task, place) else {
         return Ok(None);
@@ -86,7 +96,7 @@ fn find_in_task(
     task: TaskRef,
 ) -> Result<Option<(usize, Value)>, AllocError>
     ensures { IfOk result (Finds (λ (f : ℕ × OutputValue).
-        expected_at plant.now parts.name.now parts.value.now task f.0 ≡ Some f.1)) }
+        expected_at plant.now parts.entry.name.now parts.entry.value.now task f.0 ≡ Some f.1)) }
 {
     for place in 0..outputs_of(plant, task) {
         if let Some(value) = value_at(alloc, plant, parts, task, place)? {
@@ -104,9 +114,9 @@ fn find_in_resource(
     resource: usize,
 ) -> Result<Option<Expectation>, AllocError>
     requires sound { IsSoundPlant plant.now }
-    ensures some { IfOk result (λ found. IfSome found (IsExpectedOf plant.now parts.name.now parts.value.now)) }
+    ensures some { IfOk result (λ found. IfSome found (IsExpectedOf plant.now parts.entry.name.now parts.entry.value.now)) }
     ensures none { IfOk result (λ found. IfNone found ((x : Expected) → x.task.resource ≡ resource
-        → IsExpectedOf plant.now parts.name.now parts.value.now x → ⊥)) }
+        → IsExpectedOf plant.now parts.entry.name.now parts.entry.value.now x → ⊥)) }
 {
     for task in 0..plant.tasks(resource).len() {
         let task = TaskRef { resource, task };

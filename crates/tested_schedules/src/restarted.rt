@@ -1,6 +1,6 @@
 //! The present incarnations of resources.
 
-ghost use Rattle.std.specs.Prelude.{◌≡◌, IfOk, OnOk, replicate};
+ghost use Rattle.std.specs.Prelude.{◌≡◌, IfOk, replicate, slice_set};
 ghost use Rattle.world.specs.Step.{IsStep};
 ghost use Rattle.world.specs.World.{WorldValue};
 ghost use Rattle.tested_schedules.specs.Steps.Testing.{AreIncarnations};
@@ -15,18 +15,29 @@ pub fn first_incarnations(alloc: Global, resources: usize) -> Result<Vec<u32>, A
     vec![in alloc; 1u32; resources]
 }
 
+/// Notes the incarnation of a resource, if there is one.
+fn set_incarnation(incarnations: &mut [u32], resource: usize, incarnation: u32)
+    ensures { incarnations.new ≡ slice_set incarnations.old resource incarnation }
+{
+    if resource < incarnations.len() {
+        incarnations[resource] = incarnation;
+    }
+}
+
 /// Notes what an event did to the incarnations.
 pub fn note_done(incarnations: &mut [u32], event: &Event, done: Done)
     ensures { (old new : WorldValue) → IsStep old new event.now done
         → AreIncarnations old incarnations.old → AreIncarnations new incarnations.new }
 {
-    let Event::Restart { resource } = event else {
-        return;
-    };
-    let Done::Restarted { incarnation } = done else {
-        return;
-    };
-    if *resource < incarnations.len() {
-        incarnations[*resource] = incarnation;
+    match event {
+        Event::Restart { resource } => match done {
+            Done::Restarted { incarnation } => set_incarnation(
+                incarnations,
+                *resource,
+                incarnation,
+            ),
+            _ => {}
+        },
+        _ => {}
     }
 }

@@ -1,6 +1,7 @@
 //! A schedule with EXPECT lines is done line by line.
 
-ghost use Rattle.std.specs.Prelude.{◌≡◌, ◌≢◌, ◌<◌, [], IfErr, IfOk, OnErr, OnOk, length, string_bytes};
+ghost use Rattle.std.specs.Prelude.{◌≡◌, ◌<◌, [], true, false, codes, IfErr, IfOk, OnOk, length, string_bytes};
+ghost use Rattle.words.specs.Chars.{same_word};
 ghost use Rattle.words.specs.Lines.{without_last};
 ghost use Rattle.evaluation.specs.InputTexts.{words_of};
 ghost use Rattle.world.specs.Simulated.{from_one};
@@ -26,13 +27,20 @@ use world::{
     read_event, without_last,
 };
 
+/// Whether it is the word that an EXPECT line begins with, in either case.
+fn is_keyword(word: &[u8]) -> bool
+    ensures { result ≡ same_word word.now (codes "EXPECT") }
+{
+    word.eq_ignore_ascii_case(b"EXPECT")
+}
+
 /// Whether these are the words of an EXPECT line.
 fn is_expectation(words: &[&[u8]]) -> bool
     ensures { result ≡ is_expectation (texts words.now) }
 {
     match words {
-        [first, ..] => first.eq_ignore_ascii_case(b"EXPECT"),
         [] => false,
+        [first, ..] => is_keyword(first),
     }
 }
 

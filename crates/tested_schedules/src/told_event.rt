@@ -116,24 +116,28 @@ pub fn push_done(
 ) -> Result<(), AllocError>
     ensures { OnOk result (GrowsBy line.old line.new (done_line plant.now log.now event.now done)) }
 {
-    match (event, done) {
-        (Event::Evaluate { .. }, Done::Evaluated { message }) => {
-            push_newest(line, plant, message, log.last())
-        }
-        (Event::Deliver { message, resource }, Done::Delivered { accepted }) => {
-            push_delivered(line, plant, *message, *resource, accepted)
-        }
-        (Event::Restart { resource }, Done::Restarted { incarnation }) => {
-            push_restarted(line, plant, *resource, incarnation)
-        }
-        (
-            Event::Hear {
-                resource,
-                of,
-                incarnation,
-            },
-            Done::Heard { newer },
-        ) => push_heard(line, plant, *resource, *of, *incarnation, newer),
-        _ => Ok(()),
+    match event {
+        Event::Evaluate { .. } => match done {
+            Done::Evaluated { message } => push_newest(line, plant, message, log.last()),
+            _ => Ok(()),
+        },
+        Event::Deliver { message, resource } => match done {
+            Done::Delivered { accepted } => {
+                push_delivered(line, plant, *message, *resource, accepted)
+            }
+            _ => Ok(()),
+        },
+        Event::Restart { resource } => match done {
+            Done::Restarted { incarnation } => push_restarted(line, plant, *resource, incarnation),
+            _ => Ok(()),
+        },
+        Event::Hear {
+            resource,
+            of,
+            incarnation,
+        } => match done {
+            Done::Heard { newer } => push_heard(line, plant, *resource, *of, *incarnation, newer),
+            _ => Ok(()),
+        },
     }
 }

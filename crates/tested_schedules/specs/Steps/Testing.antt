@@ -1,5 +1,5 @@
 -- Steps of the proofs: what one line does.
-use Rattle.std.specs.Prelude.{◌≡◌, ◌≢◌, ℕ, ◌+◌, ◌<◌, ◌||◌, ◌&&◌, ◌==◌, ◌⊎◌, Bool, true, false, List, [], Option, Some, length, reverse, slice_index, take}
+use Rattle.std.specs.Prelude.{◌≡◌, ◌≢◌, ℕ, ◌+◌, ◌<◌, ◌||◌, ◌⊎◌, Bool, true, false, List, [], Option, Some, length, reverse, slice_index, take}
 use Rattle.std.specs.List.{AllZip}
 use Rattle.std.specs.Io.KnownBytes.{Appends, Keeps}
 use Rattle.plant.specs.PlantValue.{PlantValue}
@@ -16,7 +16,7 @@ use Rattle.tested_schedules.specs.declared.answer.Answer.{Answer}
 use Rattle.tested_schedules.specs.declared.testing.Testing.{Testing}
 use Rattle.tested_schedules.specs.Expectations.{IsAnswer, expected_words, is_expectation}
 use Rattle.tested_schedules.specs.Tested.{IsNoLine}
-use Rattle.tested_schedules.specs.TestedText.{Piece, are_unmet, piece_text}
+use Rattle.tested_schedules.specs.TestedText.{Piece, are_unmet, of_answers, of_event, piece_text}
 
 -- the present incarnation of each resource
 pub record AreIncarnations (w : WorldValue) (incarnations : List ℕ) : Type 0 where
@@ -46,8 +46,8 @@ pub record HasAnswers (w : WorldValue) (words : List (List ℕ)) (answers : List
 
 -- what a line does, and what is written for it
 abbrev pub HasMade : TestState → TestState → List (List ℕ) → Piece → Type 0
-HasMade old new words (inl text) = (is_expectation words ≡ false) × HasDoneEvent old new words text
-HasMade old new words (inr answers) =
+HasMade old new words (of_event text) = (is_expectation words ≡ false) × HasDoneEvent old new words text
+HasMade old new words (of_answers answers) =
     (is_expectation words ≡ true) × HasAnswers old.world (expected_words words) answers
     × (new ≡ record old { unmet = old.unmet || are_unmet answers })
 

@@ -1,5 +1,5 @@
 use Rattle.std.proofs.Common.{ap, arith, length}
-use Rattle.tested_schedules.proofs.Finding.{none_of_resource}
+use Rattle.tested_schedules.proofs.Outputs.{none_of_resource}
 use Rattle.tested_schedules.proofs.finding.find_in_resource.Goals as goal
 
 pub returns-clause-none : goal.returns-clause-none
