@@ -1,5 +1,4 @@
-//! Schedules that test: the events of a plant done line by line, and between them EXPECT lines, which ask what its tasks
-//! gave last.
+//! Schedules done line by line: events, and EXPECT lines, which ask what tasks gave last.
 #![tactic(auto)]
 
 mod answer;
