@@ -81,12 +81,7 @@ fn push_part(text: &mut String, part: &str) -> Result<(), AllocError>
 }
 
 /// Writes what is told of a kind, if it has this name.
-fn push_topic(
-    text: &mut String,
-    alloc: Global,
-    topic: Topic,
-    kind: &str,
-) -> Result<(), AllocError>
+fn push_topic(text: &mut String, alloc: Global, topic: Topic, kind: &str) -> Result<(), AllocError>
     ensures { OnOk result (string_bytes text.new ≡ and_topic kind.now (string_bytes text.old) topic) }
 {
     if !is_called(topic.advice().kind, kind) {

@@ -61,14 +61,8 @@ impl Occasion {
 }
 
 pub const EVENTS: [(&str, &str); 6] = [
-    (
-        "NoSuchResource",
-        "The plant has no resource of that name.",
-    ),
-    (
-        "NoSuchTask",
-        "The resource has no task of that name.",
-    ),
+    ("NoSuchResource", "The plant has no resource of that name."),
+    ("NoSuchTask", "The resource has no task of that name."),
     (
         "NoSuchMessage",
         "Fewer evaluations were made so far, or the message is 0.",
@@ -135,10 +129,7 @@ pub const RUNS: [(&str, &str); 5] = [
         "Stranger",
         "An entry, or a restart, answers no command, an entry has heard of an incarnation that never was, or a fault is of no command that can have met it.",
     ),
-    (
-        "Doubled",
-        "In a journal the tickets don't rise.",
-    ),
+    ("Doubled", "In a journal the tickets don't rise."),
     (
         "Keeper",
         "What is kept couldn't be read or raised at the start: with --state, a file of the folder is Unreadable, Unwritable or Spent.",
@@ -181,18 +172,12 @@ pub const NODES: [(&str, &str); 11] = [
         "Twice",
         "Two words of the INPUT have one address. None of its words was taken.",
     ),
-    (
-        "NoSuchResource",
-        "The plant has no resource of that name.",
-    ),
+    ("NoSuchResource", "The plant has no resource of that name."),
     (
         "NotHere",
         "The resource is another one's node: give it the line.",
     ),
-    (
-        "NoSuchTask",
-        "The resource has no task of that name.",
-    ),
+    ("NoSuchTask", "The resource has no task of that name."),
     (
         "NumbersSpent",
         "The task has made 4294967295 evaluations in this incarnation. RESTART begins anew.",
