@@ -211,11 +211,11 @@ pub const AUDITS: [(&str, &str); 8] = [
     ),
     (
         "Differs",
-        "The message was taken otherwise than it was made: with other values, or another list of what its maker had heard. Something between the nodes changed or forged it.",
+        "The message was taken otherwise than it was made: with other values, or another list of what its maker had heard. Something between the nodes changed or forged it, or a journal was changed.",
     ),
     (
         "Unmade",
-        "The message was taken, and its maker, which went on to a later incarnation, never made it. Something between the nodes forged it.",
+        "The message was taken, and its maker, which went on to a later incarnation, never made it. Something between the nodes forged it, or a journal was changed or cut.",
     ),
     (
         "Waits",
