@@ -84,7 +84,7 @@ far_in space resource =
     flat_map (far_of_item space (numbers_of space resource.items.items) resource.name) resource.items.items
 
 -- those of a resource, bits before words
-abbrev pub far_of : Resource → List AddressNames
+unfoldable pub far_of : Resource → List AddressNames
 far_of resource = far_in Bit resource ++ far_in Word resource
 
 -- those of all resources

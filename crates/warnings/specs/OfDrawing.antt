@@ -8,7 +8,7 @@ use Rattle.warnings.specs.Found.{doubles, mistyped, all_elements, is_told_before
 use Rattle.warnings.specs.Presets.{presets}
 
 -- all that is warned of in these elements, with so many milliseconds from each scan to the next, or 0 where none are given
-abbrev pub found : ℕ → ℕ → List Element → List Warning
+unfoldable pub found : ℕ → ℕ → List Element → List Warning
 found dt first_line elements = doubles first_line elements ++ mistyped first_line elements ++ presets dt first_line elements
 
 -- The warnings of a drawing with this time between scans: those of all its elements, in the order of their evaluation, each

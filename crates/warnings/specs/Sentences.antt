@@ -35,10 +35,18 @@ space_text Word = codes "%IW"
 abbrev pub address_text : Address → List ℕ
 address_text a = space_text a.space ++ decimal a.number
 
+-- an instance, as `R.I`
+unfoldable pub instance_text : AddressNames → List ℕ
+instance_text names = names.resource ++ codes "." ++ names.instance
+
+-- which input reads which address
+unfoldable pub far_reading : AddressNames → List ℕ
+far_reading names =
+    instance_text names ++ codes " reads " ++ address_text names.address ++ codes " as its input " ++ names.input
+
 -- the same of an address far from all others
 abbrev pub far_sentence : AddressNames → List ℕ
 far_sentence names =
-    names.resource ++ codes "." ++ names.instance ++ codes " reads " ++ address_text names.address
-    ++ codes " as its input " ++ names.input ++ codes ", more than 63 away from each other "
-    ++ space_text names.address.space ++ codes " that " ++ names.resource
+    far_reading names ++ codes ", more than 63 away from each other " ++ space_text names.address.space
+    ++ codes " that " ++ names.resource
     ++ codes " reads, though two of these are closer together. Check its number."

@@ -44,21 +44,39 @@ fn address_text(alloc: Global, address: Address) -> Result<String, AllocError>
 
 impl FarAddress {
     ghost use Rattle.std.specs.Prelude.{string_bytes};
-    ghost use Rattle.warnings.specs.Sentences.{far_sentence};
+    ghost use Rattle.warnings.specs.Sentences.{far_reading, far_sentence, instance_text};
     ghost use Rattle.warnings.specs.Far.{address_in};
+
+    /// The instance, as `R.I`.
+    #[tactic(auto, unfolding(crate::specs::Sentences::instance_text))]
+    fn instance_text(&self, alloc: Global) -> Result<String, AllocError>
+        ensures { IfOk result (λ told. string_bytes told ≡ instance_text (address_in self.now)) }
+    {
+        let mut told = String::from_str(alloc, self.resource.as_str())?;
+        told.push_str(".")?;
+        told.push_str(self.instance.as_str())?;
+        Ok(told)
+    }
+
+    /// Which input reads which address.
+    #[tactic(auto, unfolding(crate::specs::Sentences::far_reading))]
+    fn reading(&self, alloc: Global) -> Result<String, AllocError>
+        ensures { IfOk result (λ told. string_bytes told ≡ far_reading (address_in self.now)) }
+    {
+        let address = address_text(alloc, self.address)?;
+        let mut told = self.instance_text(alloc)?;
+        told.push_str(" reads ")?;
+        told.push_str(address.as_str())?;
+        told.push_str(" as its input ")?;
+        told.push_str(self.input.as_str())?;
+        Ok(told)
+    }
 
     /// What is most likely not meant, and what to do instead.
     pub fn sentence(&self, alloc: Global) -> Result<String, AllocError>
         ensures { IfOk result (λ told. string_bytes told ≡ far_sentence (address_in self.now)) }
     {
-        let address = address_text(alloc, self.address)?;
-        let mut told = String::from_str(alloc, self.resource.as_str())?;
-        told.push_str(".")?;
-        told.push_str(self.instance.as_str())?;
-        told.push_str(" reads ")?;
-        told.push_str(address.as_str())?;
-        told.push_str(" as its input ")?;
-        told.push_str(self.input.as_str())?;
+        let mut told = self.reading(alloc)?;
         told.push_str(", more than 63 away from each other ")?;
         told.push_str(space_text(self.address.space))?;
         told.push_str(" that ")?;
@@ -162,6 +180,7 @@ fn push_far_in(
 }
 
 /// Adds those of both spaces.
+#[tactic(auto, unfolding(crate::specs::Far::far_of))]
 fn push_far_of(found: &mut Vec<FarAddress>, resource: &Resource) -> Result<(), AllocError>
     ensures { OnOk result (map address_in found.new.items ≡ map address_in found.old.items ++ far_of resource.now) }
 {

@@ -41,6 +41,7 @@ fn found_in_a_program(
 }
 
 /// All that is warned of, kind after kind.
+#[tactic(auto, unfolding(crate::specs::OfDrawing::found))]
 fn found(
     alloc: Global,
     dt: u32,
