@@ -1,8 +1,0 @@
-pub mod Standing
-pub mod Ending
-pub mod LinesEnding
-pub mod LineSteps
-pub mod Incarnations
-pub mod Outputs
-pub mod Words
-pub mod Untested
