@@ -58,7 +58,7 @@ told_partly last raises tells keepers plant until inputs old new report found r 
     kept_fault (command_fault (sending_fault found)) (ExplainsRun last raises tells keepers plant until inputs old new) r given (told_of last raises tells keepers plant until inputs old new report found is part)
 
 -- what the threads answered is a report of the commands for the plan
-pub report_of : {K : Type 0} (last : K → ℕ) (raises : K → Result ℕ KeeperFault → Type 0) (tells : K → Telling) (keepers : List K) (plant : PlantValue) (until : ℕ) (inputs : List FieldInput) (run : PlannedRun) (report : Report) → IsPlannedRun plant until inputs run
+abbrev pub report_of : {K : Type 0} (last : K → ℕ) (raises : K → Result ℕ KeeperFault → Type 0) (tells : K → Telling) (keepers : List K) (plant : PlantValue) (until : ℕ) (inputs : List FieldInput) (run : PlannedRun) (report : Report) → IsPlannedRun plant until inputs run
     → IsFittingBook report.book report.journals → AreJournalsOf plant 4294967295 report.journals → BeginAbove last keepers report.journals → BeginAsRaised raises keepers report.journals → OpenAsTold tells plant keepers report.journals → AreInBook report.book.entries report.journals
     → AreAnswers run.commands.items report.book.entries report.journals report.unanswered → RunsAgain plant 4294967295 report.book report.journals
     → CanBeMadeAgain plant 4294967295 report.book report.journals → AreTold plant run.commands.items report.journals report.unanswered report.node_faults → IsReportOf last raises tells keepers plant until inputs report
