@@ -43,7 +43,7 @@ pub no_report : {K T : Type 0} (last : K → ℕ) (raises : K → Result ℕ Kee
 no_report last raises tells keepers plant until inputs run old found (Ok x) planned refused given = tt
 no_report last raises tells keepers plant until inputs run old found (Err fault) planned refused given = elim given [
   | inl w ↦ subst (ExplainsRun last raises tells keepers plant until inputs old old) (sym w.1) (inl (Keeps-refl old))
-  | inr w ↦ subst (ExplainsRun last raises tells keepers plant until inputs old old) (sym w.1) (record { run = run; planned = planned; refused = refused; not_memory = w.0 }, Keeps-refl old)
+  | inr w ↦ subst (ExplainsRun last raises tells keepers plant until inputs old old) (sym w.1) (record { work = run; planned = planned; refused = refused; not_memory = w.0 }, Keeps-refl old)
 ]
 
 told_of : {K : Type 0} (last : K → ℕ) (raises : K → Result ℕ KeeperFault → Type 0) (tells : K → Telling) (keepers : List K) (plant : PlantValue) (until : ℕ) (inputs : List FieldInput) (old new : Option (List ℕ)) (report : Report) (found : SendFault) → IsReportOf last raises tells keepers plant until inputs report → TellsPart plant report old new found
@@ -58,12 +58,12 @@ told_partly last raises tells keepers plant until inputs old new report found r 
     kept_fault (command_fault (sending_fault found)) (ExplainsRun last raises tells keepers plant until inputs old new) r given (told_of last raises tells keepers plant until inputs old new report found is part)
 
 -- what the threads answered is a report of the commands for the plan
-pub report_of : {K : Type 0} (last : K → ℕ) (raises : K → Result ℕ KeeperFault → Type 0) (tells : K → Telling) (keepers : List K) (plant : PlantValue) (until : ℕ) (inputs : List FieldInput) (run : PlannedRun) (report : Report) → IsPlannedRun plant until inputs run
+abbrev pub report_of : {K : Type 0} (last : K → ℕ) (raises : K → Result ℕ KeeperFault → Type 0) (tells : K → Telling) (keepers : List K) (plant : PlantValue) (until : ℕ) (inputs : List FieldInput) (run : PlannedRun) (report : Report) → IsPlannedRun plant until inputs run
     → IsFittingBook report.book report.journals → AreJournalsOf plant 4294967295 report.journals → BeginAbove last keepers report.journals → BeginAsRaised raises keepers report.journals → OpenAsTold tells plant keepers report.journals → AreInBook report.book.entries report.journals
     → AreAnswers run.commands.items report.book.entries report.journals report.unanswered → RunsAgain plant 4294967295 report.book report.journals
     → CanBeMadeAgain plant 4294967295 report.book report.journals → AreTold plant run.commands.items report.journals report.unanswered report.node_faults → IsReportOf last raises tells keepers plant until inputs report
 report_of last raises tells keepers plant until inputs run report planned fitting journals begun given opened made answers again made_again faults = record {
-  run = run;
+  work = run;
   planned = planned;
   reported = record { fitting = fitting; journals = journals; begun = begun; given = given; opened = opened; made = made; answers = answers; again = again; made_again = made_again; faults = faults };
 }

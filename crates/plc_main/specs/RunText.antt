@@ -49,9 +49,9 @@ pub record IsReport {K : Type 0} (last : K → ℕ) (raises : K → Result ℕ K
 -- a report of threads that ran the commands for the plan
 pub record IsReportOf {K : Type 0} (last : K → ℕ) (raises : K → Result ℕ KeeperFault → Type 0) (tells : K → Telling)
     (keepers : List K) (plant : PlantValue) (until : ℕ) (inputs : List FieldInput) (report : Report) : Type 0 where
-  pub run : PlannedRun
-  pub planned : IsPlannedRun plant until inputs run
-  pub reported : IsReport last raises tells keepers plant run.commands.items 4294967295 report
+  pub work : PlannedRun
+  pub planned : IsPlannedRun plant until inputs work
+  pub reported : IsReport last raises tells keepers plant work.commands.items 4294967295 report
 
 -- The lines of such a report were written, and `REPLAY equal` last; the answer is whether there is a fault in the
 -- report, with the texts that are wanted of its book's evaluations at the moments of the plan.
@@ -62,7 +62,7 @@ pub record WritesReport {K : Type 0} (last : K → ℕ) (raises : K → Result �
   pub is_report : IsReportOf last raises tells keepers plant until inputs report
   pub appended : Appends old new (report_lines plant report ++ replay_line true)
   pub faulty_is : IsTrue ran.faulty ↔ (report.node_faults ≢ [])
-  pub texts : ArePlannedTexts wanted plant until is_report.run.dues.items report.book.entries ran.texts
+  pub texts : ArePlannedTexts wanted plant until is_report.work.dues.items report.book.entries ran.texts
 
 -- the report of the plant up to the moment that was asked for was written, with the field inputs that the words give, and
 -- the texts for the files that were asked for
@@ -90,9 +90,9 @@ pub record WritesReportPart {K : Type 0} (last : K → ℕ) (raises : K → Resu
 
 -- threads that ran the commands for the plan gave no report, for this reason, which isn't want of memory
 pub record RefusesRun (plant : PlantValue) (until : ℕ) (inputs : List FieldInput) (fault : RunFault) : Type 0 where
-  pub run : PlannedRun
-  pub planned : IsPlannedRun plant until inputs run
-  pub refused : IsRunFault plant 4294967295 run.commands.items fault
+  pub work : PlannedRun
+  pub planned : IsPlannedRun plant until inputs work
+  pub refused : IsRunFault plant 4294967295 work.commands.items fault
   pub not_memory : fault ≢ run.Memory
 
 -- why there was a fault, and what was written before: nothing before a plan that is too long and threads that gave no
