@@ -4,7 +4,7 @@ use Rattle.text_lines.specs.Sending.{Stops}
 use Rattle.text_lines.specs.declared.send_fault.SendFault.TheVariants.{Write, Memory}
 use Rattle.text_lines.proofs.Sending.{none_made, sends_on, part_sent, less_left, lines_parted}
 use Rattle.text_commands.specs.PlanText.{entry_lines, plan_lines}
-use Rattle.text_commands.proofs.PlanLines.{entry_made}
+use Rattle.text_commands.proofs.PlanLines.{all_written, entry_made}
 use Rattle.text_commands.proofs.plan_command.write_dues.Goals as goal
 
 pub loop-i-init : goal.loop-i-init
@@ -30,3 +30,7 @@ pub returns-in_err-write_text-clause-stopped : goal.returns-in_err-write_text-cl
 returns-in_err-write_text-clause-stopped g c =
     kept_fault Write (λ fault. Stops fault (plan_lines c.args.plant.now c.args.form c.args.dues.now) _ _) _ c.from_residual-in_err-write_text.ensures.1
     (less_left _ _ _ _ _ _ _ (lines_parted (entry_lines c.args.plant.now c.args.form) (enumerate_from 1 c.args.dues.now) _) c.loop-i.invariant (rw c.as_str.ensures.value at c.in_err-write_text.ensures.prefix))
+
+pub returns-clause-ok : goal.returns-clause-ok
+returns-clause-ok g c =
+    all_written c.args.plant.now c.args.form c.args.dues.now c.loop-i.i _ _ _ _ c.loop-i-test.false c.loop-i.invariant (rw c.as_str.ensures.value at c.in_ok-write_text.ensures.whole)
