@@ -9,22 +9,29 @@ use crate::refusals::WordRefusal;
 use crate::status::DONE;
 use guidance::{explain, kinds};
 use std::io;
+use std::io::Write;
 use text_lines::write_text;
 
 /// Writes a text; the status.
-fn answer_with<R: Print + Eprint>(rt: &R, text: &str) -> io::Result<u8>
+fn write_told<R: Eprint, W: Write>(rt: &R, text: &str, writer: &mut Piped<W>) -> io::Result<u8>
     ensures { IfOk result (EndsTold text.now) }
 {
-    let mut writer = Piped::new(io::writer(rt));
-    match write_text(&mut writer, text) {
+    match write_text(writer, text) {
         Ok(()) => Ok(DONE),
         Err(_) => print_unwritten(rt, writer.is_closed),
     }
 }
 
+/// Writes a text to standard output; the status.
+fn answer_with<R: Print + Eprint>(rt: &R, text: &str) -> io::Result<u8>
+    ensures { IfOk result (EndsTold text.now) }
+{
+    write_told(rt, text, &mut Piped::new(io::writer(rt)))
+}
+
 /// Writes what is told of the kinds of this name; the status.
 pub fn answer_kind<R: Print + Eprint + AllocGlobal>(rt: &R, kind: &str) -> io::Result<u8>
-    ensures { IfOk result (EndsExplain (Some kind)) }
+    ensures { IfOk result (EndsExplain (Some kind.entry)) }
 {
     let Ok(text) = explain(rt.alloc(), kind) else {
         return print_failure(rt, CommandFault::Memory);
