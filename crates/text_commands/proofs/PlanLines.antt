@@ -24,11 +24,11 @@ use Rattle.text_commands.specs.declared.plan_form.PlanForm.{PlanForm}
 use Rattle.text_commands.specs.PlanText.{has_taker, entry_lines, plan_lines}
 
 -- a code takes from a task
-takes : TaskRef → CodeValue → Bool
+abbrev takes : TaskRef → CodeValue → Bool
 takes q c = list_any (λ p. same_task p q) c.producers
 
 -- a task takes what its code takes; without a code nothing
-taken : TaskRef → Option CodeValue → Bool
+abbrev taken : TaskRef → Option CodeValue → Bool
 taken q o = list_any (λ p. same_task p q) (items_or_none (option_map (λ (c : CodeValue). c.producers) o))
 
 -- nor does the next task of a resource take from it
@@ -51,7 +51,7 @@ taker_found plant resource k q takes_it = elim ((slice_get_cases (codes_at plant
 ]
 
 -- the lines of the takers up to a resource
-up_to : (ℕ → List ℕ) → (ℕ → Bool) → ℕ → ℕ → List ℕ
+abbrev up_to : (ℕ → List ℕ) → (ℕ → Bool) → ℕ → ℕ → List ℕ
 up_to line p n k = flat_map line (filter p (take k (range_with_len 0 n)))
 
 -- those of one resource more
