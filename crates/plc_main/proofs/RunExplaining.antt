@@ -19,7 +19,7 @@ use Rattle.text_lines.specs.declared.send_fault.SendFault.TheVariants as sending
 use Rattle.text_commands.specs.declared.text_command_fault.TextCommandFault.{TextCommandFault}
 use Rattle.text_commands.specs.declared.text_command_fault.TextCommandFault.TheVariants as text
 use Rattle.text_commands.specs.PlanText.{RefusesPlanOf}
-use Rattle.run_texts.specs.declared.planned_run.PlannedRun.{PlannedRun}
+use Rattle.run_texts.specs.declared.run_plan.PlannedRun.{PlannedRun}
 use Rattle.run_texts.specs.RunCommands.{IsPlannedRun}
 use Rattle.run_texts.specs.ReportText.{TellsPart}
 use Rattle.text_commands.specs.Giving.{sending_fault}

@@ -7,7 +7,7 @@ use Rattle.keepers.specs.declared.keeper_fault.KeeperFault.{KeeperFault}
 use Rattle.evaluation.specs.declared.field_input.FieldInput.{FieldInput}
 use Rattle.evaluation.specs.InputTexts.{IsRead}
 use Rattle.node_reports.specs.declared.command.Command.{Command}
-use Rattle.run_texts.specs.declared.planned_run.PlannedRun.{PlannedRun}
+use Rattle.run_texts.specs.declared.run_plan.PlannedRun.{PlannedRun}
 use Rattle.node_reports.specs.declared.report.Report.{Report}
 use Rattle.node_reports.specs.Journals.{BeginAbove}
 use Rattle.node_reports.specs.Reports.{IsFittingBook, AreJournalsOf, AreInBook, AreAnswers, RunsAgain, CanBeMadeAgain, AreTold, IsRunFault}

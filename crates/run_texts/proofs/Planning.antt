@@ -12,7 +12,7 @@ use Rattle.evaluation.specs.declared.field_input.FieldInput.{FieldInput}
 use Rattle.node_reports.specs.declared.command.Command.{Command}
 use Rattle.node_reports.specs.Commands.{AreNumbered, AreForPlant}
 use Rattle.run_texts.specs.RunCommands.{command_for, commands_from, IsPlannedRun}
-use Rattle.run_texts.specs.declared.planned_run.PlannedRun.{PlannedRun}
+use Rattle.run_texts.specs.declared.run_plan.PlannedRun.{PlannedRun}
 
 -- the tickets count from k on
 numbered_from : (plant : PlantValue) (inputs : List FieldInput) (j : ℕ) (dues : List Due) (k : ℕ) (c : Command) → slice_get (commands_from plant inputs j dues) k ≡ Some c → c.ticket ≡ j + k

@@ -7,7 +7,7 @@ use Rattle.text_commands.specs.PlanText.{interval_at}
 use Rattle.evaluation.specs.declared.field_input.FieldInput.{FieldInput}
 use Rattle.node_reports.specs.declared.command.Command.{Command}
 use Rattle.node_reports.specs.declared.act.Act.TheVariants.{Evaluate}
-use Rattle.run_texts.specs.declared.planned_run.PlannedRun.{PlannedRun}
+use Rattle.run_texts.specs.declared.run_plan.PlannedRun.{PlannedRun}
 
 -- the command for an entry of the plan: its resource is to evaluate its task, the task's interval after the time
 -- before, with these field inputs

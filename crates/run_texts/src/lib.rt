@@ -4,13 +4,13 @@
 
 mod audit_telling;
 mod audit_text;
-mod planned_run;
 mod replay;
 mod report_text;
 mod run_commands;
+mod run_plan;
 mod telling;
 
 pub use audit_telling::tell_audit;
-pub use planned_run::PlannedRun;
 pub use run_commands::planned_run;
+pub use run_plan::PlannedRun;
 pub use telling::tell_report;

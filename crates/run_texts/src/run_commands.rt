@@ -3,7 +3,7 @@ ghost use Rattle.text_commands.specs.PlanText.{RefusesPlanOf};
 ghost use Rattle.node_reports.specs.Commands.{AreNumbered, AreForPlant};
 ghost use Rattle.run_texts.specs.RunCommands.{command_for, commands_from, IsPlannedRun};
 
-use crate::planned_run::PlannedRun;
+use crate::run_plan::PlannedRun;
 use evaluation::Inputs;
 use node_reports::{Act, Command};
 use plant::Plant;
