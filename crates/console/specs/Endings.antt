@@ -16,8 +16,8 @@ use Rattle.verifying.specs.declared.summary.Summary.{Summary}
 use Rattle.verifying.specs.declared.verify_fault.VerifyFault.{VerifyFault}
 use Rattle.verifying_plants.specs.VerifyPlant.{ExplainsAnswer as ExplainsPlantVerdicts, WritesAnswer as WritesPlantVerdicts}
 use Rattle.verifying_plants.specs.declared.verify_plant_fault.VerifyPlantFault.{VerifyPlantFault}
-use Rattle.world.specs.Simulated.{EndsEarly}
-use Rattle.world.specs.LiveRun.{EndsLiveRun}
+use Rattle.tested_schedules.specs.Tested.{EndsEarly}
+use Rattle.tested_schedules.specs.TestedLines.{EndsTestedLines}
 use Rattle.world.specs.declared.sim_fault.SimFault.{SimFault}
 use Rattle.world.specs.declared.live_fault.LiveFault.{LiveFault}
 use Rattle.console.specs.declared.answered.Answered.{Answered}
@@ -151,12 +151,12 @@ IsUnprepared request status =
     ⊎ IsNoPlantStatus request.plant.now status
 
 -- how a schedule ends, by what came of it
-abbrev pub EndsAfterSchedule : Result TraceTexts SimFault → Answered → Type 0
-EndsAfterSchedule (Ok texts) answered = (answered.status ≡ 0) × (answered.texts ≡ texts)
+abbrev pub EndsAfterSchedule : Result Answered SimFault → Answered → Type 0
+EndsAfterSchedule (Ok done) answered = answered ≡ done
 EndsAfterSchedule (Err fault) answered = EndsWith (status_of_schedule fault) answered
 
-abbrev pub EndsAfterLines : Result TraceTexts LiveFault → Answered → Type 0
-EndsAfterLines (Ok texts) answered = (answered.status ≡ 0) × (answered.texts ≡ texts)
+abbrev pub EndsAfterLines : Result Answered LiveFault → Answered → Type 0
+EndsAfterLines (Ok done) answered = answered ≡ done
 EndsAfterLines (Err fault) answered = EndsWith (status_of_lines fault) answered
 
 -- the schedule of a file was done with the plant, or why it wasn't; and so it ended
@@ -164,7 +164,7 @@ pub record IsScheduleDone (plant : PlantValue) (request : SimRequest) (answered 
   pub schedule : List ℕ
   pub old : Option (List ℕ)
   pub new : Option (List ℕ)
-  pub obeyed : Result TraceTexts SimFault
+  pub obeyed : Result Answered SimFault
   pub is : MatchResult obeyed (WritesTracedRun plant request schedule old new)
       (EndsEarly plant request.max_number schedule old new)
   pub ended : EndsAfterSchedule obeyed answered
@@ -176,9 +176,9 @@ pub record AreLinesDone (plant : PlantValue) (request : SimRequest) (answered : 
   pub line : List ℕ
   pub old : Option (List ℕ)
   pub new : Option (List ℕ)
-  pub obeyed : Result TraceTexts LiveFault
+  pub obeyed : Result Answered LiveFault
   pub is : MatchResult obeyed (WritesTracedLines plant request given left old new)
-      (EndsLiveRun plant request.max_number given left line old new)
+      (EndsTestedLines plant request.max_number given left line old new)
   pub ended : EndsAfterLines obeyed answered
 
 -- the plant of a file, and what was done with it

@@ -168,6 +168,10 @@ by blanks or tabs, and stand in either case; a line that is blank or begins with
   RESTART R1               resource R1 restarts: it forgets all but retained variables, and its incarnation is one more
   HEAR R1 R2 2             R1 hears that R2 is in incarnation 2: what R1 makes from now on is meant for that
 
+A line EXPECT R1.A.N=1 R1.A.FULL=0 is no event and changes nothing: for each word a line tells whether the output N or FULL
+of program A has this value, met, or unmet and its value: what its task's last evaluation in the present incarnation of R1
+gave, before the first one FALSE, 0 or T#0ms.
+
 An evaluation takes, from each task that feeds it, the latest evaluation that reached its resource and is meant for its
 present incarnation; one that is never delivered is lost, and one may be delivered twice, late or out of order. What
 names nothing that exists changes nothing and is written as REFUSED, with the number of the event and the reason.
@@ -190,8 +194,9 @@ Example:
   EVAL 2 R2.SLOW 1.1 TAKES R1.FAST=1.1 GIVES B.SEEN=1 B.HIT=0
 
 The exit status is 0; 1 if the text of the plant is refused, with FILE:LINE: Kind on standard error, or a line of the
-schedule is no event, with FILE:LINE: Syntax, after the lines of the events before it; 2 if a word is refused; 3 if a file
-can't be read or written, the output can't be written or there is no memory left.";
+schedule is neither an event nor an EXPECT line, with FILE:LINE: Syntax, after what those before it wrote; 2 if a word is
+refused; 3 if a file can't be read or written, the output can't be written or there is no memory left; 4 if a word of an
+EXPECT line is unmet.";
 
 /// What `plc run --help` tells behind the words.
 pub const RUN_HELP: &str = "\

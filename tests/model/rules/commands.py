@@ -15,9 +15,9 @@ from .node import Node, NoFiles
 from .plan import plan_of, schedule_of
 from .plant_text import find, read_plant
 from .refusal import Refusal
-from .run import Run, do_in_turns, lines_of_run
+from .run import Run, do_in_turns, lines_of_steps
 from .scan import Ladder, State
-from .schedule import MOST_U32, events_of
+from .schedule import MOST_U32, steps_of
 from .test_words import BadWord, tests_of
 from .traces import Track, diagram, dump
 from .warnings import warnings_of, warnings_of_plant
@@ -423,14 +423,19 @@ def plan(write, files, paths, options, _more):
 
 
 def simulate(write, files, paths, options, _more):
-    run, made = Run(files.plant(paths[0]), options.get("--max-number", MOST_U32)), []
+    run, made, is_unmet = Run(files.plant(paths[0]), options.get("--max-number", MOST_U32)), [], False
     try:
-        for line in lines_of_run(run, events_of(lines_of(files.text(paths[1])))):
+        for event, line in lines_of_steps(run, steps_of(lines_of(files.text(paths[1])))):
             write(line)
-            made.append(run.log[-1] if line.startswith("EVAL") else None)
+            if event:
+                made.append(run.log[-1] if line.startswith("EVAL") else None)
+            else:
+                is_unmet |= not line.endswith(" met")
     except Refusal as refusal:
         raise Refused(REFUSED_TEXT, f"{paths[1]}:{refusal.line}: {refusal.kind}") from None
     files.write_traces(options, paths[0], range(len(made) + 2), tracks_of(run.plant, made))
+    if is_unmet:
+        raise Refused(DIFFERS)
 
 
 def run_paced(write, files, paths, options, more):
