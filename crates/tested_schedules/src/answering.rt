@@ -77,7 +77,7 @@ fn answer_word(
     Ok(Answer {
         expectation,
         found,
-        is_met: found.same(&expectation.value),
+        is_met: expectation.value.same(&found),
     })
 }
 
