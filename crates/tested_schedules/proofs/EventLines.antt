@@ -1,5 +1,6 @@
 -- What one line does, and why it isn't done.
-use Rattle.std.proofs.Common.{◌≡◌, ◌≢◌, inr, ℕ, ◌+◌, true, false, List, Option, refl, sym, ◌∙◌}
+use Rattle.std.proofs.Common.{◌≡◌, ◌≢◌, inr, ℕ, ◌+◌, Bool, true, false, List, Option, refl, sym, ap, ◌∙◌}
+use Rattle.std.specs.Prelude.{◌||◌}
 use Rattle.std.specs.Io.KnownBytes.{Appends}
 use Rattle.std.proofs.KnownBytes.{Keeps-refl}
 use Rattle.text_lines.specs.Sending.{SendsLess}
@@ -9,15 +10,24 @@ use Rattle.world.specs.declared.line_fault.LineFault.{LineFault}
 use Rattle.world.specs.declared.line_fault.LineFault.TheVariants.{Syntax, Write, Memory}
 use Rattle.world.specs.ScheduleText.{SpellsEvent, SpellsNoEvent, is_idle}
 use Rattle.world.specs.Steps.Telling.{IsTold}
+use Rattle.tested_schedules.specs.declared.answer.Answer.{Answer}
 use Rattle.tested_schedules.specs.Expectations.{IsUnexpected, expected_words, is_expectation}
 use Rattle.tested_schedules.specs.Tested.{IsNoLine}
-use Rattle.tested_schedules.specs.TestedText.{Piece, of_event, piece_text}
-use Rattle.tested_schedules.specs.Steps.Testing.{HasBroken, HasDone, HasMade, HasStopped, TestState}
+use Rattle.tested_schedules.specs.TestedText.{Piece, are_unmet, of_answers, of_event, piece_text}
+use Rattle.tested_schedules.specs.Steps.Testing.{HasAnswers, HasBroken, HasDone, HasMade, HasStopped, TestState}
 
 -- an event was done, and this line tells it
 pub made_event : (old new : TestState) (words : List (List ℕ)) (e : Event) (line : List ℕ) → is_expectation words ≡ false → is_idle words ≡ false → SpellsEvent old.world.setting.plant (old.events + 1) e words
     → IsTold old.world new.world (old.events + 1) e line → new.events ≡ old.events + 1 → new.unmet ≡ old.unmet → HasMade old new words (of_event line)
 made_event old new words e line event busy spelled told more unmet = (event, inr (record { event = e; busy = busy; spelled = spelled; told = told }, more, unmet))
+
+-- expectations were answered
+abbrev pub with_unmet : TestState → Bool → TestState
+with_unmet old unmet = record old { unmet = unmet }
+
+pub made_answers : (old : TestState) (words : List (List ℕ)) (answers : List Answer) (unmet : Bool) → is_expectation words ≡ true → HasAnswers old.world (expected_words words) answers → unmet ≡ (old.unmet || are_unmet answers)
+    → HasMade old (with_unmet old unmet) words (of_answers answers)
+made_answers old words answers unmet expects h is = (expects, h, ap (with_unmet old) is)
 
 -- what was made is written, or less of it
 pub made_done : (old new : TestState) (words : List (List ℕ)) (piece : Piece) (from to : Option (List ℕ)) → HasMade old new words piece → Appends from to (piece_text old.world.setting.plant piece) → HasDone old new words from to

@@ -1,7 +1,8 @@
 -- Where the outputs that words expect stand.
-use Rattle.std.proofs.Common.{◌≡◌, ◌≢◌, ℕ, ◌+◌, ◌<◌, List, Option, Some, None, drop, length, take, refl, sym, ◌∙◌, subst}
+use Rattle.std.proofs.Common.{◌≡◌, ◌≢◌, ◌⊎◌, inl, inr, arith, ℕ, ◌+◌, ◌<◌, List, Option, Some, None, drop, length, take, refl, sym, ◌∙◌, subst}
 use Rattle.std.specs.Prelude.{if◌then◌else◌, slice_get}
 use Rattle.std.specs.Option.{option_and_then, option_map}
+use Rattle.std.proofs.lemmas.Bool.{cases_eq}
 use Rattle.std.proofs.lemmas.Option.{same_Some, slice_get_within}
 use Rattle.lists.specs.Items.{items_or_none}
 use Rattle.std_blocks.specs.declared.value.Value.{Value}
@@ -59,10 +60,25 @@ resource_within plant word x is =
     let there = output_there plant (take is.sign word) (drop (is.sign + 1) word) x.task x.place x.value is.expected in
     resource_there plant x.task there.code there.code_is
 
+below_next : (j task : ℕ) → j < task + 1 → j ≢ task → j < task
+below_next j task lt other = omega (arith, lt, other)
+
 -- where nothing was found there is nothing
 pub none_found : {A : Type 0} (P : A → Type 0) (found : Option A) → Finds P found → ((x : A) → found ≢ Some x) → (x : A) → P x → ⊥
 none_found P None none not = none
 none_found P (Some y) none not = λ x p. not y refl
+
+-- where nothing is expected of the first tasks of a resource, and nothing was found of the next one, nothing is of all these
+pub none_of_tasks : (plant : PlantValue) (name written : List ℕ) (resource task : ℕ) (found : Option (ℕ × Value))
+    → ((j place : ℕ) (v : Value) → j < task → expected_at plant name written (record { resource = resource; task = j }) place ≡ Some v → ⊥)
+    → Finds (λ (f : ℕ × Value). expected_at plant name written (record { resource = resource; task = task }) f.0 ≡ Some f.1) found → ((f : ℕ × Value) → found ≢ Some f)
+    → (j place : ℕ) (v : Value) → j < task + 1 → expected_at plant name written (record { resource = resource; task = j }) place ≡ Some v → ⊥
+none_of_tasks plant name written resource task found first next none j place v lt is = by (cases_eq j task) where
+  by : (j ≡ task) ⊎ (j ≢ task) → ⊥
+  by (inl same) =
+      none_found (λ (f : ℕ × Value). expected_at plant name written (record { resource = resource; task = task }) f.0 ≡ Some f.1) found next none (place, v)
+      (subst (λ k. expected_at plant name written (record { resource = resource; task = k }) place ≡ Some v) same is)
+  by (inr other) = first j place v (below_next j task lt other) is
 
 -- the task of an expectation is one of a resource
 pub task_of_expected : (plant : PlantValue) (name written : List ℕ) (x : Expectation) → IsExpectedOf plant name written x → IsSoundPlant plant → (x.task.resource < length plant.resources) × (x.task.task < length (tasks_at plant x.task.resource))

@@ -83,7 +83,7 @@ made_next s earlier old new words pieces (of_event text) a h =
     record {
       told = (a.told, (h.0, run_of s (words ∷ earlier) (of_event text ∷ pieces) new.world new.events stands));
       unmet = unmet_kept old new words text h.1 ∙ a.unmet;
-      few = few_more old new words text (length earlier) h.1 a.few;
+      few = let few = few_more old new words text (length earlier) h.1 a.few in omega (arith, few);
       stands = stands;
     }
 made_next s earlier old new words pieces (of_answers answers) a h =

@@ -96,6 +96,7 @@ pub fn answer_words(
     if words.is_empty() {
         return Err(LineFault::Syntax);
     }
+    let _log = world.log();
     let mut answers = Vec::new(alloc);
     for word in words {
         let answer = answer_word(alloc, world, incarnations, word)?;

@@ -1,5 +1,5 @@
 use Rattle.std.proofs.Common.{◌≡◌, ◌<◌, List, Option, length, ap, ◌∙◌, subst, arith}
-use Rattle.std.specs.Prelude.{reverse}
+use Rattle.std.specs.Prelude.{reverse, slice_index}
 use Rattle.evaluation.specs.Meaning.{Evaluated}
 use Rattle.plant.specs.PlantValue.{PlantValue}
 use Rattle.plant.specs.Find.{Finds}
@@ -35,6 +35,6 @@ returns-clause-ok c =
     let within : x.task.resource < length c.args.incarnations.now = omega (arith, resource_within w.setting.plant c.args.word.now x spelled, c.requires.known.many) in
     record {
       spelled = spelled;
-      found = c.value_of-found.ensures ∙ ap (λ (log : List Evaluated). found_in _ (reverse log) x) c.log.ensures.value ∙ ap (λ i. found_in i (reverse w.log) x) (c.requires.known.each x.task.resource within);
+      found = c.value_of-found.ensures ∙ ap (λ (log : List Evaluated). found_in (slice_index c.args.incarnations.now x.task.resource) (reverse log) x) c.log.ensures.value ∙ ap (λ i. found_in i (reverse w.log) x) (c.requires.known.each x.task.resource within);
       met = c.same.ensures;
     }

@@ -6,7 +6,7 @@ use Rattle.world.specs.declared.line_fault.LineFault.TheVariants.{Write}
 use Rattle.world.specs.ScheduleText.{SpellsEvent, SpellsNoEvent}
 use Rattle.world.proofs.ScheduleReading.{err_and}
 use Rattle.tested_schedules.specs.TestedText.{of_event}
-use Rattle.tested_schedules.specs.Steps.Testing.{HasStopped, state_of}
+use Rattle.tested_schedules.specs.Steps.Testing.{HasStopped, TestState, state_of}
 use Rattle.tested_schedules.proofs.EventLines.{made_broken, made_done, made_event, no_event_line, stopped_early}
 use Rattle.tested_schedules.proofs.testing.Testing.do_event.Goals as goal
 
@@ -27,7 +27,7 @@ pub returns-in_err-write_text-clause-fault : goal.returns-in_err-write_text-clau
 returns-in_err-write_text-clause-fault g c =
     let words = map (λ w. w.now) c.args.words.now in
     let old = state_of c.args.self.now in
-    let new = record { world = c.tell.new.self.world; events = old.events + 1; unmet = c.tell.new.self.has_unmet } in
+    let new : TestState = record { world = c.tell.new.self.world; events = old.events + 1; unmet = c.tell.new.self.has_unmet } in
     let from = g.W.Write.contents c.args.out.now in
     let next = g.W.Write.contents c.write_text.new.writer in
     let line = string_bytes c.tell.new.self.line in
@@ -41,7 +41,7 @@ pub returns-clause-ok : goal.returns-clause-ok
 returns-clause-ok g c =
     let words = map (λ w. w.now) c.args.words.now in
     let old = state_of c.args.self.now in
-    let new = record { world = c.tell.new.self.world; events = old.events + 1; unmet = c.tell.new.self.has_unmet } in
+    let new : TestState = record { world = c.tell.new.self.world; events = old.events + 1; unmet = c.tell.new.self.has_unmet } in
     let line = string_bytes c.tell.new.self.line in
     let busy = sym c.is_idle.ensures ∙ c.if-is_idle.false in
     let spelled = subst (λ (p : PlantValue). SpellsEvent p (old.events + 1) c.in_ok-event.event words) c.plant.ensures c.in_ok-event.ensures.ok in
