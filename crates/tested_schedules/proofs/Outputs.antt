@@ -7,14 +7,13 @@ use Rattle.std.proofs.lemmas.Option.{same_Some, slice_get_within}
 use Rattle.lists.specs.Items.{items_or_none}
 use Rattle.std_blocks.specs.declared.value.Value.{Value}
 use Rattle.words.specs.Chars.{same_word}
-use Rattle.declared_names.specs.declared.declarations.Kind.{Kind}
 use Rattle.task_codes.specs.declared.task_ref.TaskRef.{TaskRef}
 use Rattle.task_codes.specs.declared.task_output.TaskOutput.{TaskOutput}
 use Rattle.task_codes.specs.CodeValue.{CodeValue}
 use Rattle.plant.specs.Find.{Finds}
 use Rattle.plant.specs.PlantValue.{PlantValue, ResourceValue, IsSoundPlant, code_at, tasks_at}
 use Rattle.tested_schedules.specs.declared.expectation.Expectation.{Expectation}
-use Rattle.tested_schedules.specs.Expectations.{IsExpectation, expected_at, kind_at, output_name, value_in}
+use Rattle.tested_schedules.specs.Expectations.{IsExpectation, expected_at, output_name, value_in}
 use Rattle.tested_schedules.specs.Steps.Finding.{IsExpectedOf}
 
 -- what is expected of a task is expected of one of its outputs

@@ -1,5 +1,5 @@
 -- A schedule with EXPECT lines is done line by line.
-use Rattle.std.proofs.Common.{◌≡◌, inl, inr, ℕ, ◌+◌, ◌≤◌, Bool, true, false, List, [], ◌∷◌, ◌++◌, length, take, Option, Some, refl, sym, ap, ◌∙◌, subst, arith}
+use Rattle.std.proofs.Common.{◌≡◌, inl, inr, ℕ, ◌+◌, ◌≤◌, true, false, List, [], ◌∷◌, ◌++◌, length, Option, Some, refl, sym, ap, ◌∙◌, subst, arith}
 use Rattle.std.specs.Prelude.{◌||◌, if◌then◌else◌, reverse}
 use Rattle.std.specs.List.{AllZip}
 use Rattle.std.specs.Io.KnownBytes.{Appends, Keeps}
@@ -11,7 +11,6 @@ use Rattle.world.specs.declared.event.Event.{Event}
 use Rattle.world.specs.History.{Setting, history_of}
 use Rattle.world.specs.Run.{IsLog}
 use Rattle.world.specs.RunText.{IsRunText}
-use Rattle.world.specs.ScheduleText.{Spell}
 use Rattle.world.specs.World.{WorldValue}
 use Rattle.world.specs.Steps.Simulating.{HasDone as HasDoneLine}
 use Rattle.world.proofs.Simulating.{Stands, stands_first, stands_next}

@@ -1,10 +1,8 @@
-use Rattle.std.proofs.Common.{◌≡◌, ◌<◌, List, Option, length, ap, ◌∙◌, subst, arith}
+use Rattle.std.proofs.Common.{◌<◌, List, length, ap, ◌∙◌, subst, arith}
 use Rattle.std.specs.Prelude.{reverse, slice_index}
 use Rattle.evaluation.specs.Meaning.{Evaluated}
 use Rattle.plant.specs.PlantValue.{PlantValue}
 use Rattle.plant.specs.Find.{Finds}
-use Rattle.world.specs.Step.{history_at}
-use Rattle.tested_schedules.specs.declared.expectation.Expectation.{Expectation}
 use Rattle.tested_schedules.specs.Expectations.{IsExpectation, found_in}
 use Rattle.tested_schedules.proofs.Outputs.{none_found, resource_within}
 use Rattle.tested_schedules.proofs.answering.answer_word.Goals as goal
