@@ -11,10 +11,10 @@ use Rattle.world.specs.ScheduleText.{Spell, schedule_lines}
 use Rattle.world.specs.Simulated.{from_one}
 use Rattle.world.specs.World.{WorldValue}
 use Rattle.tested_schedules.specs.declared.tested.Tested.{Tested}
-use Rattle.tested_schedules.specs.Tested.{HasEnded, HasTested, IsNoLine, StopsAt, TestsFirst, WritesBeginning, WritesFirst}
+use Rattle.tested_schedules.specs.Tested.{HasTested, IsNoLine, StopsAt, TestsFirst, WritesBeginning, WritesFirst}
 use Rattle.tested_schedules.specs.TestedText.{ArePieces, IsTested, event_lines, piece_text, tested_text}
 use Rattle.tested_schedules.specs.Steps.Testing.{HasBroken, TestState}
-use Rattle.tested_schedules.proofs.Standing.{Standing, StandsSo, made_so, plant_is}
+use Rattle.tested_schedules.proofs.Standing.{Standing, made_so, plant_is}
 
 -- what stands is the text of the lines
 abbrev pub tested_so : (s : Setting) (lines all : List (List (List ℕ))) (t : TestState) (old now : Option (List ℕ)) → lines ≡ all → (a : Standing s lines t old now) → IsTested s all (tested_text s.plant a.pieces) t.unmet

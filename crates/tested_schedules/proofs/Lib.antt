@@ -6,3 +6,4 @@ pub mod Incarnations
 pub mod Outputs
 pub mod Words
 pub mod Untested
+pub mod EventLines

@@ -1,18 +1,19 @@
 -- Where the outputs that words expect stand.
-use Rattle.std.proofs.Common.{◌≡◌, ℕ, ◌<◌, List, Option, Some, None, length, refl, sym, ◌∙◌, subst}
+use Rattle.std.proofs.Common.{◌≡◌, ◌≢◌, ◌⊎◌, inl, inr, arith, ℕ, ◌+◌, ◌<◌, List, Option, Some, None, drop, length, take, refl, sym, ◌∙◌, subst}
 use Rattle.std.specs.Prelude.{if◌then◌else◌, slice_get}
 use Rattle.std.specs.Option.{option_and_then, option_map}
+use Rattle.std.proofs.lemmas.Bool.{cases_eq}
 use Rattle.std.proofs.lemmas.Option.{same_Some, slice_get_within}
 use Rattle.lists.specs.Items.{items_or_none}
 use Rattle.std_blocks.specs.declared.value.Value.{Value}
 use Rattle.words.specs.Chars.{same_word}
-use Rattle.declared_names.specs.declared.declarations.Kind.{Kind}
 use Rattle.task_codes.specs.declared.task_ref.TaskRef.{TaskRef}
 use Rattle.task_codes.specs.declared.task_output.TaskOutput.{TaskOutput}
 use Rattle.task_codes.specs.CodeValue.{CodeValue}
+use Rattle.plant.specs.Find.{Finds}
 use Rattle.plant.specs.PlantValue.{PlantValue, ResourceValue, IsSoundPlant, code_at, tasks_at}
 use Rattle.tested_schedules.specs.declared.expectation.Expectation.{Expectation}
-use Rattle.tested_schedules.specs.Expectations.{expected_at, kind_at, output_name, value_in}
+use Rattle.tested_schedules.specs.Expectations.{IsExpectation, expected_at, output_name, value_in}
 use Rattle.tested_schedules.specs.Steps.Finding.{IsExpectedOf}
 
 -- what is expected of a task is expected of one of its outputs
@@ -45,6 +46,38 @@ no_code plant name written t place v none is =
     let there = output_there plant name written t place v is in
     let both : ◌≡◌ {A = Option CodeValue} None (Some there.code) = sym none ∙ there.code_is in
     absurd cc
+
+-- the resource of an expectation is one of the plant
+resource_there : (plant : PlantValue) (t : TaskRef) (code : CodeValue) → code_at plant t ≡ Some code → t.resource < length plant.resources
+resource_there plant t code is = by (slice_get plant.resources t.resource) refl is where
+  by : (o : Option ResourceValue) → slice_get plant.resources t.resource ≡ o → slice_get (items_or_none (option_map (λ (r : ResourceValue). r.codes) o)) t.task ≡ Some code → t.resource < length plant.resources
+  by None e at = absurd cc
+  by (Some r) e at = slice_get_within plant.resources t.resource r e
+
+pub resource_within : (plant : PlantValue) (word : List ℕ) (x : Expectation) → IsExpectation plant word x → x.task.resource < length plant.resources
+resource_within plant word x is =
+    let there = output_there plant (take is.sign word) (drop (is.sign + 1) word) x.task x.place x.value is.expected in
+    resource_there plant x.task there.code there.code_is
+
+below_next : (j task : ℕ) → j < task + 1 → j ≢ task → j < task
+below_next j task lt other = omega (arith, lt, other)
+
+-- where nothing was found there is nothing
+pub none_found : {A : Type 0} (P : A → Type 0) (found : Option A) → Finds P found → ((x : A) → found ≢ Some x) → (x : A) → P x → ⊥
+none_found P None none not = none
+none_found P (Some y) none not = λ x p. not y refl
+
+-- where nothing is expected of the first tasks of a resource, and nothing was found of the next one, nothing is of all these
+pub none_of_tasks : (plant : PlantValue) (name written : List ℕ) (resource task : ℕ) (found : Option (ℕ × Value))
+    → ((j place : ℕ) (v : Value) → j < task → expected_at plant name written (record { resource = resource; task = j }) place ≡ Some v → ⊥)
+    → Finds (λ (f : ℕ × Value). expected_at plant name written (record { resource = resource; task = task }) f.0 ≡ Some f.1) found → ((f : ℕ × Value) → found ≢ Some f)
+    → (j place : ℕ) (v : Value) → j < task + 1 → expected_at plant name written (record { resource = resource; task = j }) place ≡ Some v → ⊥
+none_of_tasks plant name written resource task found first next none j place v lt is = by (cases_eq j task) where
+  by : (j ≡ task) ⊎ (j ≢ task) → ⊥
+  by (inl same) =
+      none_found (λ (f : ℕ × Value). expected_at plant name written (record { resource = resource; task = task }) f.0 ≡ Some f.1) found next none (place, v)
+      (subst (λ k. expected_at plant name written (record { resource = resource; task = k }) place ≡ Some v) same is)
+  by (inr other) = first j place v (below_next j task lt other) is
 
 -- the task of an expectation is one of a resource
 pub task_of_expected : (plant : PlantValue) (name written : List ℕ) (x : Expectation) → IsExpectedOf plant name written x → IsSoundPlant plant → (x.task.resource < length plant.resources) × (x.task.task < length (tasks_at plant x.task.resource))

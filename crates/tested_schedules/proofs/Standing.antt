@@ -1,6 +1,6 @@
 -- A schedule with EXPECT lines is done line by line.
-use Rattle.std.proofs.Common.{◌≡◌, inl, inr, ℕ, ◌+◌, ◌≤◌, Bool, true, false, List, [], ◌∷◌, ◌++◌, length, take, Option, Some, refl, sym, ap, ◌∙◌, subst, arith}
-use Rattle.std.specs.Prelude.{if◌then◌else◌, reverse}
+use Rattle.std.proofs.Common.{◌≡◌, inl, inr, ℕ, ◌+◌, ◌≤◌, true, false, List, [], ◌∷◌, ◌++◌, length, Option, Some, refl, sym, ap, ◌∙◌, subst, arith}
+use Rattle.std.specs.Prelude.{◌||◌, if◌then◌else◌, reverse}
 use Rattle.std.specs.List.{AllZip}
 use Rattle.std.specs.Io.KnownBytes.{Appends, Keeps}
 use Rattle.std.proofs.KnownBytes.{Appends-trans, Appends-nil}
@@ -11,7 +11,6 @@ use Rattle.world.specs.declared.event.Event.{Event}
 use Rattle.world.specs.History.{Setting, history_of}
 use Rattle.world.specs.Run.{IsLog}
 use Rattle.world.specs.RunText.{IsRunText}
-use Rattle.world.specs.ScheduleText.{Spell}
 use Rattle.world.specs.World.{WorldValue}
 use Rattle.world.specs.Steps.Simulating.{HasDone as HasDoneLine}
 use Rattle.world.proofs.Simulating.{Stands, stands_first, stands_next}
@@ -83,7 +82,7 @@ made_next s earlier old new words pieces (of_event text) a h =
     record {
       told = (a.told, (h.0, run_of s (words ∷ earlier) (of_event text ∷ pieces) new.world new.events stands));
       unmet = unmet_kept old new words text h.1 ∙ a.unmet;
-      few = few_more old new words text (length earlier) h.1 a.few;
+      few = let few = few_more old new words text (length earlier) h.1 a.few in omega (arith, few);
       stands = stands;
     }
 made_next s earlier old new words pieces (of_answers answers) a h =

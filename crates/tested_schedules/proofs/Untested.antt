@@ -1,17 +1,16 @@
 -- A schedule without EXPECT lines.
-use Rattle.std.proofs.Common.{◌≡◌, ℕ, ◌-◌, ◌<◌, Bool, true, false, List, [], ◌∷◌, ◌++◌, get_or, length, refl, sym, ap, ◌∙◌, subst, arith}
+use Rattle.std.proofs.Common.{◌≡◌, ℕ, ◌-◌, ◌<◌, true, false, List, [], ◌∷◌, ◌++◌, length, refl, sym, ap, ◌∙◌, subst, arith}
 use Rattle.std.specs.Prelude.{All, if◌then◌else◌, reverse}
 use Rattle.std.specs.List.{AllByRecursion}
 use Rattle.std.proofs.lemmas.Grind.{reverse_onto}
 use Rattle.std.proofs.lemmas.List.{get_or-reverse, length-reverse, reverse-reverse}
 use Rattle.std.proofs.lemmas.List.Elements.{recursion_from_All}
-use Rattle.plant.specs.PlantValue.{PlantValue}
 use Rattle.world.specs.History.{Setting}
 use Rattle.world.specs.RunText.{IsRunText}
 use Rattle.world.specs.ScheduleText.{Spell}
 use Rattle.tested_schedules.specs.Expectations.{is_expectation}
-use Rattle.tested_schedules.specs.TestedText.{ArePieces, IsRunOf, IsTested, Piece, event_lines, events_text, has_unmet, of_answers, of_event, tested_text}
-use Rattle.tested_schedules.specs.Untested.{IsRunOfLines, UntestedRuns}
+use Rattle.tested_schedules.specs.TestedText.{ArePieces, IsRunOf, Piece, event_lines, events_text, has_unmet, of_answers, of_event, tested_text}
+use Rattle.tested_schedules.specs.Untested.{UntestedRuns}
 
 -- a line is no EXPECT line
 abbrev IsNone : List (List ℕ) → Type 0

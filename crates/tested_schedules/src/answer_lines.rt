@@ -1,6 +1,6 @@
 //! The lines of answers.
 
-ghost use Rattle.std.specs.Prelude.{◌≡◌, OnOk};
+ghost use Rattle.std.specs.Prelude.{◌≡◌, ◌||◌, OnOk};
 ghost use Rattle.std.specs.List.{flat_map};
 ghost use Rattle.text_lines.specs.Growing.{GrowsBy};
 ghost use Rattle.tested_schedules.specs.Expectations.{answer_line, verdict_text};
@@ -48,8 +48,15 @@ pub fn push_answers(text: &mut String, plant: &Plant, answers: &[Answer]) -> Res
 }
 
 /// Whether one of these answers is unmet.
-pub fn are_unmet(answers: &[Answer]) -> bool
+fn are_unmet(answers: &[Answer]) -> bool
     ensures { result ≡ are_unmet answers.now }
 {
     answers.iter().any(|answer| !answer.is_met)
+}
+
+/// Whether one of these answers is unmet, or one was before.
+pub fn have_unmet(before: bool, answers: &[Answer]) -> bool
+    ensures { result ≡ (before || are_unmet answers.now) }
+{
+    before || are_unmet(answers)
 }

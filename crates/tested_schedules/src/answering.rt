@@ -77,7 +77,7 @@ fn answer_word(
     Ok(Answer {
         expectation,
         found,
-        is_met: found.same(&expectation.value),
+        is_met: expectation.value.same(&found),
     })
 }
 
@@ -96,6 +96,7 @@ pub fn answer_words(
     if words.is_empty() {
         return Err(LineFault::Syntax);
     }
+    let _log = world.log();
     let mut answers = Vec::new(alloc);
     for word in words {
         let answer = answer_word(alloc, world, incarnations, word)?;

@@ -11,7 +11,7 @@ ghost use Rattle.tested_schedules.specs.Expectations.{is_expectation};
 ghost use Rattle.tested_schedules.specs.Tested.{EndsEarly, HasTested};
 ghost use Rattle.tested_schedules.specs.Steps.Testing.{AreIncarnations, HasDone, HasStopped, state_of};
 
-use crate::answer_lines::{are_unmet, push_answers};
+use crate::answer_lines::{have_unmet, push_answers};
 use crate::answering::answer_words;
 use crate::restarted::{first_incarnations, note_done};
 use crate::tested::Tested;
@@ -167,7 +167,7 @@ impl Testing {
         let answers = answer_words(alloc, &self.world, &self.incarnations, &words[1..])?;
         self.line.clear();
         push_answers(&mut self.line, self.world.plant(), &answers)?;
-        self.has_unmet = self.has_unmet || are_unmet(&answers);
+        self.has_unmet = have_unmet(self.has_unmet, &answers);
         write_text(out, self.line.as_str())?;
         Ok(())
     }

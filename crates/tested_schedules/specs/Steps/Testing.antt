@@ -1,9 +1,7 @@
 -- Steps of the proofs: what one line does.
-use Rattle.std.specs.Prelude.{◌≡◌, ◌≢◌, ℕ, ◌+◌, ◌<◌, ◌||◌, ◌⊎◌, Bool, true, false, List, [], Option, Some, length, reverse, slice_index, take}
+use Rattle.std.specs.Prelude.{◌≡◌, ◌≢◌, ℕ, ◌+◌, ◌<◌, ◌||◌, ◌⊎◌, Bool, true, false, List, [], Option, length, reverse, slice_index, take}
 use Rattle.std.specs.List.{AllZip}
 use Rattle.std.specs.Io.KnownBytes.{Appends, Keeps}
-use Rattle.plant.specs.PlantValue.{PlantValue}
-use Rattle.evaluation.specs.Meaning.{Evaluated}
 use Rattle.world.specs.declared.line_fault.LineFault.{LineFault}
 use Rattle.world.specs.declared.line_fault.LineFault.TheVariants.{Syntax, Write, Memory}
 use Rattle.world.specs.History.{incarnation_of}

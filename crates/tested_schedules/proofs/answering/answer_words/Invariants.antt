@@ -1,4 +1,4 @@
-use Rattle.std.proofs.Common.{map}
+use Rattle.std.proofs.Common.{map, take}
 use Rattle.std.specs.Prelude.{reverse}
 use Rattle.std.specs.List.{AllZip}
 use Rattle.world.specs.Step.{history_at}
@@ -6,4 +6,4 @@ use Rattle.tested_schedules.specs.Expectations.{IsAnswer}
 use Rattle.tested_schedules.proofs.answering.answer_words.Given as goal
 
 abbrev pub invariant-loop-word : goal.invariant-loop-word
-invariant-loop-word l = AllZip (IsAnswer l.world.now.setting (history_at l.world.now) (reverse l.world.now.log)) (map (λ w. w.now) l.yielded) l.answers.items
+invariant-loop-word l = AllZip (IsAnswer l.world.setting (history_at l.world) (reverse l.world.log)) (map (λ w. w.now) (take l.word-index l.words)) l.answers.items

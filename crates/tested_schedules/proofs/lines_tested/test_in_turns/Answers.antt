@@ -77,7 +77,7 @@ do_next-requires-clause-ready g c =
     (read_answered c.args.plant.value c.args.max_number so_far.0 (state_of c.loop-before.testing) (g.L.LineSource.left c.args.source.now) (g.L.LineSource.left c.loop-before.source) (g.W.Write.contents c.args.out.now) (g.W.Write.contents c.loop-before.out) so_far.3)
 
 pub do_next-requires-clause-few : goal.do_next-requires-clause-few
-do_next-requires-clause-few g c = let so_far = c.loop-before.invariant in omega (arith, so_far.1, so_far.3.stands.so.few, read_few so_far.0, c.loop-before.type_inv)
+do_next-requires-clause-few g c = let so_far = c.loop-before.invariant in omega (arith, so_far.1, so_far.3.stands.so.few, read_few so_far.0, c.loop-before-test.true)
 
 pub do_next-requires-clause-known : goal.do_next-requires-clause-known
 do_next-requires-clause-known g c = c.loop-before.invariant.2
