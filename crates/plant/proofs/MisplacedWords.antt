@@ -86,7 +86,7 @@ plain_word token.Unknown known none = absurd (known refl)
 plain_word _ known none = refl
 
 -- where the bodies of programs are drawn, so are those before a word
-front_drawn : (xs ys : List Token) → AreBodiesDrawn (xs ++ ys) → AreBodiesDrawn xs
+pub front_drawn : (xs ys : List Token) → AreBodiesDrawn (xs ++ ys) → AreBodiesDrawn xs
 front_drawn xs ys drawn = λ ps more formed e. drawn ps (more ++ ys) formed (ap (λ zs. zs ++ ys) e ∙ append_assoc (flat_map program_words ps) more ys)
 
 -- such is what is known of trees and the words behind them

@@ -6,7 +6,7 @@ use Rattle.plant_text.specs.declared.token.Token.{Token}
 use Rattle.plant_text.specs.declared.token.Token.TheVariants as token
 use Rattle.plant_grammar.specs.declared.grammar_fault.GrammarFaultKind.{GrammarFaultKind}
 use Rattle.plant_grammar.specs.declared.grammar.tree.Program.{Program}
-use Rattle.plant_grammar.specs.NameFaults.{RefusesBehind}
+use Rattle.plant_grammar.specs.NameFaults.{IsLastRefused}
 use Rattle.plant.specs.Faults.{kind_of_word}
 use Rattle.plant.specs.declared.plant_fault.PlantFault.{PlantFault}
 use Rattle.plant_grammar.specs.Grammar.{TextValue, Tree, program_words, words_of}
@@ -121,18 +121,8 @@ pub record IsBodyFaultIn (text : List ℕ) (fault : PlantFault) : Type 0 where
   pub declared : AreProgramsDeclared (map (λ (t : TextValue). t.program) texts)
   pub first : IsFirstBodyFault texts fault
 
--- These words are programs whose words have no fault and whose bodies have ladders, and behind them the words of a plant up
--- to the last, which is the first refused.
-pub record IsLastRefused (kind : GrammarFaultKind) (words : List Token) : Type 0 where
-  pub programs : List Program
-  pub behind : List Token
-  pub parts : words ≡ flat_map program_words programs ++ behind
-  pub declared : AreProgramsDeclared programs
-  pub drawn : All HasLadder programs
-  pub refused : RefusesBehind kind programs behind
-
--- The text begins with these words, each on its line, of which the last is at fault: what stands before it has none, and
--- the kind tells what is wrong with it. The fault is on the line of that word.
+-- The text begins with these words, each on its line, of which the last is the first refused, as the kind tells. The fault is
+-- on the line of that word, and the bodies of the programs before it have ladders.
 pub record IsWordFaultIn (text : List ℕ) (fault : PlantFault) : Type 0 where
   pub kind : GrammarFaultKind
   pub kind_is : fault.kind ≡ kind_of_word kind
@@ -140,6 +130,7 @@ pub record IsWordFaultIn (text : List ℕ) (fault : PlantFault) : Type 0 where
   pub word : WordValue
   pub begun : BeginsWithWords (without_last 13 text) (before ++ word ∷ [])
   pub refused : IsLastRefused kind (map (λ (w : WordValue). w.token) (before ++ word ∷ []))
+  pub drawn : AreBodiesDrawn (map (λ (w : WordValue). w.token) before)
   pub line_is : fault.line ≡ word.line
 
 -- The text begins with a tree whose words are lawful, and whose bodies have ladders. In the order of the text, the first

@@ -32,7 +32,7 @@ use Rattle.plant_grammar.proofs.Endings.{words_end}
 use Rattle.plant_grammar.proofs.FirstWords.{Ends, After, AfterOne, AfterSection, one_less, key_read, mark_read, name_read, body_read, number_read, duration_read, type_read, source_begin, settings_begin, first_bind_begin, more_binds_begin, lists_begin, items_begin, resources_begin, names_begin, programs_begin, may_have_binds_begin, blocks_begin}
 
 -- a list as a `Vec`
-abbrev vec_of : {A : Type 0} → (xs : List A) → length xs < 2 ^ 63 → Vec A
+abbrev pub vec_of : {A : Type 0} → (xs : List A) → length xs < 2 ^ 63 → Vec A
 vec_of xs fits = record { ptr = null_ptr; len = length xs; cap = length xs; alloc = record { memory = record { seal = tt } }; items = xs; ok = (refl, omega arith); small = fits }
 
 -- so many words that what they list fits into memory

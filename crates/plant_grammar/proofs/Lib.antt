@@ -15,6 +15,12 @@ pub mod BodyPlaces
 pub mod MisplacedWords
 pub mod RefusedNames
 pub mod RefusedPlaces
+pub mod JudgedParts
+pub mod ForgottenFaults
+pub mod SoundParts
+pub mod LiftedWords
+pub mod FaultyParts
+pub mod RefusedPrograms
 pub mod AddedNames
 pub mod ProgramVariables
 pub mod WholeTrees

@@ -16,7 +16,7 @@ ghost use Rattle.plant_text.specs.declared.token.Keyword.TheVariants as key;
 ghost use Rattle.plant_text.specs.declared.token.Punctuation.TheVariants.{Colon, Semicolon, Comma};
 ghost use Rattle.plant_grammar.specs.Grammar.{key_word, mark_word, section_words, kind_word, type_word, name_words, list_words, lists_words, block_words, program_words};
 ghost use Rattle.plant_grammar.specs.Lawful.{list_variables, lists_variables, block_variables, IsTypeLawful, IsListLawful, IsBlockLawful, IsProgramLawful, AreProgramsDeclared, MayBeDeclared, AreVariables};
-ghost use Rattle.plant_grammar.specs.NameFaults.{IsOfName, TellsOfName, RefusesVariable, RefusesOneList, RefusesList, RefusesBlock, RefusesBlocks, RefusesProgram, IsNew};
+ghost use Rattle.plant_grammar.specs.Steps.NamesRead.{IsOfName, TellsOfName, RefusesVariable, RefusesOneList, RefusesList, RefusesBlock, RefusesBlocks, RefusesProgram, IsNew};
 ghost use Rattle.plant_grammar.specs.Steps.Declaring.{TellsOfType, TellsOfVariable, TellsOfBlock, BeginRefused, BeginRefusedBehind, IsAtNext, RefusesFurtherProgram};
 ghost use Rattle.plant_grammar.specs.Steps.Lines.{next_line, syntax_at, KeepsLines, IsNotNext, IsOneNext, IsNoneNext};
 ghost use Rattle.plant_grammar.specs.Steps.ReadParts.{section_start, IsSectionWhole};

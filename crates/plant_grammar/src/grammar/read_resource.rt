@@ -23,7 +23,7 @@ ghost use Rattle.plant_grammar.specs.Names.{is_named, AreNamesApart};
 ghost use Rattle.plant_grammar.specs.Lawful.{variables, task_of, use_of, uses_of, IsUseLawful, IsResourceLawful, AreItemsLawful, AreResourcesLawful};
 ghost use Rattle.plant_grammar.specs.SourceLines.{IsUseOn, IsItemOn, EachBefore, IsResourceOn, AreSourcesOn};
 ghost use Rattle.plant_grammar.specs.Steps.Lines.{HasLinesOf, KeepsLines, IsNotNext, IsNoneNext};
-ghost use Rattle.plant_grammar.specs.NameFaults.{TellsOfName, IsUnknown, IsAfter, RefusesTask, RefusesOneBind, RefusesBind, IsNew};
+ghost use Rattle.plant_grammar.specs.Steps.NamesRead.{TellsOfName, IsUnknown, IsAfter, RefusesTask, RefusesOneBind, RefusesBind, IsNew};
 ghost use Rattle.plant_grammar.specs.Steps.Declaring.{TellsOfTask, TellsOfInstance, TellsOfMissing, TellsOfInput, TellsOfAddress, TellsOfResource, BeginRefused, IsAtNext, RefusesFurtherInstance, RefusesItem, RefusesFurtherItems, RefusesFurtherResource, RefusesFurtherResources, RefusesInParentheses};
 ghost use Rattle.plant_grammar.specs.Steps.ReadParts.{types_alone, with_instance, with_binds, tally_with, EndWithBinds, bound_in, MayFollow, KeepsLinesOf, AreKeptLines};
 ghost use Rattle.plant_grammar.specs.Steps.Expected.{Key, Mark, AName, ASource, AnItem, MayHaveBinds, TheSettings, FirstBind, MoreItems, MoreResources, interval_rest, priority_rest, task_rest, bind_rest, instance_rest, resource_rest, GetsStuck};

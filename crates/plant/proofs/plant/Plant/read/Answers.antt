@@ -1,4 +1,4 @@
-use Rattle.std.proofs.Common.{ℕ, ◌≡◌, ◌≢◌, ◌<◌, ◌^◌, inl, inr, List, [], ◌++◌, All, length, map, ap, refl, sym, subst, ◌∙◌, arith}
+use Rattle.std.proofs.Common.{ℕ, ◌≡◌, ◌≢◌, ◌<◌, ◌^◌, inl, inr, List, [], ◌∷◌, ◌++◌, All, length, map, ap, refl, sym, subst, ◌∙◌, arith}
 use Rattle.std.proofs.lemmas.List.{append-nil, append_cancel_right, map-append, length-map}
 use Rattle.words.specs.Lines.{without_last}
 use Rattle.plant_text.specs.declared.token.Token.{Token}
@@ -6,7 +6,7 @@ use Rattle.plant_text.specs.declared.token.Token.TheVariants as token
 use Rattle.plant_text.specs.Spelling.{Spells}
 use Rattle.plant_text.specs.Lines.{WordValue, body_lines}
 use Rattle.plant_grammar.specs.Grammar.{Tree, words_of}
-use Rattle.plant_grammar.specs.NameFaults as names
+use Rattle.plant_grammar.specs.Steps.NamesRead as names
 use Rattle.plant_grammar.specs.Lawful.{all_uses, IsTreeLawful}
 use Rattle.plant_grammar.specs.declared.grammar_fault.GrammarFault.{GrammarFault}
 use Rattle.plant_grammar.specs.Steps.Lines.{ReaderValue, HasLinesOf}
@@ -20,7 +20,7 @@ use Rattle.plant.specs.Faultless.{AreBindsFed, IsTreeFaultless}
 use Rattle.plant.specs.SourceFaults.{HasFirstSourceFault}
 use Rattle.plant.specs.declared.plant_fault.PlantFaultKind.TheVariants.{Memory, Syntax}
 use Rattle.plant_grammar.specs.Steps.Reading.{programs_of}
-use Rattle.plant.specs.PlantText.{IsNoPlant, HasFaultlessWords, IsSyntaxIn, IsBodyFaultIn, IsNameFaultIn}
+use Rattle.plant.specs.PlantText.{IsNoPlant, HasFaultlessWords, AreBodiesDrawn, IsSyntaxIn, IsBodyFaultIn, IsNameFaultIn}
 use Rattle.plant.proofs.SameTrees.{ladders_same, sources_same}
 use Rattle.plant.specs.StandsFor.{IsPlantOf}
 use Rattle.plant.specs.Steps.Reading.{ReadingValue, tree_of}
@@ -28,7 +28,7 @@ use Rattle.plant.proofs.BodyCounts.{begun_by_programs}
 use Rattle.plant.proofs.DrawnTrees.{drawn_tree, drawn_have_ladders, bodies_drawn}
 use Rattle.plant.proofs.WordFaults.{plant_of_word, no_body, of_name, no_name, memory_no_body, memory_no_name, body_no_name, syntax_no_memory, body_no_syntax, of_syntax, source_no_syntax}
 use Rattle.plant.proofs.KnownWords.{words_known}
-use Rattle.plant.proofs.MisplacedWords.{no_tree, syntax_first}
+use Rattle.plant.proofs.MisplacedWords.{front_drawn, no_tree, syntax_first}
 use Rattle.plant_grammar.specs.SourceLines.{AreSourcesOn}
 use Rattle.plant.proofs.CutSources.{sources_cut}
 use Rattle.plant.proofs.RefusedKnown.{begun_by_front, begun_by_refused, own_lines}
@@ -116,21 +116,18 @@ returns-in_err-resources-clause-name c =
     let left = subst (λ (vs : List WordValue). HasLinesOf (map (λ (w : WordValue). w.line) vs) c.new-reader.result) c.words-2.ensures.value own in
     let met = c.in_err-resources.ensures.name (map (λ (w : WordValue). w.line) ws) left (of_name word.kind of) in
     let texts = c.read_tree-tree.new.texts.items in
-    let begun = begun_by_refused (without_last 13 c.args.text.now) (programs_of texts) ws word.kind word.line c.new-reader.result.words c.in_ok-words.ensures.begun words met in
+    let few : length ws < 2 ^ 63 = subst (λ (vs : List WordValue). length vs < 2 ^ 63) c.words-2.ensures.value c.words-2.ensures.few in
+    let begun = begun_by_refused (without_last 13 c.args.text.now) (programs_of texts) ws word.kind word.line c.new-reader.result.words c.in_ok-words.ensures.begun words few met in
+    let token_of : WordValue → Token = λ (w : WordValue). w.token in
+    let drawn = bodies_drawn (map token_of (begun.before ++ begun.word ∷ [])) texts c.in_ok-types.types.items c.in_ok-types.ensures.ok begun.alone in
     inl (record {
       kind = word.kind;
       kind_is = refl;
       before = begun.before;
       word = begun.word;
       begun = begun.begun;
-      refused = record {
-        programs = programs_of texts;
-        behind = begun.refused.more;
-        parts = begun.refused.parts;
-        declared = c.read_tree-tree.ensures.declared;
-        drawn = drawn_have_ladders texts c.in_ok-types.types.items c.in_ok-types.ensures.ok;
-        refused = begun.refused.holds;
-      };
+      refused = begun.refused;
+      drawn = front_drawn (map token_of begun.before) (begun.word.token ∷ []) (subst AreBodiesDrawn (map-append token_of begun.before (begun.word ∷ [])) drawn);
       line_is = begun.line_is;
     }))
 

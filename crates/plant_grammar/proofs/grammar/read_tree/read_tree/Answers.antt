@@ -3,11 +3,13 @@ use Rattle.std.specs.List.{flat_map}
 use Rattle.lists.proofs.Results.{kept_fault}
 use Rattle.plant_grammar.specs.Grammar.{Tree, TextValue, words_of}
 use Rattle.plant_grammar.specs.Lawful.{uses_of, AreResourcesLawful}
-use Rattle.plant_grammar.specs.NameFaults.{RefusesResources}
-use Rattle.plant_grammar.specs.Steps.Declaring.{BeginWith, BeginRefused, IsLineBefore, RefusesFurtherProgram, RefusesPlantWords}
+use Rattle.plant_grammar.specs.Steps.NamesRead.{RefusesResources}
+use Rattle.plant_grammar.specs.Steps.Declaring.{BeginWith, BeginRefused, IsLineBefore, RefusesFurtherProgram, RefusesPlantWords, RefusesFirst}
 use Rattle.plant_grammar.specs.Steps.ReadParts.{tally_with, types_alone}
 use Rattle.plant_grammar.specs.Steps.Reading.{programs_of, all_words, AreAllPrograms, tree_written}
+use Rattle.plant_grammar.proofs.RefusedNames.{begin_with}
 use Rattle.plant_grammar.proofs.RefusedPlaces.{further_program, in_configuration}
+use Rattle.plant_grammar.proofs.RefusedPrograms.{first_refused}
 use Rattle.plant_grammar.proofs.WholeTrees.{tree_is, begun_words, begin_with_texts}
 use Rattle.plant_text.specs.declared.token.Token.{Token}
 use Rattle.plant_grammar.specs.declared.grammar_fault.GrammarFaultKind.TheVariants.{Memory, Syntax}
@@ -50,9 +52,10 @@ returns-in_err-programs-clause-name c =
     let fault = c.in_err-programs.field-0.0 in
     let start = c.args.reader.now.words in
     let programs = programs_of c.programs.new.texts.items in
-    kept_fault fault (BeginRefused (RefusesPlantWords programs) c.args.reader.now) c.from_residual.result c.from_residual.ensures.1
-    (λ all h of. further_program fault.kind programs start
-    (subst (λ (ts : List TextValue). BeginWith (IsLineBefore all fault.line) (RefusesFurtherProgram programs fault.kind) (all_words ts start)) c.requires (c.in_err-programs.ensures.names all h of)))
+    kept_fault fault (BeginRefused (RefusesFirst programs) c.args.reader.now) c.from_residual.result c.from_residual.ensures.1
+    (λ all h of. begin_with (RefusesPlantWords programs fault.kind) (RefusesFirst programs fault.kind) start (λ front refuses. first_refused fault.kind programs front of c.programs.ensures.declared refuses)
+    (further_program fault.kind programs start
+    (subst (λ (ts : List TextValue). BeginWith (IsLineBefore all fault.line) (RefusesFurtherProgram programs fault.kind) (all_words ts start)) c.requires (c.in_err-programs.ensures.names all h of))))
 
 pub returns-in_err-resources-clause-name : read_tree_goals.returns-in_err-resources-clause-name
 returns-in_err-resources-clause-name c =
@@ -61,9 +64,10 @@ returns-in_err-resources-clause-name c =
     let texts = c.programs.new.texts.items in
     let one = c.programs.new.self.words in
     let written = begun_words c.args.texts.now.items texts start one c.requires c.in_ok-programs.ensures.ok in
-    kept_fault fault (BeginRefused (RefusesPlantWords (programs_of texts)) c.args.reader.now) c.from_residual-in_err-resources.result c.from_residual-in_err-resources.ensures.1
-    (λ all h of. in_configuration fault.kind (programs_of texts) c.in_ok-_name._name c.new-tally.result start one c.keyword.new.self.words c.name.new.self.words written c.in_ok-keyword.ensures.ok c.in_ok-_name.ensures.ok c.new-tally.ensures
-    (subst (λ (ts : List TextValue). BeginWith (IsLineBefore all fault.line) (RefusesResources fault.kind c.new-tally.result.instances c.new-tally.result.binds (programs_of ts)) c.name.new.self.words) c.as_slice.ensures.value (c.in_err-resources.ensures.names all (c.in_ok-_name.ensures.left.0 all (c.in_ok-keyword.ensures.left.0 all (c.in_ok-programs.ensures.left.0 all h))) of)))
+    kept_fault fault (BeginRefused (RefusesFirst (programs_of texts)) c.args.reader.now) c.from_residual-in_err-resources.result c.from_residual-in_err-resources.ensures.1
+    (λ all h of. begin_with (RefusesPlantWords (programs_of texts) fault.kind) (RefusesFirst (programs_of texts) fault.kind) start (λ front refuses. first_refused fault.kind (programs_of texts) front of c.programs.ensures.declared refuses)
+    (in_configuration fault.kind (programs_of texts) c.in_ok-_name._name c.new-tally.result start one c.keyword.new.self.words c.name.new.self.words written c.in_ok-keyword.ensures.ok c.in_ok-_name.ensures.ok c.new-tally.ensures
+    (subst (λ (ts : List TextValue). BeginWith (IsLineBefore all fault.line) (RefusesResources fault.kind c.new-tally.result.instances c.new-tally.result.binds (programs_of ts)) c.name.new.self.words) c.as_slice.ensures.value (c.in_err-resources.ensures.names all (c.in_ok-_name.ensures.left.0 all (c.in_ok-keyword.ensures.left.0 all (c.in_ok-programs.ensures.left.0 all h))) of))))
 
 pub returns-in_err-programs-clause-refused : read_tree_goals.returns-in_err-programs-clause-refused
 returns-in_err-programs-clause-refused c =

@@ -7,7 +7,7 @@ use Rattle.plant_grammar.specs.Grammar.{bind_words}
 use Rattle.plant_grammar.specs.Kinds.{IsOfInputKind}
 use Rattle.plant_grammar.specs.Lawful.{variables}
 use Rattle.plant_grammar.proofs.NewNames.{bind_name}
-use Rattle.plant_grammar.specs.NameFaults.{RefusesOneBind, IsNew}
+use Rattle.plant_grammar.specs.Steps.NamesRead.{RefusesOneBind, IsNew}
 use Rattle.plant_grammar.specs.Steps.Declaring.{BeginRefused}
 use Rattle.plant_grammar.proofs.ReadLines.{line_before}
 use Rattle.plant_grammar.proofs.RefusedPlaces.{input_refused, address_refused}

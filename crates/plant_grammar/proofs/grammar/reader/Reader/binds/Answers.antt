@@ -6,7 +6,7 @@ use Rattle.plant_grammar.specs.Kinds.{IsOfInputKind}
 use Rattle.plant_grammar.specs.Lawful.{variables}
 use Rattle.plant_grammar.proofs.WordLists.{binds_more, grown, all_more}
 use Rattle.plant_grammar.proofs.ResourceLines.{bind_counted}
-use Rattle.plant_grammar.specs.NameFaults.{RefusesOneBind, RefusesBind, IsNew}
+use Rattle.plant_grammar.specs.Steps.NamesRead.{RefusesOneBind, RefusesBind, IsNew}
 use Rattle.plant_grammar.specs.Steps.Declaring.{BeginWith, BeginRefused, IsLineBefore}
 use Rattle.lists.proofs.Results.{kept_fault}
 use Rattle.plant_grammar.proofs.RefusedPlaces.{first_bind, next_bind}

@@ -5,7 +5,7 @@ use Rattle.plant_grammar.specs.declared.grammar.tree.Section.{Section}
 use Rattle.plant_grammar.specs.declared.grammar.tree.NameList.{NameList}
 use Rattle.plant_grammar.specs.Grammar.{section_words, lists_words}
 use Rattle.plant_grammar.specs.Lawful.{lists_variables, IsListLawful, AreVariables}
-use Rattle.plant_grammar.specs.NameFaults.{RefusesBlock}
+use Rattle.plant_grammar.specs.Steps.NamesRead.{RefusesBlock}
 use Rattle.plant_grammar.specs.Steps.Declaring.{BeginRefused}
 use Rattle.lists.proofs.Results.{kept_fault}
 use Rattle.plant_grammar.proofs.RefusedPlaces.{in_block}

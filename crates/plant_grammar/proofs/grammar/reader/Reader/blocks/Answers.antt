@@ -2,7 +2,7 @@ use Rattle.std.proofs.Common.{◌≡◌, ◌≢◌, ◌++◌, [], ◌∷◌, Lis
 use Rattle.plant_grammar.specs.Lawful.{block_variables, IsBlockLawful, AreVariables}
 use Rattle.plant_grammar.specs.Grammar.{block_words}
 use Rattle.plant_grammar.proofs.WordLists.{words_more, declared_more, all_more}
-use Rattle.plant_grammar.specs.NameFaults.{RefusesBlocks}
+use Rattle.plant_grammar.specs.Steps.NamesRead.{RefusesBlocks}
 use Rattle.plant_grammar.specs.Steps.Declaring.{BeginRefused}
 use Rattle.lists.proofs.Results.{kept_fault}
 use Rattle.plant_grammar.proofs.RefusedPlaces.{block_refused}

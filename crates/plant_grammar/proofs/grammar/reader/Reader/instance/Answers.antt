@@ -2,9 +2,9 @@ use Rattle.std.proofs.Common.{◌≡◌, ◌≢◌, ◌++◌, ◌∷◌, [], Lis
 use Rattle.std.specs.Prelude.{All}
 use Rattle.plant_grammar.specs.Kinds.{IsOfInputKind}
 use Rattle.plant_grammar.specs.Lawful.{variables, use_of, binds_of, IsUseLawful}
-use Rattle.plant_grammar.proofs.FoundTypes.{found_type}
+use Rattle.plant_grammar.proofs.FoundTypes.{found_type, found_program}
 use Rattle.plant_grammar.specs.Steps.ReadParts.{TallyValue, bound_in, types_alone}
-use Rattle.plant_grammar.specs.NameFaults.{RefusesInstance, IsNew}
+use Rattle.plant_grammar.specs.Steps.NamesRead.{RefusesInstance, IsNew}
 use Rattle.plant_grammar.specs.Steps.Declaring.{BeginRefused}
 use Rattle.lists.proofs.Results.{kept_fault}
 use Rattle.plant_grammar.specs.Steps.Reading.{programs_of}
@@ -41,7 +41,7 @@ returns-in_err-binds-clause-names c =
     (λ all h of. in_instance fault.kind c.args.tally.now.instances c.args.tally.now.binds programs c.args.before.now c.in_ok-instance.instance c.args.self.now.words c.instance_start.new.self.words c.in_ok-instance.ensures.ok (c.in_ok-instance.ensures.new, c.in_ok-instance.ensures.few)
     (binds_of_type fault.kind c.args.tally.now.binds c.instance_start.new.tally.binds programs c.args.before.now c.in_ok-task.task _ _ c.instance_start.new.self.words c.task_of_instance.new.self.words c.type_of_instance.new.self.words
     c.in_ok-task.ensures.ok c.in_ok-task.ensures.known c.in_ok-program.ensures.ok
-    (found_type c.args.types.now _ _ (λ p. p ≡ _) c.in_ok-program.ensures.found refl)
+    (found_program c.args.types.now _ _ c.in_ok-program.ensures.found)
     (ap (λ (t : TallyValue). t.binds) c.in_ok-instance.ensures.tally) (c.in_err-binds.ensures.names all (c.in_ok-program.ensures.left.0 all (c.in_ok-task.ensures.left.0 all (c.in_ok-instance.ensures.left.0 all h))) of)))
 
 pub returns-in_err-instance-clause-names : instance_goals.returns-in_err-instance-clause-names

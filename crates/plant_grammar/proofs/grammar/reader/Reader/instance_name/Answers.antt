@@ -6,7 +6,7 @@ use Rattle.plant_text.specs.declared.token.Token.TheVariants as token
 use Rattle.plant_grammar.specs.declared.grammar_fault.GrammarFaultKind.TheVariants.{Memory}
 use Rattle.plant_grammar.specs.declared.grammar.tree.Use.{Use}
 use Rattle.plant_grammar.specs.Lawful.{use_of}
-use Rattle.plant_grammar.specs.NameFaults.{IsNew}
+use Rattle.plant_grammar.specs.Steps.NamesRead.{IsNew}
 use Rattle.plant_grammar.specs.Steps.Declaring.{TellsOfInstance}
 use Rattle.plant_grammar.proofs.NewNames.{new_allowed}
 use Rattle.plant_grammar.proofs.RefusedNames.{too_many_next}

@@ -5,7 +5,7 @@ use Rattle.plant_grammar.specs.Steps.ReadParts.{types_alone, MayFollow}
 use Rattle.plant_grammar.proofs.WordLists.{words_more, items_done}
 use Rattle.plant_grammar.proofs.ResourceLines.{items_more, tally_more}
 use Rattle.plant_grammar.specs.declared.grammar.tree.Item.{Item}
-use Rattle.plant_grammar.specs.NameFaults.{RefusesItems}
+use Rattle.plant_grammar.specs.Steps.NamesRead.{RefusesItems}
 use Rattle.plant_grammar.specs.Steps.Declaring.{BeginWith, BeginRefused, IsLineBefore, RefusesItem}
 use Rattle.plant_grammar.specs.Steps.Reading.{programs_of}
 use Rattle.lists.proofs.Results.{kept_fault}

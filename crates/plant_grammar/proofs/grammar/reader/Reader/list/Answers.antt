@@ -1,5 +1,5 @@
 use Rattle.std.proofs.Common.{[], ◌∷◌}
-use Rattle.plant_grammar.specs.NameFaults.{RefusesOneList}
+use Rattle.plant_grammar.specs.Steps.NamesRead.{RefusesOneList}
 use Rattle.plant_grammar.specs.Steps.Declaring.{BeginRefused}
 use Rattle.plant_text.specs.declared.token.Punctuation.TheVariants.{Colon, Semicolon}
 use Rattle.plant_grammar.specs.Steps.Expected.{Mark, AName, AType, list_rest, GetsStuck}

@@ -2,7 +2,7 @@ use Rattle.std.proofs.Common.{◌≡◌, ◌≢◌, ◌++◌, [], ◌∷◌, Lis
 use Rattle.plant_grammar.specs.Lawful.{list_variables, lists_variables, IsListLawful, AreVariables}
 use Rattle.plant_grammar.specs.Grammar.{list_words, lists_words}
 use Rattle.plant_grammar.proofs.WordLists.{words_more, declared_more, all_more, lists_done}
-use Rattle.plant_grammar.specs.NameFaults.{RefusesList}
+use Rattle.plant_grammar.specs.Steps.NamesRead.{RefusesList}
 use Rattle.plant_grammar.specs.Steps.Declaring.{BeginRefused}
 use Rattle.lists.proofs.Results.{kept_fault}
 use Rattle.plant_grammar.proofs.RefusedPlaces.{list_refused}

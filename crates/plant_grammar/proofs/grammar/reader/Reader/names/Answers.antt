@@ -7,7 +7,7 @@ use Rattle.plant_grammar.specs.Lawful.{MayBeDeclared}
 use Rattle.plant_grammar.proofs.AddedNames.{one_more_declared, first_declared}
 use Rattle.plant_grammar.proofs.NewNames.{first_refused, next_refused, all_names}
 use Rattle.plant_grammar.proofs.WordLists.{names_more, grown}
-use Rattle.plant_grammar.specs.NameFaults.{RefusesVariable, IsNew}
+use Rattle.plant_grammar.specs.Steps.NamesRead.{RefusesVariable, IsNew}
 use Rattle.plant_grammar.specs.Steps.Declaring.{BeginRefused}
 use Rattle.lists.proofs.Results.{kept_fault}
 use Rattle.plant_grammar.proofs.ReadLines.{line_before}

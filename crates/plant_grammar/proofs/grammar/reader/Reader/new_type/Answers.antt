@@ -2,7 +2,7 @@ use Rattle.std.proofs.Common.{◌≡◌, ◌≢◌, ◌≤◌, ◌<◌, [], ◌�
 use Rattle.plant_text.specs.declared.token.Token.{Token}
 use Rattle.plant_text.specs.declared.token.Token.TheVariants as token
 use Rattle.plant_grammar.specs.declared.grammar_fault.GrammarFaultKind.TheVariants.{Memory}
-use Rattle.plant_grammar.specs.NameFaults.{IsNew}
+use Rattle.plant_grammar.specs.Steps.NamesRead.{IsNew}
 use Rattle.plant_grammar.specs.Steps.Expected.{AName, GetsStuck}
 use Rattle.plant_grammar.proofs.UnexpectedWords.{name_stuck}
 use Rattle.plant_grammar.proofs.NewNames.{new_allowed}

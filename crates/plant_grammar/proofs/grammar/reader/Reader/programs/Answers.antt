@@ -8,7 +8,7 @@ use Rattle.plant_grammar.specs.declared.grammar.tree.Program.{Program}
 use Rattle.plant_grammar.specs.Steps.Reading.{programs_of, lines_of, all_words, AreAllPrograms}
 use Rattle.plant_grammar.proofs.FoundTypes.{programs_more, map-grown}
 use Rattle.plant_grammar.proofs.WordLists.{words_more}
-use Rattle.plant_grammar.specs.NameFaults.{RefusesProgram, IsNew}
+use Rattle.plant_grammar.specs.Steps.NamesRead.{RefusesProgram, IsNew}
 use Rattle.plant_grammar.specs.Steps.Declaring.{BeginWith, BeginRefusedBehind, IsLineBefore, RefusesFurtherProgram}
 use Rattle.lists.proofs.Results.{kept_fault}
 use Rattle.plant_grammar.proofs.RefusedPlaces.{program_refused}

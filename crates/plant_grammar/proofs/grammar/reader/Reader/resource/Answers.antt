@@ -1,4 +1,4 @@
-use Rattle.plant_grammar.specs.NameFaults.{RefusesResource, IsNew}
+use Rattle.plant_grammar.specs.Steps.NamesRead.{RefusesResource, IsNew}
 use Rattle.plant_grammar.specs.Steps.Declaring.{BeginRefused}
 use Rattle.plant_grammar.specs.Steps.Reading.{programs_of}
 use Rattle.lists.proofs.Results.{kept_fault}

@@ -5,7 +5,7 @@ use Rattle.plant_grammar.specs.Grammar.{resource_words, resources_words}
 use Rattle.plant_grammar.specs.Steps.ReadParts.{types_alone}
 use Rattle.plant_grammar.proofs.WordLists.{words_more, resources_done}
 use Rattle.plant_grammar.proofs.ResourceLines.{resources_more, tally_more}
-use Rattle.plant_grammar.specs.NameFaults.{RefusesResource, RefusesResources, IsNew}
+use Rattle.plant_grammar.specs.Steps.NamesRead.{RefusesResource, RefusesResources, IsNew}
 use Rattle.plant_grammar.specs.Steps.Declaring.{BeginWith, BeginRefused, IsLineBefore}
 use Rattle.plant_grammar.specs.Steps.Reading.{programs_of}
 use Rattle.lists.proofs.Results.{kept_fault}

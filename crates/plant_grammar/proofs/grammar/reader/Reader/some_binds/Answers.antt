@@ -1,6 +1,6 @@
 use Rattle.plant_text.specs.declared.token.Punctuation.TheVariants.{Open, Semicolon}
 use Rattle.plant_grammar.specs.Grammar.{mark_word, binds_words}
-use Rattle.plant_grammar.specs.NameFaults.{IsAfter, RefusesBind}
+use Rattle.plant_grammar.specs.Steps.NamesRead.{IsAfter, RefusesBind}
 use Rattle.plant_grammar.specs.Steps.Declaring.{BeginRefused}
 use Rattle.lists.proofs.Results.{kept_fault}
 use Rattle.plant_grammar.proofs.RefusedPlaces.{in_binds}

@@ -1,4 +1,4 @@
-use Rattle.plant_grammar.specs.NameFaults.{RefusesTask}
+use Rattle.plant_grammar.specs.Steps.NamesRead.{RefusesTask}
 use Rattle.plant_grammar.specs.Steps.Declaring.{BeginRefused}
 use Rattle.lists.proofs.Results.{kept_fault}
 use Rattle.plant_grammar.proofs.ReadLines.{line_before}

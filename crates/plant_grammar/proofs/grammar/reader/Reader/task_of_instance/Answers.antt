@@ -3,7 +3,7 @@ use Rattle.plant_text.specs.declared.token.Keyword.TheVariants.{With}
 use Rattle.plant_grammar.specs.declared.grammar.tree.TaskLine.{TaskLine}
 use Rattle.plant_grammar.specs.Grammar.{key_word}
 use Rattle.plant_grammar.specs.Lawful.{task_of}
-use Rattle.plant_grammar.specs.NameFaults.{IsUnknown}
+use Rattle.plant_grammar.specs.Steps.NamesRead.{IsUnknown}
 use Rattle.plant_grammar.proofs.ReadLines.{line_before}
 use Rattle.plant_grammar.proofs.RefusedNames.{both_told, unknown_next, begin_after}
 use Rattle.std.proofs.Common.{◌∷◌, []}

@@ -3,7 +3,7 @@ use Rattle.plant_text.specs.declared.token.Punctuation.TheVariants.{Colon}
 use Rattle.plant_grammar.specs.declared.grammar_fault.GrammarFault.{GrammarFault}
 use Rattle.plant_grammar.specs.declared.grammar.tree.Program.{Program}
 use Rattle.plant_grammar.specs.Grammar.{mark_word}
-use Rattle.plant_grammar.specs.NameFaults.{IsUnknown}
+use Rattle.plant_grammar.specs.Steps.NamesRead.{IsUnknown}
 use Rattle.plant_grammar.specs.Steps.Reading.{programs_of}
 use Rattle.plant_grammar.proofs.FoundTypes.{missed_type}
 use Rattle.plant_grammar.proofs.ReadLines.{line_before}
