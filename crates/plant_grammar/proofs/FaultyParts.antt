@@ -44,7 +44,7 @@ use Rattle.plant_grammar.specs.WellFormed.{HasNames, IsBlockWellFormed, IsProgra
 use Rattle.plant_grammar.specs.NameFaults.{input_name, may_take, judged_source, judged_type, judged_variable, judged_list, judged_block, judged_program, judged_task, judged_bind, judged_binds, variables_named, judged_use, judged_item, judged_resource, judged_of, IsLastRefused}
 use Rattle.plant_grammar.specs.Steps.NamesRead.{IsOfName, Tells, TellsOfName, TellsOfSoughtName, IsNameTaken, IsNew, IsRefused, IsUnknown, IsAfter, IsAfterName, IsAfterWhole, name_and_comma, bind_and_comma, RefusesVariable, RefusesType, RefusesOneList, RefusesList, RefusesBlock, RefusesBlocks, MayNameProgram, RefusesProgram, RefusesTask, RefusesInput, RefusesAddress, RefusesOneBind, RefusesBind, RefusesTyped, RefusesBinds, MayNameInstance, RefusesInstance, RefusesItems, MayNameResource, RefusesResource, RefusesResources, RefusesBehind}
 use Rattle.plant_grammar.specs.Steps.SameNames.{named_back, named_both}
-use Rattle.plant_grammar.specs.Steps.SoundWords.{Fits, EndsFaulty, judged_names, judged_lists, AreListsFormed, judged_blocks, AreBlocksFormed, judged_in_parentheses, IsItemFormed, judged_items, AreItemsFormed, judged_resources_behind, AreResourcesFormed}
+use Rattle.plant_grammar.specs.Steps.SoundWords.{Fits, EndsFaulty, judged_names, judged_lists, AreListsFormed, judged_blocks, AreBlocksFormed, bind_behind, judged_in_parentheses, IsItemFormed, item_behind, judged_items, AreItemsFormed, judged_resources_behind, AreResourcesFormed}
 use Rattle.plant_grammar.proofs.DecodedWords.{vec_of}
 use Rattle.plant_grammar.proofs.FoundTypes.{found_any}
 use Rattle.plant_grammar.proofs.RefusedNames.{tells_with}
@@ -289,7 +289,7 @@ misfit value.Time Bit other = refl
 misfit value.Time Word other = refl
 
 -- a bind up to the word refused
-bind_faulty : (k : GrammarFaultKind) (n : ℕ) (ds : List Declaration) (before : List Bind) (words : List Token) → IsOfName k → All (IsOfInputKind ds) before → RefusesOneBind (n + length before) ds before k words → EndsFaulty (judged_bind ds n before) (λ (b : Bind). Unit {0}) k words
+bind_faulty : (k : GrammarFaultKind) (n : ℕ) (ds : List Declaration) (before : List Bind) (words : List Token) → IsOfName k → All (IsOfInputKind ds) before → RefusesOneBind n ds before k words → EndsFaulty (judged_bind ds n before) (λ (b : Bind). Unit {0}) k words
 unfolding judged_bind
 bind_faulty k n ds before words of kinds (inl r) =
     let s = source.Output [] [] [] in
@@ -300,7 +300,7 @@ bind_faulty k n ds before words of kinds (inl r) =
       parts = r.alone;
       value = record { input = r.name; source = s };
       more = behind;
-      judged = ap (λ (j : Judged). j ∷ behind) (input_told k ds before (n + length before) r.name kinds of r.told);
+      judged = ap (λ (j : Judged). j ∷ behind) (input_told k ds before n r.name kinds of r.told);
       holds = tt;
     }
 bind_faulty k n ds before words of kinds (inr r) =
@@ -316,7 +316,7 @@ bind_faulty k n ds before words of kinds (inr r) =
       parts = r.parts;
       value = record { input = r.input; source = s };
       more = [];
-      judged = ap (λ (j : Judged). j ∷ sound (mark_word Assign) ∷ judged_source (input_kind_of ds r.input) s) (input_sound ds before (n + length before) r.input r.its r.its_is (not_among (λ (b : Bind). b.input) before r.input r.new) r.few)
+      judged = ap (λ (j : Judged). j ∷ sound (mark_word Assign) ∷ judged_source (input_kind_of ds r.input) s) (input_sound ds before n r.input r.its r.its_is (not_among (λ (b : Bind). b.input) before r.input r.new) r.few)
           ∙ ap (λ (o : Option Kind). sound (token.Name r.input) ∷ sound (mark_word Assign) ∷ judged_source o s) r.its_is
           ∙ ap (λ (a : List Judged). sound (token.Name r.input) ∷ sound (mark_word Assign) ∷ a) source;
       holds = tt;
@@ -327,7 +327,7 @@ unfolding RefusesBind
 binds_faulty k n ds words of h =
     let front = flat_map bind_and_comma h.whole in
     behind_words k (judged_in_parentheses ds n) Fits words (front ++ h.more) h.parts
-    (lift_faulty k front h.more (judged_bind ds n h.whole) (λ (b : Bind). Unit {0}) (judged_in_parentheses ds n) Fits (bind_in_binds ds n h.whole h.lawful) (bind_faulty k n ds h.whole h.more of h.lawful.kinds h.holds))
+    (lift_faulty k front h.more (bind_behind ds n h.whole) (λ (b : Bind). Unit {0}) (judged_in_parentheses ds n) Fits (bind_in_binds ds n h.whole h.lawful) (bind_faulty k (n + length h.whole) ds h.whole h.more of h.lawful.kinds h.holds))
 
 -- what is known of an instance up to its name
 abbrev NamesInstance : ℕ → List Item → List ℕ → Type 0
@@ -359,13 +359,13 @@ typed_faulty k i m programs before name task words of (new, few) known (inl r) =
       holds = tt;
     }
 typed_faulty k i m programs before name task words of (new, few) known (inr r) =
-    let open = r.after.holds in
+    let binds = r.after.holds in
     let front : List Token = key_word key.Program ∷ token.Name name ∷ key_word key.With ∷ token.Name task ∷ mark_word Colon ∷ token.Name r.name ∷ mark_word Open ∷ [] in
-    let parts : words ≡ token.Name r.name ∷ mark_word Open ∷ open.more = after_word (token.Name r.name) words r.after.more (mark_word Open ∷ open.more) r.after.parts open.parts in
+    let parts : words ≡ token.Name r.name ∷ mark_word Open ∷ binds.more = after_word (token.Name r.name) words r.after.more (mark_word Open ∷ binds.more) r.after.parts binds.parts in
     let is : IsTyped programs i before name task r.name r.type = record { new = new; few = few; task_is = known; type_is = found_among programs r.name r.type r.known; found = r.known } in
-    behind_words k (judged_use programs i m before) (λ (u : Use). Unit {0}) (key_word key.Program ∷ token.Name name ∷ key_word key.With ∷ token.Name task ∷ mark_word Colon ∷ words) (front ++ open.more)
+    behind_words k (judged_use programs i m before) (λ (u : Use). Unit {0}) (key_word key.Program ∷ token.Name name ∷ key_word key.With ∷ token.Name task ∷ mark_word Colon ∷ words) (front ++ binds.more)
     (ap (λ (r : List Token). key_word key.Program ∷ token.Name name ∷ key_word key.With ∷ token.Name task ∷ mark_word Colon ∷ r) parts)
-    (lift_faulty k front open.more (judged_in_parentheses (variables r.type) m) Fits (judged_use programs i m before) (λ (u : Use). Unit {0}) (binds_in_use programs i m before name task r.name r.type is) (binds_faulty k m (variables r.type) open.more of open.holds))
+    (lift_faulty k front binds.more (judged_in_parentheses (variables r.type) m) Fits (judged_use programs i m before) (λ (u : Use). Unit {0}) (binds_in_use programs i m before name task r.name r.type is) (binds_faulty k m (variables r.type) binds.more of binds.holds))
 
 -- an instance up to its task, or to a word behind it
 behind_name_faulty : (k : GrammarFaultKind) (i m : ℕ) (programs : List Program) (before : List Item) (name : List ℕ) (words : List Token) → IsOfName k → NamesInstance i before name → RefusesBinds k m programs before words
@@ -426,14 +426,14 @@ unfolding RefusesItems
 items_faulty k i m programs words of apart fits h =
     let front = flat_map item_words h.whole in
     behind_words k (judged_items programs i m) AreItemsFormed words (front ++ h.more) h.parts
-    (lift_faulty k front h.more (judged_item programs i m h.whole) IsItemFormed (judged_items programs i m) AreItemsFormed (item_in_items programs i m h.whole apart h.lawful (front_fits front h.more words h.parts fits)) (go h.holds))
+    (lift_faulty k front h.more (item_behind programs i m h.whole) IsItemFormed (judged_items programs i m) AreItemsFormed (item_in_items programs i m h.whole apart h.lawful (front_fits front h.more words h.parts fits)) (go h.holds))
   where
     uses : List Use
     uses = flat_map use_of h.whole
 
-    go : RefusesTask k h.whole h.more ⊎ RefusesInstance k (i + length uses) (m + length (flat_map binds_of uses)) programs h.whole h.more → EndsFaulty (judged_item programs i m h.whole) IsItemFormed k h.more
-    go (inl t) = lift_faulty k [] h.more (judged_task (flat_map task_of h.whole)) (λ (t : TaskLine). 0 < t.interval) (judged_item programs i m h.whole) IsItemFormed (task_in_item programs i m h.whole) (task_faulty k h.whole h.more of t)
-    go (inr u) = lift_faulty k [] h.more (judged_use programs (i + length uses) (m + length (flat_map binds_of uses)) h.whole) (λ (u : Use). Unit {0}) (judged_item programs i m h.whole) IsItemFormed (use_in_item programs i m h.whole) (use_faulty k (i + length uses) (m + length (flat_map binds_of uses)) programs h.whole h.more of u)
+    go : RefusesTask k h.whole h.more ⊎ RefusesInstance k (i + length uses) (m + length (flat_map binds_of uses)) programs h.whole h.more → EndsFaulty (item_behind programs i m h.whole) IsItemFormed k h.more
+    go (inl t) = lift_faulty k [] h.more (judged_task (flat_map task_of h.whole)) (λ (t : TaskLine). 0 < t.interval) (item_behind programs i m h.whole) IsItemFormed (task_in_item programs (i + length uses) (m + length (flat_map binds_of uses)) h.whole) (task_faulty k h.whole h.more of t)
+    go (inr u) = lift_faulty k [] h.more (judged_use programs (i + length uses) (m + length (flat_map binds_of uses)) h.whole) (λ (u : Use). Unit {0}) (item_behind programs i m h.whole) IsItemFormed (use_in_item programs (i + length uses) (m + length (flat_map binds_of uses)) h.whole) (use_faulty k (i + length uses) (m + length (flat_map binds_of uses)) programs h.whole h.more of u)
 
 -- a resource up to its name, or to a word in its lines
 resource_faulty : (k : GrammarFaultKind) (i m : ℕ) (programs : List Program) (before : List Resource) (words : List Token) → IsOfName k → AreNamesApart (map (λ (p : Program). p.name) programs) → Fits words → RefusesResource k i m programs before words

@@ -1,5 +1,5 @@
 -- Judged words without their faults are the words.
-use Rattle.std.proofs.Common.{◌≡◌, ℕ, List, [], ◌∷◌, ◌++◌, length, map, Option, Some, None, refl, sym, ap, ◌∙◌}
+use Rattle.std.proofs.Common.{◌≡◌, ℕ, ◌+◌, List, [], ◌∷◌, ◌++◌, length, map, Option, Some, None, refl, sym, ap, ◌∙◌}
 use Rattle.std.specs.List.{flat_map}
 use Rattle.std.proofs.lemmas.List.{map-append}
 use Rattle.std.proofs.lemmas.List.Concat.{flat_map-cons}
@@ -25,7 +25,7 @@ use Rattle.plant_grammar.specs.Grammar.{Tree, key_word, mark_word, section_words
 use Rattle.plant_grammar.specs.JudgedWords.{Judged, sound, sounds, in_order, listed}
 use Rattle.plant_grammar.specs.Lawful.{lists_variables, block_variables, uses_of, binds_of}
 use Rattle.plant_grammar.specs.NameFaults.{judged_source, judged_variable, judged_list, judged_block, judged_program, judged_task, judged_bind, judged_binds, judged_use, judged_item, judged_resource, judged_of}
-use Rattle.plant_grammar.specs.Steps.SoundWords.{judged_lists, judged_names, judged_items}
+use Rattle.plant_grammar.specs.Steps.SoundWords.{judged_lists, judged_names, bind_behind, item_behind}
 use Rattle.plant_grammar.proofs.WordLists.{lists_end, items_end, resources_end}
 
 -- the words
@@ -102,8 +102,8 @@ bind_forgotten ds n before b = ap (λ (r : List Token). token.Name b.input ∷ m
 binds_forgotten : (ds : List Declaration) (n : ℕ) (bs : Option (List Bind)) → forget (judged_binds ds n bs) ≡ binds_words bs
 binds_forgotten ds n None = refl
 binds_forgotten ds n (Some bs) =
-    ap (λ (r : List Token). mark_word Open ∷ r) (forget_both (listed (judged_bind ds n) [] bs) (sound (mark_word Close) ∷ [])
-    ∙ ap (λ (a : List Token). a ++ mark_word Close ∷ []) (forget_listed (judged_bind ds n) bind_words with_commas refl (λ b. refl) (λ b c cs. refl) (λ before b. bind_forgotten ds n before b) [] bs))
+    ap (λ (r : List Token). mark_word Open ∷ r) (forget_both (listed (bind_behind ds n) [] bs) (sound (mark_word Close) ∷ [])
+    ∙ ap (λ (a : List Token). a ++ mark_word Close ∷ []) (forget_listed (bind_behind ds n) bind_words with_commas refl (λ b. refl) (λ b c cs. refl) (λ before b. bind_forgotten ds (n + length before) before b) [] bs))
 
 use_forgotten : (programs : List Program) (i m : ℕ) (before : List Item) (u : Use) → forget (judged_use programs i m before u) ≡ use_words u
 unfolding judged_use use_words
@@ -114,14 +114,14 @@ use_forgotten programs i m before u =
 
 item_forgotten : (programs : List Program) (i m : ℕ) (before : List Item) (x : Item) → forget (judged_item programs i m before x) ≡ item_words x
 item_forgotten programs i m before (item.Task t) = task_forgotten _ t
-item_forgotten programs i m before (item.Use u) = use_forgotten programs _ _ before u
+item_forgotten programs i m before (item.Use u) = use_forgotten programs i m before u
 
 resource_forgotten : (programs : List Program) (i m : ℕ) (before : List Resource) (r : Resource) → forget (judged_resource programs i m before r) ≡ resource_words r
 unfolding judged_resource resource_words
 resource_forgotten programs i m before r =
     ap (λ (ws : List Token). key_word key.Resource ∷ token.Name r.name ∷ key_word key.On ∷ token.Name r.node ∷ ws)
-    (forget_both (in_order (judged_item programs i m) [] r.items.items) (sound (key_word key.EndResource) ∷ [])
-    ∙ ap (λ (a : List Token). a ++ key_word key.EndResource ∷ []) (forget_in_order (judged_item programs i m) item_words (λ before x. item_forgotten programs i m before x) [] r.items.items)
+    (forget_both (in_order (item_behind programs i m) [] r.items.items) (sound (key_word key.EndResource) ∷ [])
+    ∙ ap (λ (a : List Token). a ++ key_word key.EndResource ∷ []) (forget_in_order (item_behind programs i m) item_words (λ before x. item_forgotten programs _ _ before x) [] r.items.items)
     ∙ sym (items_end r.items.items))
 
 -- a tree's words

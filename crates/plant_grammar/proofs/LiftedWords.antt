@@ -29,7 +29,7 @@ use Rattle.plant_grammar.specs.Lawful.{lists_variables, block_variables, variabl
 use Rattle.plant_grammar.specs.WellFormed.{HasNames, IsBlockWellFormed, IsProgramWellFormed, AreIntervalsPositive, IsResourceWellFormed, IsTreeWellFormed}
 use Rattle.plant_grammar.specs.NameFaults.{judged_list, judged_block, judged_program, judged_task, judged_bind, judged_binds, variables_found, variables_named, judged_use, judged_item, judged_resource, judged_of}
 use Rattle.plant_grammar.specs.Steps.NamesRead.{bind_and_comma, AreBindsLawful, AreItemsLawfulBehind, AreResourcesLawfulBehind}
-use Rattle.plant_grammar.specs.Steps.SoundWords.{Fits, BeginsSound, EndsFaulty, judged_lists, AreListsFormed, judged_blocks, AreBlocksFormed, judged_in_parentheses, IsItemFormed, judged_items, AreItemsFormed, judged_resources_behind, AreResourcesFormed}
+use Rattle.plant_grammar.specs.Steps.SoundWords.{Fits, BeginsSound, EndsFaulty, judged_lists, AreListsFormed, judged_blocks, AreBlocksFormed, bind_behind, judged_in_parentheses, IsItemFormed, item_behind, judged_items, AreItemsFormed, judged_resources_behind, AreResourcesFormed}
 use Rattle.plant_grammar.proofs.DecodedWords.{vec_of}
 use Rattle.plant_grammar.proofs.WordLists.{flat_map-push}
 use Rattle.plant_grammar.proofs.WalkedPrograms.{lawful_lists_named, lawful_blocks_formed, lawful_program_formed}
@@ -181,12 +181,12 @@ program_in_tree ps declared = λ p formed.
 
 -- a bind behind others of its instance
 pub bind_in_binds : (ds : List Declaration) (n : ℕ) (bs : List Bind) → AreBindsLawful n ds bs
-    → Lifts (flat_map bind_and_comma bs) (judged_bind ds n bs) (λ (b : Bind). Unit {0}) (judged_in_parentheses ds n) Fits
+    → Lifts (flat_map bind_and_comma bs) (bind_behind ds n bs) (λ (b : Bind). Unit {0}) (judged_in_parentheses ds n) Fits
 bind_in_binds ds n bs lawful = λ b any. (
   bs ++ b ∷ [],
   sound (mark_word Close) ∷ [],
-  ap (λ (a : List Judged). a ++ sound (mark_word Close) ∷ []) (listed_last (judged_bind ds n) bind_words [] bs b (each_bind_sound ds n bs lawful))
-      ∙ append_assoc (sounds (flat_map bind_and_comma bs)) (judged_bind ds n bs b) (sound (mark_word Close) ∷ []),
+  ap (λ (a : List Judged). a ++ sound (mark_word Close) ∷ []) (listed_last (bind_behind ds n) bind_words [] bs b (each_bind_sound ds n bs lawful))
+      ∙ append_assoc (sounds (flat_map bind_and_comma bs)) (bind_behind ds n bs b) (sound (mark_word Close) ∷ []),
   omega (arith, lawful.few, length-append bs (b ∷ [])),
 )
 
@@ -218,11 +218,11 @@ binds_in_use programs i m before name task type p is = λ bs fits.
 
 -- an instance, or a task, as a line
 pub use_in_item : (programs : List Program) (i m : ℕ) (before : List Item)
-    → Lifts [] (judged_use programs (i + length (flat_map use_of before)) (m + length (flat_map binds_of (flat_map use_of before))) before) (λ (u : Use). Unit {0}) (judged_item programs i m before) IsItemFormed
+    → Lifts [] (judged_use programs i m before) (λ (u : Use). Unit {0}) (judged_item programs i m before) IsItemFormed
 use_in_item programs i m before = λ u any. (
   item.Use u,
   [],
-  sym (append-nil (judged_use programs (i + length (flat_map use_of before)) (m + length (flat_map binds_of (flat_map use_of before))) before u)),
+  sym (append-nil (judged_use programs i m before u)),
   All-nil (λ (t : TaskLine). 0 < t.interval),
 )
 
@@ -237,11 +237,11 @@ task_in_item programs i m before = λ t positive. (
 
 -- a line behind others of its resource
 pub item_in_items : (programs : List Program) (i m : ℕ) (xs : List Item) → AreNamesApart (map (λ (p : Program). p.name) programs) → AreItemsLawfulBehind i m programs xs → Fits (flat_map item_words xs)
-    → Lifts (flat_map item_words xs) (judged_item programs i m xs) IsItemFormed (judged_items programs i m) AreItemsFormed
+    → Lifts (flat_map item_words xs) (item_behind programs i m xs) IsItemFormed (judged_items programs i m) AreItemsFormed
 item_in_items programs i m xs apart lawful fits = λ x formed. (
   xs ++ x ∷ [],
   sound (key_word key.EndResource) ∷ [],
-  in_order_last (judged_item programs i m) item_words xs x (sound (key_word key.EndResource) ∷ []) (each_item_sound programs i m xs apart lawful),
+  in_order_last (item_behind programs i m) item_words xs x (sound (key_word key.EndResource) ∷ []) (each_item_sound programs i m xs apart lawful),
   (
     subst (All (λ (t : TaskLine). 0 < t.interval)) (sym (flat_map-push task_of xs x)) (All-append (λ (t : TaskLine). 0 < t.interval) (flat_map task_of xs) (task_of x) lawful.0.intervals formed),
     one_more_fits item_words item_long xs x fits,

@@ -43,7 +43,7 @@ use Rattle.plant_grammar.specs.NameFaults.{input_name, may_take, judged_source, 
 use Rattle.plant_grammar.specs.Steps.NamesRead.{IsNameTaken, IsNew, AreBindsLawful, AreItemsLawfulBehind, AreResourcesLawfulBehind}
 use Rattle.plant_grammar.specs.Steps.ReadParts.{TallyValue, tally_with, MayFollow}
 use Rattle.plant_grammar.specs.Steps.SameNames.{named_both}
-use Rattle.plant_grammar.specs.Steps.SoundWords.{judged_names, judged_lists, judged_blocks}
+use Rattle.plant_grammar.specs.Steps.SoundWords.{judged_names, judged_lists, judged_blocks, bind_behind, item_behind, judged_items}
 use Rattle.plant_grammar.proofs.Apart.{any_with}
 use Rattle.plant_grammar.proofs.WordLists.{lists_end, items_end}
 use Rattle.plant_grammar.proofs.LawfulPrograms.{all_at, variables_front, may_declare, declared_with}
@@ -157,22 +157,22 @@ input_sound ds before count n k is new few =
     ∙ ap (λ (b : Bool). record { word = token.Name n; fault = if_so b TooMany None }) (false_from_ne_true (leb 4096 count) (λ e. omega (arith, few, leb-true 4096 count e)))
 
 -- binds
-pub bind_sound : (ds : List Declaration) (n : ℕ) (before : List Bind) (b : Bind) → IsOfInputKind ds b → (IsTrue (is_among (map (λ (c : Bind). c.input) before) b.input) → ⊥) → n + length before < 4096 → judged_bind ds n before b ≡ sounds (bind_words b)
+pub bind_sound : (ds : List Declaration) (n : ℕ) (before : List Bind) (b : Bind) → IsOfInputKind ds b → (IsTrue (is_among (map (λ (c : Bind). c.input) before) b.input) → ⊥) → n < 4096 → judged_bind ds n before b ≡ sounds (bind_words b)
 unfolding judged_bind bind_words
 bind_sound ds n before b (k, is, has) new few =
-    ap (λ (j : Judged). j ∷ sound (mark_word Assign) ∷ judged_source (input_kind_of ds b.input) b.source) (input_sound ds before (n + length before) b.input k is new few)
+    ap (λ (j : Judged). j ∷ sound (mark_word Assign) ∷ judged_source (input_kind_of ds b.input) b.source) (input_sound ds before n b.input k is new few)
     ∙ ap (λ (o : Option Kind). sound (token.Name b.input) ∷ sound (mark_word Assign) ∷ judged_source o b.source) is
     ∙ ap (λ (a : List Judged). sound (token.Name b.input) ∷ sound (mark_word Assign) ∷ a) (source_sound k b.source has)
 
-pub each_bind_sound : (ds : List Declaration) (n : ℕ) (bs : List Bind) → AreBindsLawful n ds bs → AreSound (judged_bind ds n) bind_words [] bs
+pub each_bind_sound : (ds : List Declaration) (n : ℕ) (bs : List Bind) → AreBindsLawful n ds bs → AreSound (bind_behind ds n) bind_words [] bs
 each_bind_sound ds n bs lawful = λ front b back e.
     let long = ap length e in
-    bind_sound ds n front b (all_at (IsOfInputKind ds) bs front b back e lawful.kinds) (new_at (λ (c : Bind). c.input) bs front b back e lawful.apart) (omega (arith, lawful.few, long, length-append front (b ∷ back)))
+    bind_sound ds (n + length front) front b (all_at (IsOfInputKind ds) bs front b back e lawful.kinds) (new_at (λ (c : Bind). c.input) bs front b back e lawful.apart) (omega (arith, lawful.few, long, length-append front (b ∷ back)))
 
 pub binds_sound : (ds : List Declaration) (n : ℕ) (bs : Option (List Bind)) → AreBindsLawful n ds (items_or_none bs) → judged_binds ds n bs ≡ sounds (binds_words bs)
 binds_sound ds n None lawful = refl
 binds_sound ds n (Some bs) lawful =
-    ap (λ (a : List Judged). sound (mark_word Open) ∷ (a ++ sound (mark_word Close) ∷ [])) (listed_sound (judged_bind ds n) bind_words with_commas refl (λ b. refl) (λ b c cs. refl) [] bs (each_bind_sound ds n bs lawful))
+    ap (λ (a : List Judged). sound (mark_word Open) ∷ (a ++ sound (mark_word Close) ∷ [])) (listed_sound (bind_behind ds n) bind_words with_commas refl (λ b. refl) (λ b c cs. refl) [] bs (each_bind_sound ds n bs lawful))
     ∙ ap (λ (a : List Judged). sound (mark_word Open) ∷ a) (sym (sounds_both (with_commas bs) (mark_word Close ∷ [])))
 
 -- names behind the first are apart if all are
@@ -190,26 +190,26 @@ first_of_name (p ∷ ps) name Q apart some =
     later = find (λ (p : Program). is_named name p.name) ps
 
     rest : Any (λ (p : Program). IsTrue (is_named name p.name) × Q p) (p ∷ ps) → is_named name p.name ≡ false → Any (λ (p : Program). IsTrue (is_named name p.name) × Q p) ps
-    rest (zero, x, lt, at, held) no =
+    rest (zero, x, lt, at, held) other =
         let same : p ≡ x = at in
-        let yes : is_named name p.name ≡ true = ap (λ (q : Program). is_named name q.name) same ∙ held.0 in
-        let wrong : true ≡ false = sym yes ∙ no in
+        let named : is_named name p.name ≡ true = ap (λ (q : Program). is_named name q.name) same ∙ held.0 in
+        let wrong : true ≡ false = sym named ∙ other in
         absurd cc
-    rest (suc k, x, lt, at, held) no = (k, x, omega (arith, lt), at, held)
+    rest (suc k, x, lt, at, held) other = (k, x, omega (arith, lt), at, held)
 
     this : Any (λ (p : Program). IsTrue (is_named name p.name) × Q p) (p ∷ ps) → is_named name p.name ≡ true → Q p
-    this (zero, x, lt, at, held) yes = let same : x ≡ p = sym at in subst Q same held.1
-    this (suc k, x, lt, at, held) yes =
+    this (zero, x, lt, at, held) named = let same : x ≡ p = sym at in subst Q same held.1
+    this (suc k, x, lt, at, held) named =
         let names : List (List ℕ) = map (λ (p : Program). p.name) (p ∷ ps) in
         let long = length-map ps (λ (p : Program). p.name) in
         let there : get_or (map (λ (p : Program). p.name) ps) k x.name ≡ x.name = get_or-map (λ (p : Program). p.name) ps k x x.name (omega (arith, lt)) ∙ ap (λ (q : Program). q.name) at in
-        let place : 0 ≡ suc k = apart 0 (suc k) x.name (omega arith) (omega (arith, lt, long)) (subst (λ (n : List ℕ). IsTrue (is_named p.name n)) (sym there) (named_both name p.name x.name yes held.0)) in
+        let place : 0 ≡ suc k = apart 0 (suc k) x.name (omega arith) (omega (arith, lt, long)) (subst (λ (n : List ℕ). IsTrue (is_named p.name n)) (sym there) (named_both name p.name x.name named held.0)) in
         absurd (omega (arith, place))
 
     go : (b : Bool) → is_named name p.name ≡ b → (Any (λ (p : Program). IsTrue (is_named name p.name) × Q p) ps → (q : Program) × (later ≡ Some q) × Q q)
         → (q : Program) × (cond (is_named name p.name) (Some p) later ≡ Some q) × Q q
-    go true yes others = (p, ap (λ (b : Bool). cond b (Some p) later) yes, this some yes)
-    go false no others = let r = others (rest some no) in (r.0, ap (λ (b : Bool). cond b (Some p) later) no ∙ r.1, r.2)
+    go true named others = (p, ap (λ (b : Bool). cond b (Some p) later) named, this some named)
+    go false other others = let r = others (rest some other) in (r.0, ap (λ (b : Bool). cond b (Some p) later) other ∙ r.1, r.2)
 
 -- an instance of one of these programs
 pub use_sound : (programs : List Program) (i m : ℕ) (before : List Item) (u : Use) → AreNamesApart (map (λ (p : Program). p.name) programs) → (IsTrue (is_among (map (λ (v : Use). v.instance) (flat_map use_of before)) u.instance) → ⊥) → i < 64
@@ -238,16 +238,16 @@ not_among name_of xs n new among = new (taken_among name_of xs n among)
 
 -- a line of a resource
 pub item_sound : (programs : List Program) (i m : ℕ) (before : List Item) (x : Item) → AreNamesApart (map (λ (p : Program). p.name) programs) → MayFollow (programs_alone programs) before x
-    → MayBeCounted (i + length (flat_map use_of before)) (m + length (flat_map binds_of (flat_map use_of before))) (use_of x) → judged_item programs i m before x ≡ sounds (item_words x)
+    → MayBeCounted i m (use_of x) → judged_item programs i m before x ≡ sounds (item_words x)
 item_sound programs i m before (item.Task t) apart (new, few, positive) room = task_sound (flat_map task_of before) t (not_among (λ (u : TaskLine). u.name) (flat_map task_of before) t.name new) few
 item_sound programs i m before (item.Use u) apart (new, lawful) room =
     let binds : length (flat_map binds_of (u ∷ [])) ≡ length (binds_of u) = ap length (flat_map-cons binds_of u [] ∙ append-nil (binds_of u)) in
-    use_sound programs (i + length (flat_map use_of before)) (m + length (flat_map binds_of (flat_map use_of before))) before u apart (not_among (λ (v : Use). v.instance) (flat_map use_of before) u.instance new) (omega (arith, room.0)) lawful (omega (arith, room.1, binds))
+    use_sound programs i m before u apart (not_among (λ (v : Use). v.instance) (flat_map use_of before) u.instance new) (omega (arith, room.0)) lawful (omega (arith, room.1, binds))
 
-pub each_item_sound : (programs : List Program) (i m : ℕ) (xs : List Item) → AreNamesApart (map (λ (p : Program). p.name) programs) → AreItemsLawfulBehind i m programs xs → AreSound (judged_item programs i m) item_words [] xs
+pub each_item_sound : (programs : List Program) (i m : ℕ) (xs : List Item) → AreNamesApart (map (λ (p : Program). p.name) programs) → AreItemsLawfulBehind i m programs xs → AreSound (item_behind programs i m) item_words [] xs
 each_item_sound programs i m xs apart (lawful, room) = λ front x back e.
     let old : TallyValue = record { instances = i; binds = m } in
-    item_sound programs i m front x apart (may_follow (programs_alone programs) front xs front x back e refl lawful)
+    item_sound programs (i + length (flat_map use_of front)) (m + length (flat_map binds_of (flat_map use_of front))) front x apart (may_follow (programs_alone programs) front xs front x back e refl lawful)
     (room_left old (tally_with old (flat_map use_of front)) (flat_map use_of front) (flat_map use_of xs) (flat_map use_of front) (use_of x) (flat_map use_of back) (pieces use_of xs front x back e) refl refl room)
 
 -- a resource
@@ -255,9 +255,9 @@ pub resource_sound : (programs : List Program) (i m : ℕ) (before : List Resour
     → IsResourceLawful (programs_alone programs) r → MayBeCounted i m (uses_of r) → judged_resource programs i m before r ≡ sounds (resource_words r)
 unfolding judged_resource resource_words
 resource_sound programs i m before r apart new few lawful room =
-    let items : List Judged = in_order (judged_item programs i m) [] r.items.items ++ sound (key_word key.EndResource) ∷ [] in
-    let all : in_order (judged_item programs i m) [] r.items.items ++ sound (key_word key.EndResource) ∷ [] ≡ sounds (items_words r.items.items) =
-    ap (λ (a : List Judged). a ++ sound (key_word key.EndResource) ∷ []) (in_order_sound (judged_item programs i m) item_words [] r.items.items (each_item_sound programs i m r.items.items apart (items_of_resource (programs_alone programs) r lawful, room)))
+    let items : List Judged = judged_items programs i m r.items.items in
+    let all : judged_items programs i m r.items.items ≡ sounds (items_words r.items.items) =
+    ap (λ (a : List Judged). a ++ sound (key_word key.EndResource) ∷ []) (in_order_sound (item_behind programs i m) item_words [] r.items.items (each_item_sound programs i m r.items.items apart (items_of_resource (programs_alone programs) r lawful, room)))
     ∙ sym (ap sounds (items_end r.items.items) ∙ sounds_both (flat_map item_words r.items.items) (key_word key.EndResource ∷ [])) in
     ap (λ (j : Judged). sound (key_word key.Resource) ∷ j ∷ sound (key_word key.On) ∷ sound (token.Name r.node) ∷ items) (new_sound (map (λ (q : Resource). q.name) before) (length before) 16 r.name new few)
     ∙ ap (λ (a : List Judged). sound (key_word key.Resource) ∷ sound (token.Name r.name) ∷ sound (key_word key.On) ∷ sound (token.Name r.node) ∷ a) all

@@ -97,16 +97,18 @@ judged_task before t =
     sound (key_word key.Task) ∷ new_name (map (λ (u : TaskLine). u.name) before) (length before) 16 t.name
     ∷ sounds (mark_word Open ∷ settings t.order t.interval t.priority ++ mark_word Close ∷ mark_word Semicolon ∷ [])
 
--- a bind behind these of its instance, of a type with these variables, and so many of the plant before those
+-- a bind behind these of its instance, of a type with these variables, and so many of the plant
 unfoldable pub judged_bind : List Declaration → ℕ → List Bind → Bind → List Judged
-judged_bind ds binds before b =
-    input_name ds before (binds + length before) b.input ∷ sound (mark_word Assign)
+judged_bind ds count before b =
+    input_name ds before count b.input ∷ sound (mark_word Assign)
     ∷ judged_source (input_kind_of ds b.input) b.source
 
+-- the binds of an instance behind so many of the plant
 abbrev pub judged_binds : List Declaration → ℕ → Option (List Bind) → List Judged
 judged_binds ds binds None = []
 judged_binds ds binds (Some bs) =
-    sound (mark_word Open) ∷ listed (judged_bind ds binds) [] bs ++ sound (mark_word Close) ∷ []
+    sound (mark_word Open) ∷ listed (λ before b. judged_bind ds (binds + length before) before b) [] bs
+    ++ sound (mark_word Close) ∷ []
 
 -- the variables of the first program of the name
 abbrev pub variables_found : Option Program → List Declaration
@@ -124,19 +126,19 @@ judged_use programs instances binds before u =
     ∷ sound (mark_word Colon) ∷ known_name (map (λ (p : Program). p.name) programs) u.program
     ∷ judged_binds (variables_named programs u.program) binds (binds_listed u.binds) ++ sound (mark_word Semicolon) ∷ []
 
--- a line of a resource behind these, and so many instances and binds of the plant before those
+-- a line of a resource behind these, and so many instances and binds of the plant
 abbrev pub judged_item : List Program → ℕ → ℕ → List Item → Item → List Judged
 judged_item programs instances binds before (item.Task t) = judged_task (flat_map task_of before) t
-judged_item programs instances binds before (item.Use u) =
-    let uses = flat_map use_of before in
-    judged_use programs (instances + length uses) (binds + length (flat_map binds_of uses)) before u
+judged_item programs instances binds before (item.Use u) = judged_use programs instances binds before u
 
 -- a resource behind these, and so many instances and binds of the plant
 unfoldable pub judged_resource : List Program → ℕ → ℕ → List Resource → Resource → List Judged
 judged_resource programs instances binds before r =
     sound (key_word key.Resource) ∷ new_name (map (λ (q : Resource). q.name) before) (length before) 16 r.name
     ∷ sound (key_word key.On) ∷ sound (token.Name r.node)
-    ∷ in_order (judged_item programs instances binds) [] r.items.items ++ sound (key_word key.EndResource) ∷ []
+    ∷ in_order (λ xs x. judged_item programs (instances + length (flat_map use_of xs))
+        (binds + length (flat_map binds_of (flat_map use_of xs))) xs x) [] r.items.items
+    ++ sound (key_word key.EndResource) ∷ []
 
 -- the words of a tree, in order, each with its fault
 unfoldable pub judged_of : Tree → List Judged

@@ -15,7 +15,7 @@ use Rattle.plant_grammar.specs.declared.grammar.tree.Item.{Item}
 use Rattle.plant_grammar.specs.declared.grammar.tree.Resource.{Resource}
 use Rattle.plant_grammar.specs.Grammar.{key_word, mark_word}
 use Rattle.plant_grammar.specs.JudgedWords.{Judged, sound, sounds, in_order, listed}
-use Rattle.plant_grammar.specs.Lawful.{lists_variables, block_variables, task_of, uses_of, binds_of}
+use Rattle.plant_grammar.specs.Lawful.{lists_variables, block_variables, task_of, use_of, uses_of, binds_of}
 use Rattle.plant_grammar.specs.NameFaults.{judged_variable, judged_list, judged_block, judged_bind, judged_item, judged_resource}
 use Rattle.plant_grammar.specs.WellFormed.{HasNames, IsBlockWellFormed, AreIntervalsPositive, IsResourceWellFormed}
 
@@ -57,18 +57,28 @@ judged_blocks ds bs = in_order (λ cs b. judged_block (ds ++ flat_map block_vari
 abbrev pub AreBlocksFormed : List VarBlock → Type 0
 AreBlocksFormed bs = All IsBlockWellFormed bs × Fits bs
 
+-- a bind behind these of its instance, and so many of the plant before those
+abbrev pub bind_behind : List Declaration → ℕ → List Bind → Bind → List Judged
+bind_behind ds binds before b = judged_bind ds (binds + length before) before b
+
 -- binds up to the parenthesis that closes them, behind so many of the plant
 abbrev pub judged_in_parentheses : List Declaration → ℕ → List Bind → List Judged
-judged_in_parentheses ds binds bs = listed (judged_bind ds binds) [] bs ++ sound (mark_word Close) ∷ []
+judged_in_parentheses ds binds bs = listed (bind_behind ds binds) [] bs ++ sound (mark_word Close) ∷ []
 
 -- no interval of a task is 0
 abbrev pub IsItemFormed : Item → Type 0
 IsItemFormed x = All (λ t. 0 < t.interval) (task_of x)
 
+-- a line behind these of its resource, and so many instances and binds of the plant before those
+abbrev pub item_behind : List Program → ℕ → ℕ → List Item → Item → List Judged
+item_behind programs instances binds before x =
+    judged_item programs (instances + length (flat_map use_of before))
+    (binds + length (flat_map binds_of (flat_map use_of before))) before x
+
 -- lines up to the end of their resource
 abbrev pub judged_items : List Program → ℕ → ℕ → List Item → List Judged
 judged_items programs instances binds xs =
-    in_order (judged_item programs instances binds) [] xs ++ sound (key_word key.EndResource) ∷ []
+    in_order (item_behind programs instances binds) [] xs ++ sound (key_word key.EndResource) ∷ []
 
 abbrev pub AreItemsFormed : List Item → Type 0
 AreItemsFormed xs = AreIntervalsPositive xs × Fits xs
