@@ -334,7 +334,7 @@ abbrev NamesInstance : ℕ → List Item → List ℕ → Type 0
 NamesInstance i before n = (IsTrue (is_among (map (λ (v : Use). v.instance) (flat_map use_of before)) n) → ⊥) × (i < 64)
 
 -- the first program of a name has it
-found_among : (programs : List Program) (name : List ℕ) (p : Program) → find (λ (q : Program). is_named name q.name) programs ≡ Some p → IsTrue (is_among (map (λ (q : Program). q.name) programs) name)
+pub found_among : (programs : List Program) (name : List ℕ) (p : Program) → find (λ (q : Program). is_named name q.name) programs ≡ Some p → IsTrue (is_among (map (λ (q : Program). q.name) programs) name)
 found_among programs name p found = among_taken (λ (q : Program). q.name) programs name ((found_any (λ (q : Program). is_named name q.name) programs).0 (ap is_some found))
 
 -- an instance up to its type, or to a word in its binds

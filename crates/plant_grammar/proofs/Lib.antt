@@ -21,6 +21,8 @@ pub mod SoundParts
 pub mod LiftedWords
 pub mod FaultyParts
 pub mod RefusedPrograms
+pub mod SoundFronts
+pub mod SoundTrees
 pub mod AddedNames
 pub mod ProgramVariables
 pub mod WholeTrees

@@ -274,7 +274,7 @@ resource_in_resources programs i m rs apart lawful = λ r formed. (
 none_before : (n : ℕ) → n ≡ 0 + n
 none_before n = omega arith
 
-from_nothing : (ps : List Program) (rs : List Resource)
+pub from_nothing : (ps : List Program) (rs : List Resource)
     → in_order (λ before r. judged_resource ps (length (flat_map uses_of before)) (length (flat_map binds_of (flat_map uses_of before))) before r) [] rs ++ sound (key_word key.EndConfiguration) ∷ [] ≡ judged_resources_behind ps 0 0 rs
 from_nothing ps rs = λ i.
     in_order (λ before r. judged_resource ps (none_before (length (flat_map uses_of before)) i) (none_before (length (flat_map binds_of (flat_map uses_of before))) i) before r) [] rs ++ sound (key_word key.EndConfiguration) ∷ []

@@ -67,7 +67,7 @@ impl Variables {
     }
 
     /// How many there are.
-    fn len(&self) -> usize
+    pub fn len(&self) -> usize
         ensures count { result ≡ length self.now }
         ensures few { result ≤ 1000 }
         ensures lawful { AreVariables self.now }
