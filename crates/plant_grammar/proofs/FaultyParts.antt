@@ -36,12 +36,12 @@ use Rattle.plant_grammar.specs.declared.grammar.tree.Use.{Use}
 use Rattle.plant_grammar.specs.declared.grammar.tree.Item.{Item}
 use Rattle.plant_grammar.specs.declared.grammar.tree.Resource.{Resource}
 use Rattle.plant_grammar.specs.Grammar.{key_word, mark_word, section_words, type_word, name_words, list_words, block_words, program_words, settings, item_words, resource_words}
-use Rattle.plant_grammar.specs.JudgedWords.{Judged, sound, sounds, if_so, is_among, new_name, known_name, in_order, listed}
+use Rattle.plant_grammar.specs.JudgedWords.{Judged, sound, sounds, if_so, is_among, new_name, known_name, in_order, listed, input_name, may_take, judged_source, judged_type}
 use Rattle.plant_grammar.specs.Kinds.{input_kind_of, IsOfInputKind}
 use Rattle.plant_grammar.specs.Names.{is_named, AreNamesApart}
 use Rattle.plant_grammar.specs.Lawful.{lists_variables, block_variables, variables, AreVariables, MayBeDeclared, IsTypeLawful, IsListLawful, IsBlockLawful, AreProgramsDeclared, task_of, use_of, uses_of, binds_of, programs_alone}
 use Rattle.plant_grammar.specs.WellFormed.{HasNames, IsBlockWellFormed, IsProgramWellFormed, IsResourceWellFormed, IsTreeWellFormed}
-use Rattle.plant_grammar.specs.NameFaults.{input_name, may_take, judged_source, judged_type, judged_variable, judged_list, judged_block, judged_program, judged_task, judged_bind, judged_binds, variables_named, judged_use, judged_item, judged_resource, judged_of, IsLastRefused}
+use Rattle.plant_grammar.specs.NameFaults.{judged_variable, judged_list, judged_block, judged_program, judged_task, judged_bind, judged_binds, variables_named, judged_use, judged_item, judged_resource, judged_of, IsLastRefused}
 use Rattle.plant_grammar.specs.Steps.NamesRead.{IsOfName, Tells, TellsOfName, TellsOfSoughtName, IsNameTaken, IsNew, IsRefused, IsUnknown, IsAfter, IsAfterName, IsAfterWhole, name_and_comma, bind_and_comma, RefusesVariable, RefusesType, RefusesOneList, RefusesList, RefusesBlock, RefusesBlocks, MayNameProgram, RefusesProgram, RefusesTask, RefusesInput, RefusesAddress, RefusesOneBind, RefusesBind, RefusesTyped, RefusesBinds, MayNameInstance, RefusesInstance, RefusesItems, MayNameResource, RefusesResource, RefusesResources, RefusesBehind}
 use Rattle.plant_grammar.specs.Steps.SameNames.{named_back, named_both}
 use Rattle.plant_grammar.specs.Steps.SoundWords.{Fits, EndsFaulty, judged_names, judged_lists, AreListsFormed, judged_blocks, AreBlocksFormed, bind_behind, judged_in_parentheses, IsItemFormed, item_behind, judged_items, AreItemsFormed, judged_resources_behind, AreResourcesFormed}

@@ -30,12 +30,12 @@ use Rattle.plant_grammar.specs.declared.grammar.tree.Use.{Use}
 use Rattle.plant_grammar.specs.declared.grammar.tree.Item.{Item}
 use Rattle.plant_grammar.specs.declared.grammar.tree.Resource.{Resource}
 use Rattle.plant_grammar.specs.Grammar.{Tree, TextValue, item_words, resource_words, key_word, mark_word, type_word, name_words, list_words, block_words, program_words, settings, task_words, source_words, bind_words, with_commas, binds_words, binds_listed}
-use Rattle.plant_grammar.specs.JudgedWords.{Judged, sound, sounds, is_among, new_name, known_name, listed}
+use Rattle.plant_grammar.specs.JudgedWords.{Judged, sound, sounds, is_among, new_name, known_name, listed, input_name, judged_source, judged_type}
 use Rattle.plant_grammar.specs.Kinds.{input_kind_of, IsOfInputKind}
 use Rattle.plant_grammar.specs.Names.{is_named, AreNamesApart}
 use Rattle.plant_grammar.specs.Lawful.{block_variables, variables, AreVariables, MayBeDeclared, IsTypeLawful, IsBlockLawful, IsProgramLawful, AreProgramsDeclared, task_of, use_of, uses_of, binds_of, programs_alone, AreItemsLawful, AreResourcesLawful}
 use Rattle.plant_grammar.specs.WellFormed.{HasNames, IsBlockWellFormed, IsProgramWellFormed, IsResourceWellFormed, IsTreeWellFormed}
-use Rattle.plant_grammar.specs.NameFaults.{input_name, judged_source, judged_type, judged_variable, judged_list, judged_block, judged_program, judged_task, judged_bind, judged_binds, variables_found, variables_named, judged_use, judged_item, judged_resource, judged_of}
+use Rattle.plant_grammar.specs.NameFaults.{judged_variable, judged_list, judged_block, judged_program, judged_task, judged_bind, judged_binds, variables_found, variables_named, judged_use, judged_item, judged_resource, judged_of}
 use Rattle.plant_grammar.specs.Steps.NamesRead.{IsNew, name_and_comma, bind_and_comma, AreBindsLawful}
 use Rattle.plant_grammar.specs.Steps.ReadParts.{TallyValue, with_instance, with_binds, tally_with}
 use Rattle.plant_grammar.specs.Steps.SoundWords.{Fits, BeginsSound, IsNothing, BeginWords, BeginsSettings, BeginsOutput, end_words, judged_names, AreNamesFormed, ListedFit, bind_behind, judged_in_parentheses, IsItemFormed, item_behind, judged_items, AreItemsFormed, judged_resources_behind, AreResourcesFormed}

@@ -1,70 +1,28 @@
--- The words of a plant's text, each with its fault in view of those before it: a name that its space has already, or that is
--- one too many; a name that isn't declared where it is sought; an input that is bound already; a type or an address of
--- another kind. And the first word that has a fault.
-use Rattle.std.specs.Prelude.{◌≡◌, ℕ, ◌+◌, leb, Bool, true, false, not, List, [], ◌∷◌, ◌++◌, length, map, Option, Some, None, is_none}
+-- The words of a plant's text, each with its fault in view of those before it, and the first word that has one.
+use Rattle.std.specs.Prelude.{◌≡◌, ℕ, ◌+◌, List, [], ◌∷◌, ◌++◌, length, map, Option, Some, None}
 use Rattle.std.specs.List.{flat_map, find}
 use Rattle.declared_names.specs.declared.declarations.Declaration.{Declaration}
-use Rattle.declared_names.specs.declared.declarations.Kind.{Kind}
-use Rattle.declared_names.specs.declared.declarations.Kind.TheVariants as value
 use Rattle.plant_grammar.specs.declared.grammar_fault.GrammarFaultKind.{GrammarFaultKind}
-use Rattle.plant_grammar.specs.declared.grammar_fault.GrammarFaultKind.TheVariants.{UnknownName, WrongKind, InputBoundTwice, TooMany}
-use Rattle.words.specs.declared.address.Space.{Space}
-use Rattle.words.specs.declared.address.Space.TheVariants.{Bit, Word}
 use Rattle.plant_text.specs.declared.token.Token.{Token}
 use Rattle.plant_text.specs.declared.token.Token.TheVariants as token
 use Rattle.plant_text.specs.declared.token.Keyword.TheVariants as key
 use Rattle.plant_text.specs.declared.token.Punctuation.TheVariants.{Open, Close, Colon, Semicolon, Assign}
 use Rattle.plant_grammar.specs.declared.grammar.tree.Section.{Section}
-use Rattle.plant_grammar.specs.declared.grammar.tree.Section.TheVariants as section
-use Rattle.plant_grammar.specs.declared.grammar.tree.TypeName.{TypeName}
-use Rattle.plant_grammar.specs.declared.grammar.tree.TypeName.TheVariants.{Elementary, Block}
 use Rattle.plant_grammar.specs.declared.grammar.tree.NameList.{NameList}
 use Rattle.plant_grammar.specs.declared.grammar.tree.VarBlock.{VarBlock}
 use Rattle.plant_grammar.specs.declared.grammar.tree.Program.{Program}
 use Rattle.plant_grammar.specs.declared.grammar.tree.TaskLine.{TaskLine}
-use Rattle.plant_grammar.specs.declared.grammar.tree.SourceName.{SourceName}
-use Rattle.plant_grammar.specs.declared.grammar.tree.SourceName.TheVariants as source
 use Rattle.plant_grammar.specs.declared.grammar.tree.Bind.{Bind}
 use Rattle.plant_grammar.specs.declared.grammar.tree.Use.{Use}
 use Rattle.plant_grammar.specs.declared.grammar.tree.Item.{Item}
 use Rattle.plant_grammar.specs.declared.grammar.tree.Item.TheVariants as item
 use Rattle.plant_grammar.specs.declared.grammar.tree.Resource.{Resource}
-use Rattle.plant_grammar.specs.Grammar.{Tree, key_word, mark_word, section_words, type_word, settings, source_words, binds_listed}
+use Rattle.plant_grammar.specs.Grammar.{Tree, key_word, mark_word, section_words, settings, binds_listed}
 use Rattle.plant_grammar.specs.Kinds.{input_kind_of}
-use Rattle.plant_grammar.specs.JudgedWords.{Judged, sound, sounds, if_so, is_among, new_name, known_name, in_order, listed}
+use Rattle.plant_grammar.specs.JudgedWords.{Judged, sound, sounds, new_name, known_name, input_name, judged_source, judged_type, in_order, listed}
 use Rattle.plant_grammar.specs.Names.{is_named}
 use Rattle.plant_grammar.specs.Lawful.{lists_variables, block_variables, variables, task_of, use_of, uses_of, binds_of}
 use Rattle.plant_grammar.specs.WellFormed.{IsTreeWellFormed}
-
--- the input of a bind, where the type has these variables: unknown; else bound, if one of these binds has it; else too many,
--- if the plant has so many binds
-abbrev pub input_name : List Declaration → List Bind → ℕ → List ℕ → Judged
-input_name ds before count name = record {
-  word = token.Name name;
-  fault = if_so (is_none (input_kind_of ds name)) UnknownName
-      (if_so (is_among (map (λ (b : Bind). b.input) before) name) InputBoundTwice (if_so (leb 4096 count) TooMany None));
-}
-
--- addresses of bits are for BOOL alone, of words for INT alone
-abbrev pub may_take : Option Kind → Space → Bool
-may_take (Some value.Bool) Bit = true
-may_take (Some value.Int) Word = true
-may_take _ _ = false
-
--- the source of an input of this kind
-abbrev pub judged_source : Option Kind → SourceName → List Judged
-judged_source k (source.Field a) =
-    record { word = token.Address a; fault = if_so (not (may_take k a.space)) WrongKind None } ∷ []
-judged_source k (source.Output resource instance output) = sounds (source_words (source.Output resource instance output))
-
--- blocks are declared in VAR alone, without RETAIN
-abbrev pub may_have : Section → TypeName → Bool
-may_have s (Elementary k) = true
-may_have section.Local (Block b) = true
-may_have _ (Block b) = false
-
-abbrev pub judged_type : Section → TypeName → Judged
-judged_type s t = record { word = type_word t; fault = if_so (not (may_have s t)) WrongKind None }
 
 -- a variable behind these of its program, and these names of its list
 abbrev pub judged_variable : List Declaration → List (List ℕ) → List ℕ → List Judged

@@ -27,7 +27,8 @@ ghost use Rattle.plant_grammar.specs.Steps.NamesRead.{TellsOfName, IsUnknown, Is
 ghost use Rattle.plant_grammar.specs.Steps.Declaring.{TellsOfTask, TellsOfInstance, TellsOfMissing, TellsOfInput, TellsOfAddress, TellsOfResource, BeginRefused, IsAtNext, RefusesFurtherInstance, RefusesItem, RefusesFurtherItems, RefusesFurtherResource, RefusesFurtherResources, RefusesInParentheses};
 ghost use Rattle.plant_grammar.specs.Steps.ReadParts.{types_alone, with_instance, with_binds, tally_with, EndWithBinds, bound_in, MayFollow, KeepsLinesOf, AreKeptLines};
 ghost use Rattle.plant_grammar.specs.Steps.Expected.{Key, Mark, AName, ASource, AnItem, MayHaveBinds, TheSettings, FirstBind, MoreItems, MoreResources, interval_rest, priority_rest, task_rest, bind_rest, instance_rest, resource_rest, GetsStuck};
-ghost use Rattle.plant_grammar.specs.NameFaults.{judged_source, judged_task, judged_bind, judged_binds, judged_use, judged_item, judged_resource};
+ghost use Rattle.plant_grammar.specs.NameFaults.{judged_task, judged_bind, judged_binds, judged_use, judged_item, judged_resource};
+ghost use Rattle.plant_grammar.specs.JudgedWords.{judged_source};
 ghost use Rattle.plant_grammar.specs.WellFormed.{IsResourceWellFormed};
 ghost use Rattle.plant_grammar.specs.Steps.SoundWords.{Fits, BeginsSound, BeginsWords, BeginWords, BeginsSettings, BeginsOutput, IsNothing, ListedFit, judged_in_parentheses, IsItemFormed, judged_items, AreItemsFormed, judged_resources_behind, AreResourcesFormed};
 ghost use Rattle.plant_grammar.specs.Steps.Reading.{programs_of};

@@ -19,7 +19,8 @@ use Rattle.plant_grammar.proofs.WalkedResources.{stuck_more}
 use Rattle.plant_grammar.proofs.StuckBehind.{stuck_after_mark, stuck_after_name}
 use Rattle.plant_text.specs.declared.token.Token.TheVariants as token
 use Rattle.plant_grammar.specs.declared.grammar.tree.SourceName.{SourceName}
-use Rattle.plant_grammar.specs.NameFaults.{judged_source, judged_bind}
+use Rattle.plant_grammar.specs.NameFaults.{judged_bind}
+use Rattle.plant_grammar.specs.JudgedWords.{judged_source}
 use Rattle.plant_grammar.specs.Steps.SoundWords.{BeginsSound, IsNothing}
 use Rattle.plant_grammar.proofs.ExpectedWords.{stuck_told}
 use Rattle.plant_grammar.proofs.WalkedResources.{stuck_more}

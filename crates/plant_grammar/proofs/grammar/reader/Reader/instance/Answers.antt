@@ -175,10 +175,10 @@ returns-in_err-binds-clause-stuck c =
     (stuck_after_key_and_name Known key.Program c.in_ok-instance.instance (Key key.With ∷ AName ∷ Mark mark.Colon ∷ AName ∷ MayHaveBinds ∷ Mark mark.Semicolon ∷ []) start one fault c.in_ok-instance.ensures.ok c.in_ok-instance.ensures.left
     (stuck_after_key_and_name (λ w. Known (key_word key.Program ∷ token.Name c.in_ok-instance.instance ∷ w)) key.With c.in_ok-task.task (Mark mark.Colon ∷ AName ∷ MayHaveBinds ∷ Mark mark.Semicolon ∷ []) one two fault c.in_ok-task.ensures.ok c.in_ok-task.ensures.left
     (stuck_after_mark_and_name (λ w. Known (key_word key.Program ∷ token.Name c.in_ok-instance.instance ∷ key_word key.With ∷ token.Name c.in_ok-task.task ∷ w)) mark.Colon c.in_ok-program.program (MayHaveBinds ∷ Mark mark.Semicolon ∷ []) two three fault c.in_ok-program.ensures.ok c.in_ok-program.ensures.left
-    (stuck_told (λ w. Known (key_word key.Program ∷ token.Name c.in_ok-instance.instance ∷ key_word key.With ∷ token.Name c.in_ok-task.task ∷ mark_word mark.Colon ∷ token.Name c.in_ok-program.program ∷ w)) (BeginsSound (judged_binds (variables c.in_ok-program.text.program) c.instance_start.new.tally.binds) ListedFit) (MayHaveBinds ∷ Mark mark.Semicolon ∷ []) three fault
+    (stuck_told (λ w. Known (key_word key.Program ∷ token.Name c.in_ok-instance.instance ∷ key_word key.With ∷ token.Name c.in_ok-task.task ∷ mark_word mark.Colon ∷ token.Name c.in_ok-program.program ∷ w)) (BeginsSound (judged_binds (variables c.in_ok-program.text.now.program) c.instance_start.new.tally.binds) ListedFit) (MayHaveBinds ∷ Mark mark.Semicolon ∷ []) three fault
     (λ w b. use_bound_front programs i m before c.in_ok-instance.instance c.in_ok-task.task c.in_ok-program.program _ w (typed_is programs i before c.in_ok-instance.instance c.in_ok-task.task c.in_ok-program.program _ c.in_ok-instance.ensures.new c.in_ok-instance.ensures.few c.in_ok-task.ensures.known (found_program c.args.types.now _ _ c.in_ok-program.ensures.found))
-    (subst (λ (j : ℕ). BeginsSound (judged_binds (variables c.in_ok-program.text.program) j) ListedFit w) (ap (λ (t : TallyValue). t.binds) c.in_ok-instance.ensures.tally) b))
-    (stuck_more (BeginsSound (judged_binds (variables c.in_ok-program.text.program) c.instance_start.new.tally.binds) ListedFit) (MayHaveBinds ∷ []) (Mark mark.Semicolon ∷ []) three fault c.in_err-binds.ensures.stuck)))))
+    (subst (λ (j : ℕ). BeginsSound (judged_binds (variables c.in_ok-program.text.now.program) j) ListedFit w) (ap (λ (t : TallyValue). t.binds) c.in_ok-instance.ensures.tally) b))
+    (stuck_more (BeginsSound (judged_binds (variables c.in_ok-program.text.now.program) c.instance_start.new.tally.binds) ListedFit) (MayHaveBinds ∷ []) (Mark mark.Semicolon ∷ []) three fault c.in_err-binds.ensures.stuck)))))
 
 pub returns-in_err-punctuation-clause-stuck : instance_goals.returns-in_err-punctuation-clause-stuck
 returns-in_err-punctuation-clause-stuck c =

@@ -3,7 +3,7 @@ use Rattle.std.proofs.lemmas.Result.{IfErr-weaker}
 use Rattle.plant_grammar.proofs.WalkedResources.{stuck_in_output}
 use Rattle.plant_text.specs.declared.token.Punctuation.TheVariants as mark
 use Rattle.plant_grammar.specs.declared.grammar.tree.SourceName.{SourceName}
-use Rattle.plant_grammar.specs.NameFaults.{judged_source}
+use Rattle.plant_grammar.specs.JudgedWords.{judged_source}
 use Rattle.plant_grammar.specs.Steps.Expected.{Mark, AName}
 use Rattle.plant_grammar.specs.Steps.SoundWords.{BeginsSound, BeginsOutput}
 use Rattle.plant_grammar.proofs.ExpectedWords.{stuck_told}
