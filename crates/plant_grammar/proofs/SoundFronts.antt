@@ -193,7 +193,7 @@ task_front before n o i p front back new few positive e =
 
 -- an output begins a source of any kind
 pub output_of_source : (k : Option Kind) (words : List Token) → BeginsOutput words → BeginsSound (judged_source k) (λ (s : SourceName). Unit {0}) words
-output_of_source k words (r, i, o, more, e) = λ fits. (source.Output r i o, sounds more, ap sounds e ∙ sounds_both words more, tt)
+output_of_source k words (r, i, o, (more, e)) = λ fits. (source.Output r i o, sounds more, ap sounds e ∙ sounds_both words more, tt)
 
 -- a bind of no words yet, one up to a word behind its input, and one up to a word of its source
 pub no_bind_words : (ds : List Declaration) (n : ℕ) (before : List Bind) → BeginsSound (judged_bind ds n before) (λ (b : Bind). Unit {0}) []

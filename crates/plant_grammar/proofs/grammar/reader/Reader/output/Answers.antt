@@ -15,7 +15,7 @@ returns-in_err-resource-clause-stuck c =
     let fault = c.in_err-resource.field-0.0 in
     let start = c.args.self.now in
     kept_fault fault (GetsStuck BeginsOutput (AName ∷ Mark mark.Dot ∷ AName ∷ Mark mark.Dot ∷ AName ∷ []) start) c.from_residual.result c.from_residual.ensures.1
-    (name_stuck BeginsOutput ([], [], [], source_words (source.Output [] [] []), refl) (Mark mark.Dot ∷ AName ∷ Mark mark.Dot ∷ AName ∷ []) start fault c.in_err-resource.ensures.err c.in_err-resource.ensures.other)
+    (name_stuck BeginsOutput ([], [], [], (source_words (source.Output [] [] []), refl)) (Mark mark.Dot ∷ AName ∷ Mark mark.Dot ∷ AName ∷ []) start fault c.in_err-resource.ensures.err c.in_err-resource.ensures.other)
 
 pub returns-in_err-punctuation-clause-stuck : output_goals.returns-in_err-punctuation-clause-stuck
 returns-in_err-punctuation-clause-stuck c =
@@ -24,7 +24,7 @@ returns-in_err-punctuation-clause-stuck c =
     let one = c.name.new.self in
     kept_fault fault (GetsStuck BeginsOutput (AName ∷ Mark mark.Dot ∷ AName ∷ Mark mark.Dot ∷ AName ∷ []) start) c.from_residual-in_err-punctuation.result c.from_residual-in_err-punctuation.ensures.1
     (stuck_after_name BeginsOutput c.in_ok-resource.resource (Mark mark.Dot ∷ AName ∷ Mark mark.Dot ∷ AName ∷ []) start one fault c.in_ok-resource.ensures.ok c.in_ok-resource.ensures.left
-    (mark_stuck (λ w. BeginsOutput (token.Name c.in_ok-resource.resource ∷ w)) (c.in_ok-resource.resource, [], [], mark_word mark.Dot ∷ token.Name [] ∷ mark_word mark.Dot ∷ token.Name [] ∷ [], refl) mark.Dot (AName ∷ Mark mark.Dot ∷ AName ∷ []) one fault c.in_err-punctuation.ensures.err.0 c.in_err-punctuation.ensures.other))
+    (mark_stuck (λ w. BeginsOutput (token.Name c.in_ok-resource.resource ∷ w)) (c.in_ok-resource.resource, [], [], (mark_word mark.Dot ∷ token.Name [] ∷ mark_word mark.Dot ∷ token.Name [] ∷ [], refl)) mark.Dot (AName ∷ Mark mark.Dot ∷ AName ∷ []) one fault c.in_err-punctuation.ensures.err.0 c.in_err-punctuation.ensures.other))
 
 pub returns-in_err-instance-clause-stuck : output_goals.returns-in_err-instance-clause-stuck
 returns-in_err-instance-clause-stuck c =
@@ -35,7 +35,7 @@ returns-in_err-instance-clause-stuck c =
     kept_fault fault (GetsStuck BeginsOutput (AName ∷ Mark mark.Dot ∷ AName ∷ Mark mark.Dot ∷ AName ∷ []) start) c.from_residual-in_err-instance.result c.from_residual-in_err-instance.ensures.1
     (stuck_after_name BeginsOutput c.in_ok-resource.resource (Mark mark.Dot ∷ AName ∷ Mark mark.Dot ∷ AName ∷ []) start one fault c.in_ok-resource.ensures.ok c.in_ok-resource.ensures.left
     (stuck_after_mark (λ w. BeginsOutput (token.Name c.in_ok-resource.resource ∷ w)) mark.Dot (AName ∷ Mark mark.Dot ∷ AName ∷ []) one two fault c.in_ok-punctuation.ensures.ok c.in_ok-punctuation.ensures.left
-    (name_stuck (λ w. BeginsOutput (token.Name c.in_ok-resource.resource ∷ mark_word mark.Dot ∷ w)) (c.in_ok-resource.resource, [], [], token.Name [] ∷ mark_word mark.Dot ∷ token.Name [] ∷ [], refl) (Mark mark.Dot ∷ AName ∷ []) two fault c.in_err-instance.ensures.err c.in_err-instance.ensures.other)))
+    (name_stuck (λ w. BeginsOutput (token.Name c.in_ok-resource.resource ∷ mark_word mark.Dot ∷ w)) (c.in_ok-resource.resource, [], [], (token.Name [] ∷ mark_word mark.Dot ∷ token.Name [] ∷ [], refl)) (Mark mark.Dot ∷ AName ∷ []) two fault c.in_err-instance.ensures.err c.in_err-instance.ensures.other)))
 
 pub returns-in_err-punctuation-2-clause-stuck : output_goals.returns-in_err-punctuation-2-clause-stuck
 returns-in_err-punctuation-2-clause-stuck c =
@@ -48,7 +48,7 @@ returns-in_err-punctuation-2-clause-stuck c =
     (stuck_after_name BeginsOutput c.in_ok-resource.resource (Mark mark.Dot ∷ AName ∷ Mark mark.Dot ∷ AName ∷ []) start one fault c.in_ok-resource.ensures.ok c.in_ok-resource.ensures.left
     (stuck_after_mark (λ w. BeginsOutput (token.Name c.in_ok-resource.resource ∷ w)) mark.Dot (AName ∷ Mark mark.Dot ∷ AName ∷ []) one two fault c.in_ok-punctuation.ensures.ok c.in_ok-punctuation.ensures.left
     (stuck_after_name (λ w. BeginsOutput (token.Name c.in_ok-resource.resource ∷ mark_word mark.Dot ∷ w)) c.in_ok-instance.instance (Mark mark.Dot ∷ AName ∷ []) two three fault c.in_ok-instance.ensures.ok c.in_ok-instance.ensures.left
-    (mark_stuck (λ w. BeginsOutput (token.Name c.in_ok-resource.resource ∷ mark_word mark.Dot ∷ token.Name c.in_ok-instance.instance ∷ w)) (c.in_ok-resource.resource, c.in_ok-instance.instance, [], mark_word mark.Dot ∷ token.Name [] ∷ [], refl) mark.Dot (AName ∷ []) three fault c.in_err-punctuation-2.ensures.err.0 c.in_err-punctuation-2.ensures.other))))
+    (mark_stuck (λ w. BeginsOutput (token.Name c.in_ok-resource.resource ∷ mark_word mark.Dot ∷ token.Name c.in_ok-instance.instance ∷ w)) (c.in_ok-resource.resource, c.in_ok-instance.instance, [], (mark_word mark.Dot ∷ token.Name [] ∷ [], refl)) mark.Dot (AName ∷ []) three fault c.in_err-punctuation-2.ensures.err.0 c.in_err-punctuation-2.ensures.other))))
 
 pub returns-in_err-output-clause-stuck : output_goals.returns-in_err-output-clause-stuck
 returns-in_err-output-clause-stuck c =
@@ -63,4 +63,4 @@ returns-in_err-output-clause-stuck c =
     (stuck_after_mark (λ w. BeginsOutput (token.Name c.in_ok-resource.resource ∷ w)) mark.Dot (AName ∷ Mark mark.Dot ∷ AName ∷ []) one two fault c.in_ok-punctuation.ensures.ok c.in_ok-punctuation.ensures.left
     (stuck_after_name (λ w. BeginsOutput (token.Name c.in_ok-resource.resource ∷ mark_word mark.Dot ∷ w)) c.in_ok-instance.instance (Mark mark.Dot ∷ AName ∷ []) two three fault c.in_ok-instance.ensures.ok c.in_ok-instance.ensures.left
     (stuck_after_mark (λ w. BeginsOutput (token.Name c.in_ok-resource.resource ∷ mark_word mark.Dot ∷ token.Name c.in_ok-instance.instance ∷ w)) mark.Dot (AName ∷ []) three four fault c.in_ok-punctuation-2.ensures.ok c.in_ok-punctuation-2.ensures.left
-    (name_stuck (λ w. BeginsOutput (token.Name c.in_ok-resource.resource ∷ mark_word mark.Dot ∷ token.Name c.in_ok-instance.instance ∷ mark_word mark.Dot ∷ w)) (c.in_ok-resource.resource, c.in_ok-instance.instance, [], token.Name [] ∷ [], refl) [] four fault c.in_err-output.ensures.err c.in_err-output.ensures.other)))))
+    (name_stuck (λ w. BeginsOutput (token.Name c.in_ok-resource.resource ∷ mark_word mark.Dot ∷ token.Name c.in_ok-instance.instance ∷ mark_word mark.Dot ∷ w)) (c.in_ok-resource.resource, c.in_ok-instance.instance, [], (token.Name [] ∷ [], refl)) [] four fault c.in_err-output.ensures.err c.in_err-output.ensures.other)))))

@@ -89,4 +89,4 @@ returns-in_err-body-clause-stuck c =
     (stuck_behind_blocks (λ w. Known (key_word key.Program ∷ token.Name c.in_ok-name.name ∷ (flat_map block_words blocks ++ w))) end c.blocks-2.new.self fault c.in_ok-blocks.ensures.none
     (stuck_told (λ w. Known (key_word key.Program ∷ token.Name c.in_ok-name.name ∷ (flat_map block_words blocks ++ w))) (BeginsWords end_words (λ (b : List ℕ). Unit {0})) end c.blocks-2.new.self fault
     (λ w b. program_end_front before c.in_ok-name.name c.in_ok-blocks.blocks w c.in_ok-name.ensures.new (omega (arith, c.in_ok-name.ensures.few, length-map c.args.before.now (λ (t : TextValue). t.program))) c.in_ok-blocks.ensures.lawful
-    (subst AreVariables (c.in_ok-blocks.ensures.declared ∙ ap (λ (vs : List Declaration). vs ++ flat_map block_variables blocks) c.new-variables.ensures) c.len-declared.ensures.lawful) b.0 (b.2, b.3)) c.in_err-body.ensures.stuck))))
+    (subst AreVariables (c.in_ok-blocks.ensures.declared ∙ ap (λ (vs : List Declaration). vs ++ flat_map block_variables blocks) c.new-variables.ensures) c.len-declared.ensures.lawful) b.0 b.2) c.in_err-body.ensures.stuck))))

@@ -15,7 +15,7 @@ returns-in_err-body-clause-stuck c =
     let fault = c.in_err-body.field-0.0 in
     let Known : List Token → Type 0 = BeginsWords end_words (λ (b : List ℕ). Unit {0}) in
     kept_fault fault (GetsStuck Known (ABody ∷ Key key.EndProgram ∷ []) c.args.self.now) c.from_residual.result c.from_residual.ensures.1
-    (body_stuck Known ([], tt, end_words [], refl) (Key key.EndProgram ∷ []) c.args.self.now fault c.in_err-body.ensures.err c.in_err-body.ensures.other)
+    (body_stuck Known ([], tt, (end_words [], refl)) (Key key.EndProgram ∷ []) c.args.self.now fault c.in_err-body.ensures.err c.in_err-body.ensures.other)
 
 pub returns-in_err-keyword-clause-stuck : goal.returns-in_err-keyword-clause-stuck
 returns-in_err-keyword-clause-stuck c =
@@ -23,4 +23,4 @@ returns-in_err-keyword-clause-stuck c =
     let Known : List Token → Type 0 = BeginsWords end_words (λ (b : List ℕ). Unit {0}) in
     kept_fault fault (GetsStuck Known (ABody ∷ Key key.EndProgram ∷ []) c.args.self.now) c.from_residual-in_err-keyword.result c.from_residual-in_err-keyword.ensures.1
     (stuck_after_body Known c.in_ok-body.body (Key key.EndProgram ∷ []) c.args.self.now c.body.new.self fault c.in_ok-body.ensures.ok c.in_ok-body.ensures.left
-    (key_stuck (λ w. Known (token.Body c.in_ok-body.body ∷ w)) (c.in_ok-body.body, tt, key_word key.EndProgram ∷ [], refl) key.EndProgram [] c.body.new.self fault c.in_err-keyword.ensures.err.0 c.in_err-keyword.ensures.other))
+    (key_stuck (λ w. Known (token.Body c.in_ok-body.body ∷ w)) (c.in_ok-body.body, tt, (key_word key.EndProgram ∷ [], refl)) key.EndProgram [] c.body.new.self fault c.in_err-keyword.ensures.err.0 c.in_err-keyword.ensures.other))

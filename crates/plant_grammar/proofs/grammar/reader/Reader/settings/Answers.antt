@@ -19,7 +19,7 @@ returns-in_err-interval-clause-stuck c =
     kept_fault fault (GetsStuck BeginsSettings (TheSettings ∷ []) c.args.self.now) c.from_residual.result c.from_residual.ensures.1
     (stuck_in_interval BeginsSettings c.args.self.now fault (c.if-sees_keyword.ensures.yes refl)
     (stuck_told BeginsSettings (BeginsWords interval_words (λ (n : ℕ). 0 < n)) (Key key.Interval ∷ interval_rest) c.args.self.now fault
-    (λ w b. (IntervalFirst, b.0, 0, b.1, b.2 ++ mark_word mark.Comma ∷ priority_words 0, ap (λ (ws : List Token). ws ++ mark_word mark.Comma ∷ priority_words 0) b.3 ∙ append_assoc w b.2 (mark_word mark.Comma ∷ priority_words 0)))
+    (λ w b. (IntervalFirst, b.0, 0, b.1, (b.2.0 ++ mark_word mark.Comma ∷ priority_words 0, ap (λ (ws : List Token). ws ++ mark_word mark.Comma ∷ priority_words 0) b.2.1 ∙ append_assoc w b.2.0 (mark_word mark.Comma ∷ priority_words 0))))
     c.in_err-interval.ensures.stuck))
 
 pub returns-in_err-punctuation-clause-stuck : settings_goals.returns-in_err-punctuation-clause-stuck
@@ -29,7 +29,7 @@ returns-in_err-punctuation-clause-stuck c =
     kept_fault fault (GetsStuck BeginsSettings (TheSettings ∷ []) c.args.self.now) c.from_residual-in_err-punctuation.result c.from_residual-in_err-punctuation.ensures.1
     (stuck_after BeginsSettings (TheSettings ∷ []) behind_interval (interval_words c.in_ok-interval.interval) c.args.self.now one fault c.in_ok-interval.ensures.ok c.in_ok-interval.ensures.left
     (λ behind. first_interval_walked c.in_ok-interval.interval behind c.in_ok-interval.ensures.positive)
-    (mark_stuck (λ w. BeginsSettings (interval_words c.in_ok-interval.interval ++ w)) (IntervalFirst, c.in_ok-interval.interval, 0, c.in_ok-interval.ensures.positive, mark_word mark.Comma ∷ priority_words 0, refl) mark.Comma (Key key.Priority ∷ priority_rest) one fault c.in_err-punctuation.ensures.err.0 c.in_err-punctuation.ensures.other))
+    (mark_stuck (λ w. BeginsSettings (interval_words c.in_ok-interval.interval ++ w)) (IntervalFirst, c.in_ok-interval.interval, 0, c.in_ok-interval.ensures.positive, (mark_word mark.Comma ∷ priority_words 0, refl)) mark.Comma (Key key.Priority ∷ priority_rest) one fault c.in_err-punctuation.ensures.err.0 c.in_err-punctuation.ensures.other))
 
 pub returns-in_err-priority-clause-stuck : settings_goals.returns-in_err-priority-clause-stuck
 returns-in_err-priority-clause-stuck c =
@@ -41,7 +41,7 @@ returns-in_err-priority-clause-stuck c =
     (λ behind. first_interval_walked c.in_ok-interval.interval behind c.in_ok-interval.ensures.positive)
     (stuck_after_mark (λ w. BeginsSettings (interval_words c.in_ok-interval.interval ++ w)) mark.Comma (Key key.Priority ∷ priority_rest) one two fault c.in_ok-punctuation.ensures.ok c.in_ok-punctuation.ensures.left
     (stuck_told (λ w. BeginsSettings (interval_words c.in_ok-interval.interval ++ mark_word mark.Comma ∷ w)) (BeginsWords priority_words (λ (n : ℕ). Unit {0})) (Key key.Priority ∷ priority_rest) two fault
-    (λ w b. (IntervalFirst, c.in_ok-interval.interval, b.0, c.in_ok-interval.ensures.positive, b.2, ap (λ (ws : List Token). interval_words c.in_ok-interval.interval ++ mark_word mark.Comma ∷ ws) b.3))
+    (λ w b. (IntervalFirst, c.in_ok-interval.interval, b.0, c.in_ok-interval.ensures.positive, (b.2.0, ap (λ (ws : List Token). interval_words c.in_ok-interval.interval ++ mark_word mark.Comma ∷ ws) b.2.1)))
     c.in_err-priority.ensures.stuck)))
 
 pub returns-in_err-priority-2-clause-stuck : settings_goals.returns-in_err-priority-2-clause-stuck
@@ -50,7 +50,7 @@ returns-in_err-priority-2-clause-stuck c =
     kept_fault fault (GetsStuck BeginsSettings (TheSettings ∷ []) c.args.self.now) c.from_residual-in_err-priority-2.result c.from_residual-in_err-priority-2.ensures.1
     (stuck_in_priority BeginsSettings c.args.self.now fault (c.if-sees_keyword.ensures.no refl)
     (stuck_told BeginsSettings (BeginsWords priority_words (λ (n : ℕ). Unit {0})) (Key key.Priority ∷ priority_rest) c.args.self.now fault
-    (λ w b. (PriorityFirst, 1, b.0, omega arith, b.2 ++ mark_word mark.Comma ∷ interval_words 1, ap (λ (ws : List Token). ws ++ mark_word mark.Comma ∷ interval_words 1) b.3 ∙ append_assoc w b.2 (mark_word mark.Comma ∷ interval_words 1)))
+    (λ w b. (PriorityFirst, 1, b.0, omega arith, (b.2.0 ++ mark_word mark.Comma ∷ interval_words 1, ap (λ (ws : List Token). ws ++ mark_word mark.Comma ∷ interval_words 1) b.2.1 ∙ append_assoc w b.2.0 (mark_word mark.Comma ∷ interval_words 1))))
     c.in_err-priority-2.ensures.stuck))
 
 pub returns-in_err-punctuation-2-clause-stuck : settings_goals.returns-in_err-punctuation-2-clause-stuck
@@ -60,7 +60,7 @@ returns-in_err-punctuation-2-clause-stuck c =
     kept_fault fault (GetsStuck BeginsSettings (TheSettings ∷ []) c.args.self.now) c.from_residual-in_err-punctuation-2.result c.from_residual-in_err-punctuation-2.ensures.1
     (stuck_after BeginsSettings (TheSettings ∷ []) behind_priority (priority_words c.in_ok-priority-2.priority) c.args.self.now one fault c.in_ok-priority-2.ensures.ok c.in_ok-priority-2.ensures.left
     (first_priority_walked c.in_ok-priority-2.priority)
-    (mark_stuck (λ w. BeginsSettings (priority_words c.in_ok-priority-2.priority ++ w)) (PriorityFirst, 1, c.in_ok-priority-2.priority, omega arith, mark_word mark.Comma ∷ interval_words 1, refl) mark.Comma (Key key.Interval ∷ interval_rest) one fault c.in_err-punctuation-2.ensures.err.0 c.in_err-punctuation-2.ensures.other))
+    (mark_stuck (λ w. BeginsSettings (priority_words c.in_ok-priority-2.priority ++ w)) (PriorityFirst, 1, c.in_ok-priority-2.priority, omega arith, (mark_word mark.Comma ∷ interval_words 1, refl)) mark.Comma (Key key.Interval ∷ interval_rest) one fault c.in_err-punctuation-2.ensures.err.0 c.in_err-punctuation-2.ensures.other))
 
 pub returns-in_err-interval-2-clause-stuck : settings_goals.returns-in_err-interval-2-clause-stuck
 returns-in_err-interval-2-clause-stuck c =
@@ -72,5 +72,5 @@ returns-in_err-interval-2-clause-stuck c =
     (first_priority_walked c.in_ok-priority-2.priority)
     (stuck_after_mark (λ w. BeginsSettings (priority_words c.in_ok-priority-2.priority ++ w)) mark.Comma (Key key.Interval ∷ interval_rest) one two fault c.in_ok-punctuation-2.ensures.ok c.in_ok-punctuation-2.ensures.left
     (stuck_told (λ w. BeginsSettings (priority_words c.in_ok-priority-2.priority ++ mark_word mark.Comma ∷ w)) (BeginsWords interval_words (λ (n : ℕ). 0 < n)) (Key key.Interval ∷ interval_rest) two fault
-    (λ w b. (PriorityFirst, b.0, c.in_ok-priority-2.priority, b.1, b.2, ap (λ (ws : List Token). priority_words c.in_ok-priority-2.priority ++ mark_word mark.Comma ∷ ws) b.3))
+    (λ w b. (PriorityFirst, b.0, c.in_ok-priority-2.priority, b.1, (b.2.0, ap (λ (ws : List Token). priority_words c.in_ok-priority-2.priority ++ mark_word mark.Comma ∷ ws) b.2.1)))
     c.in_err-interval-2.ensures.stuck)))

@@ -76,8 +76,8 @@ returns-in_err-order-clause-stuck c =
     (stuck_after_name (λ w. Known (key_word key.Task ∷ w)) c.in_ok-name.name (Mark mark.Open ∷ TheSettings ∷ Mark mark.Close ∷ Mark mark.Semicolon ∷ []) one two fault c.in_ok-name.ensures.ok c.in_ok-name.ensures.left
     (stuck_after_mark (λ w. Known (key_word key.Task ∷ token.Name c.in_ok-name.name ∷ w)) mark.Open (TheSettings ∷ Mark mark.Close ∷ Mark mark.Semicolon ∷ []) two three fault c.in_ok-punctuation.ensures.ok c.in_ok-punctuation.ensures.left
     (stuck_told (λ w. Known (key_word key.Task ∷ token.Name c.in_ok-name.name ∷ mark_word mark.Open ∷ w)) BeginsSettings (TheSettings ∷ Mark mark.Close ∷ Mark mark.Semicolon ∷ []) three fault
-    (λ w b. task_front tasks c.in_ok-name.name b.0 b.1 b.2 (mark_word mark.Open ∷ w) (b.4 ++ mark_word mark.Close ∷ mark_word mark.Semicolon ∷ []) c.in_ok-name.ensures.new c.in_ok-name.ensures.few b.3
-    (ap (λ (ws : List Token). mark_word mark.Open ∷ ws ++ mark_word mark.Close ∷ mark_word mark.Semicolon ∷ []) b.5 ∙ ap (λ (ws : List Token). mark_word mark.Open ∷ ws) (append_assoc w b.4 (mark_word mark.Close ∷ mark_word mark.Semicolon ∷ []))))
+    (λ w b. task_front tasks c.in_ok-name.name b.0 b.1 b.2 (mark_word mark.Open ∷ w) (b.4.0 ++ mark_word mark.Close ∷ mark_word mark.Semicolon ∷ []) c.in_ok-name.ensures.new c.in_ok-name.ensures.few b.3
+    (ap (λ (ws : List Token). mark_word mark.Open ∷ ws ++ mark_word mark.Close ∷ mark_word mark.Semicolon ∷ []) b.4.1 ∙ ap (λ (ws : List Token). mark_word mark.Open ∷ ws) (append_assoc w b.4.0 (mark_word mark.Close ∷ mark_word mark.Semicolon ∷ []))))
     (stuck_more BeginsSettings (TheSettings ∷ []) (Mark mark.Close ∷ Mark mark.Semicolon ∷ []) three fault c.in_err-order.ensures.stuck)))))
 
 pub returns-in_err-punctuation-2-clause-stuck : task_goals.returns-in_err-punctuation-2-clause-stuck
