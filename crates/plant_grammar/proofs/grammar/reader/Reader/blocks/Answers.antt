@@ -1,3 +1,4 @@
+use Rattle.declared_names.specs.declared.declarations.Declaration.{Declaration}
 use Rattle.std.proofs.Common.{◌≡◌, ◌≢◌, ◌++◌, [], ◌∷◌, List, All, refl, ◌∙◌, subst, ◌+◌}
 use Rattle.plant_grammar.specs.Lawful.{block_variables, IsBlockLawful, AreVariables}
 use Rattle.plant_grammar.specs.Grammar.{block_words}

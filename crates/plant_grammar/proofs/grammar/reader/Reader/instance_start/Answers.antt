@@ -1,7 +1,7 @@
 use Rattle.plant_grammar.proofs.ReadLines.{line_before}
 use Rattle.plant_grammar.proofs.RefusedNames.{both_told}
 use Rattle.plant_grammar.proofs.RefusedPlaces.{instance_named}
-use Rattle.std.proofs.Common.{◌∷◌, [], refl, subst, sym}
+use Rattle.std.proofs.Common.{◌∷◌, [], refl, subst, sym, List}
 use Rattle.lists.proofs.Results.{kept_fault}
 use Rattle.std.proofs.lemmas.Result.{IfErr-weaker}
 use Rattle.plant_text.specs.declared.token.Keyword.TheVariants as key

@@ -1,5 +1,5 @@
 use Rattle.plant_text.specs.declared.token.Token.{Token}
-use Rattle.std.proofs.Common.{◌≡◌, ◌∷◌, [], sym, ◌∙◌, arith, List, refl, ◌<◌}
+use Rattle.std.proofs.Common.{◌≡◌, ◌∷◌, [], sym, ◌∙◌, arith, List, refl, ◌<◌, ℕ}
 use Rattle.lists.proofs.Results.{kept_fault}
 use Rattle.plant_text.specs.declared.token.Token.TheVariants as token
 use Rattle.plant_text.specs.declared.token.Keyword.TheVariants as key

@@ -1,6 +1,6 @@
 use Rattle.plant_text.specs.declared.token.Token.TheVariants as token
 use Rattle.plant_text.specs.declared.token.Token.{Token}
-use Rattle.std.proofs.Common.{◌∷◌, [], List, refl}
+use Rattle.std.proofs.Common.{◌∷◌, [], List, refl, ℕ}
 use Rattle.lists.proofs.Results.{kept_fault}
 use Rattle.plant_text.specs.declared.token.Keyword.TheVariants as key
 use Rattle.plant_text.specs.declared.token.Punctuation.TheVariants as mark

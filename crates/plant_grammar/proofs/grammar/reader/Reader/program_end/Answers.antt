@@ -1,6 +1,6 @@
 use Rattle.plant_text.specs.declared.token.Token.TheVariants as token
 use Rattle.plant_text.specs.declared.token.Token.{Token}
-use Rattle.std.proofs.Common.{[], ◌∷◌, refl}
+use Rattle.std.proofs.Common.{[], ◌∷◌, refl, List, ℕ}
 use Rattle.lists.proofs.Results.{kept_fault}
 use Rattle.plant_text.specs.declared.token.Keyword.TheVariants as key
 use Rattle.plant_grammar.specs.Steps.Expected.{Key, ABody, GetsStuck}

@@ -1,4 +1,5 @@
-use Rattle.std.proofs.Common.{◌≤◌, [], ◌∷◌, length, arith, subst, sym}
+use Rattle.plant_text.specs.declared.token.Token.{Token}
+use Rattle.std.proofs.Common.{◌≤◌, [], ◌∷◌, length, arith, subst, sym, List}
 use Rattle.std.proofs.lemmas.List.{length-map}
 use Rattle.std.proofs.lemmas.Result.{IfErr-weaker}
 use Rattle.plant_grammar.specs.Grammar.{TextValue}

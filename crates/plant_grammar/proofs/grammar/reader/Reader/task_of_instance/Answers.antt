@@ -6,7 +6,7 @@ use Rattle.plant_grammar.specs.Lawful.{task_of}
 use Rattle.plant_grammar.specs.Steps.NamesRead.{IsUnknown}
 use Rattle.plant_grammar.proofs.ReadLines.{line_before}
 use Rattle.plant_grammar.proofs.RefusedNames.{both_told, unknown_next, begin_after}
-use Rattle.std.proofs.Common.{◌∷◌, [], refl, subst, sym}
+use Rattle.std.proofs.Common.{◌∷◌, [], refl, subst, sym, List}
 use Rattle.lists.proofs.Results.{kept_fault}
 use Rattle.std.proofs.lemmas.Result.{IfErr-weaker}
 use Rattle.plant_text.specs.declared.token.Keyword.TheVariants as key
