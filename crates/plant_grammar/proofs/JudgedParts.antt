@@ -94,7 +94,6 @@ none_among front n more apart among =
     let found = Any-from_list_any (λ m. is_named n m) front among in
     behind_others front n more apart found.0 found.1 found.2 found.3 found.4
 
-
 -- a name that is new, where there may be one more
 pub new_sound : (names : List (List ℕ)) (count most : ℕ) (n : List ℕ) → (IsTrue (is_among names n) → ⊥) → count < most → new_name names count most n ≡ sound (token.Name n)
 new_sound names count most n new few =

@@ -10,8 +10,8 @@ use Rattle.plant_grammar.specs.WellFormed.{IsTreeWellFormed}
 abbrev pub GoesOn : List Token → Type 0
 GoesOn words = (tree : Tree) × (more : List Token) × (words_of tree ≡ words ++ more) × IsTreeWellFormed tree
 
--- A plant goes on from these words but for the last, none of which has a fault, and none from all of them. Where a body is due, the last is none, and
--- begins no block of variables.
+-- A plant goes on from these words but for the last, none of which has a fault, and none from all of them. Where a body is
+-- due, the last is none, and begins no block of variables.
 pub record IsLastMisplaced (words : List Token) : Type 0 where
   pub before : List Token
   pub word : Token

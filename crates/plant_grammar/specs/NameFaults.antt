@@ -95,7 +95,7 @@ judged_resource programs instances binds before r =
     sound (key_word key.Resource) ∷ new_name (map (λ (q : Resource). q.name) before) (length before) 16 r.name
     ∷ sound (key_word key.On) ∷ sound (token.Name r.node)
     ∷ in_order (λ xs x. judged_item programs (instances + length (flat_map use_of xs))
-        (binds + length (flat_map binds_of (flat_map use_of xs))) xs x) [] r.items.items
+    (binds + length (flat_map binds_of (flat_map use_of xs))) xs x) [] r.items.items
     ++ sound (key_word key.EndResource) ∷ []
 
 -- the words of a tree, in order, each with its fault
@@ -104,7 +104,7 @@ judged_of t =
     in_order judged_program [] t.programs
     ++ sound (key_word key.Configuration) ∷ sound (token.Name t.name)
     ∷ (in_order (λ rs r. judged_resource t.programs (length (flat_map uses_of rs))
-        (length (flat_map binds_of (flat_map uses_of rs))) rs r) [] t.resources
+    (length (flat_map binds_of (flat_map uses_of rs))) rs r) [] t.resources
     ++ sound (key_word key.EndConfiguration) ∷ [])
 
 -- Some plant, as the grammar has it, begins with these words, none of which has a fault.
