@@ -1,13 +1,12 @@
 -- Where a name is refused, its word has that fault in view of those before it.
-use Rattle.std.proofs.Common.{◌≡◌, ◌≢◌, ◌⊎◌, inl, inr, ℕ, ◌+◌, ◌<◌, ◌≤◌, ◌^◌, leb, Bool, true, false, not, IsTrue, List, [], ◌∷◌, ◌++◌, length, map, position, Option, Some, None, is_none, is_some, refl, sym, ap, subst, ◌∙◌, append_assoc, arith}
-use Rattle.std.specs.Prelude.{All, Any}
+use Rattle.std.proofs.Common.{◌≡◌, ◌≢◌, ◌⊎◌, inl, inr, ℕ, ◌+◌, ◌<◌, ◌≤◌, leb, Bool, true, false, not, IsTrue, List, [], ◌∷◌, ◌++◌, length, map, position, Option, Some, None, is_none, is_some, refl, sym, ap, subst, ◌∙◌, append_assoc, arith}
+use Rattle.std.specs.Prelude.{All}
 use Rattle.std.specs.List.{flat_map, find}
 use Rattle.std.specs.Option.{option_and_then}
 use Rattle.std.proofs.lemmas.Bool.{leb-false, false_from_ne_true, true_from_ne_false}
-use Rattle.std.proofs.lemmas.List.{append-nil, length-append, map-append}
+use Rattle.std.proofs.lemmas.List.{length-append}
 use Rattle.std.proofs.lemmas.List.Folds.{Any-from_list_any, list_any-from_Any}
-use Rattle.std.proofs.lemmas.List.Elements.{All-nil, All-cons}
-use Rattle.std.specs.Str.{str_eq_ignore_ascii_case}
+use Rattle.std.proofs.lemmas.List.Elements.{All-nil}
 use Rattle.std_blocks.specs.declared.block_type.BlockType.{BlockType}
 use Rattle.declared_names.specs.declared.declarations.Kind.{Kind}
 use Rattle.declared_names.specs.declared.declarations.Kind.TheVariants as value
@@ -19,14 +18,12 @@ use Rattle.words.specs.declared.address.Space.TheVariants.{Bit, Word}
 use Rattle.plant_text.specs.declared.token.Token.{Token}
 use Rattle.plant_text.specs.declared.token.Token.TheVariants as token
 use Rattle.plant_text.specs.declared.token.Keyword.TheVariants as key
-use Rattle.plant_text.specs.declared.token.Punctuation.TheVariants.{Open, Close, Colon, Semicolon, Comma, Assign}
+use Rattle.plant_text.specs.declared.token.Punctuation.TheVariants.{Open, Close, Colon, Semicolon, Assign}
 use Rattle.plant_grammar.specs.declared.grammar_fault.GrammarFaultKind.{GrammarFaultKind}
 use Rattle.plant_grammar.specs.declared.grammar_fault.GrammarFaultKind.TheVariants as kind
 use Rattle.plant_grammar.specs.declared.grammar.tree.Section.{Section}
 use Rattle.plant_grammar.specs.declared.grammar.tree.Section.TheVariants as section
 use Rattle.plant_grammar.specs.declared.grammar.tree.TypeName.TheVariants.{Elementary, Block}
-use Rattle.plant_grammar.specs.declared.grammar.tree.NameList.{NameList}
-use Rattle.plant_grammar.specs.declared.grammar.tree.VarBlock.{VarBlock}
 use Rattle.plant_grammar.specs.declared.grammar.tree.Program.{Program}
 use Rattle.plant_grammar.specs.declared.grammar.tree.Order.TheVariants.{IntervalFirst}
 use Rattle.plant_grammar.specs.declared.grammar.tree.TaskLine.{TaskLine}
@@ -35,22 +32,22 @@ use Rattle.plant_grammar.specs.declared.grammar.tree.Bind.{Bind}
 use Rattle.plant_grammar.specs.declared.grammar.tree.Use.{Use}
 use Rattle.plant_grammar.specs.declared.grammar.tree.Item.{Item}
 use Rattle.plant_grammar.specs.declared.grammar.tree.Resource.{Resource}
-use Rattle.plant_grammar.specs.Grammar.{key_word, mark_word, section_words, type_word, name_words, list_words, block_words, program_words, settings, item_words, resource_words}
-use Rattle.plant_grammar.specs.JudgedWords.{Judged, sound, sounds, if_so, is_among, new_name, known_name, in_order, listed, input_name, may_take, judged_source, judged_type}
+use Rattle.plant_grammar.specs.Grammar.{key_word, mark_word, section_words, name_words, list_words, block_words, program_words, settings, item_words, resource_words}
+use Rattle.plant_grammar.specs.JudgedWords.{Judged, sound, sounds, if_so, is_among, new_name, known_name, input_name, may_take, judged_source, judged_type}
 use Rattle.plant_grammar.specs.Kinds.{input_kind_of, IsOfInputKind}
 use Rattle.plant_grammar.specs.Names.{is_named, AreNamesApart}
-use Rattle.plant_grammar.specs.Lawful.{lists_variables, block_variables, variables, AreVariables, MayBeDeclared, IsTypeLawful, IsListLawful, IsBlockLawful, AreProgramsDeclared, task_of, use_of, uses_of, binds_of, programs_alone}
+use Rattle.plant_grammar.specs.Lawful.{lists_variables, block_variables, variables, IsTypeLawful, AreProgramsDeclared, task_of, use_of, uses_of, binds_of}
 use Rattle.plant_grammar.specs.WellFormed.{HasNames, IsBlockWellFormed, IsProgramWellFormed, IsResourceWellFormed, IsTreeWellFormed}
-use Rattle.plant_grammar.specs.NameFaults.{judged_variable, judged_list, judged_block, judged_program, judged_task, judged_bind, judged_binds, variables_named, judged_use, judged_item, judged_resource, judged_of, IsLastRefused}
-use Rattle.plant_grammar.specs.Steps.NamesRead.{IsOfName, Tells, TellsOfName, TellsOfSoughtName, IsNameTaken, IsNew, IsRefused, IsUnknown, IsAfter, IsAfterName, IsAfterWhole, name_and_comma, bind_and_comma, RefusesVariable, RefusesType, RefusesOneList, RefusesList, RefusesBlock, RefusesBlocks, MayNameProgram, RefusesProgram, RefusesTask, RefusesInput, RefusesAddress, RefusesOneBind, RefusesBind, RefusesTyped, RefusesBinds, MayNameInstance, RefusesInstance, RefusesItems, MayNameResource, RefusesResource, RefusesResources, RefusesBehind}
+use Rattle.plant_grammar.specs.NameFaults.{judged_variable, judged_list, judged_block, judged_program, judged_task, judged_bind, judged_use, judged_resource, judged_of, IsLastRefused}
+use Rattle.plant_grammar.specs.Steps.NamesRead.{IsOfName, Tells, TellsOfName, TellsOfSoughtName, IsNameTaken, IsRefused, IsUnknown, IsAfter, IsAfterName, name_and_comma, bind_and_comma, RefusesVariable, RefusesType, RefusesOneList, RefusesList, RefusesBlock, RefusesBlocks, MayNameProgram, RefusesProgram, RefusesTask, RefusesOneBind, RefusesBind, RefusesTyped, RefusesBinds, MayNameInstance, RefusesInstance, RefusesItems, MayNameResource, RefusesResource, RefusesResources, RefusesBehind}
 use Rattle.plant_grammar.specs.Steps.SameNames.{named_back, named_both}
-use Rattle.plant_grammar.specs.Steps.SoundWords.{Fits, EndsFaulty, judged_names, judged_lists, AreListsFormed, judged_blocks, AreBlocksFormed, bind_behind, judged_in_parentheses, IsItemFormed, item_behind, judged_items, AreItemsFormed, judged_resources_behind, AreResourcesFormed}
+use Rattle.plant_grammar.specs.Steps.SoundWords.{Fits, EndsFaulty, judged_lists, AreListsFormed, judged_blocks, AreBlocksFormed, bind_behind, judged_in_parentheses, IsItemFormed, item_behind, judged_items, AreItemsFormed, judged_resources_behind, AreResourcesFormed}
 use Rattle.plant_grammar.proofs.DecodedWords.{vec_of}
 use Rattle.plant_grammar.proofs.FoundTypes.{found_any}
 use Rattle.plant_grammar.proofs.RefusedNames.{tells_with}
 use Rattle.plant_grammar.proofs.JudgedParts.{sounds_both, listed_last, among_taken, taken_among, new_sound, new_faulty, known_sound, unknown_faulty, among_first, among_last, among_parts}
 use Rattle.plant_grammar.proofs.SoundParts.{variables_sound, names_sound, input_sound, not_among}
-use Rattle.plant_grammar.proofs.LiftedWords.{Lifts, lift_faulty, list_in_lists, lists_in_block, block_in_blocks, blocks_in_program, program_in_tree, bind_in_binds, IsTyped, binds_in_use, use_in_item, task_in_item, item_in_items, items_in_resource, resource_in_resources, resources_in_tree}
+use Rattle.plant_grammar.proofs.LiftedWords.{lift_faulty, list_in_lists, lists_in_block, block_in_blocks, blocks_in_program, program_in_tree, bind_in_binds, IsTyped, binds_in_use, use_in_item, task_in_item, item_in_items, items_in_resource, resource_in_resources, resources_in_tree}
 
 -- a new name of which this is told, in other words for the names that there are
 new_told : {A : Type 0} (k : GrammarFaultKind) (name_of : A → List ℕ) (xs : List A) (count most : ℕ) (n : List ℕ) → IsOfName k → TellsOfName k (IsNameTaken name_of xs n) (most ≤ count) → new_name (map name_of xs) count most n ≡ record { word = token.Name n; fault = Some k }

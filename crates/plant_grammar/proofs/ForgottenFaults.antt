@@ -21,7 +21,7 @@ use Rattle.plant_grammar.specs.declared.grammar.tree.Use.{Use}
 use Rattle.plant_grammar.specs.declared.grammar.tree.Item.{Item}
 use Rattle.plant_grammar.specs.declared.grammar.tree.Item.TheVariants as item
 use Rattle.plant_grammar.specs.declared.grammar.tree.Resource.{Resource}
-use Rattle.plant_grammar.specs.Grammar.{Tree, key_word, mark_word, section_words, type_word, name_words, list_words, lists_words, block_words, program_words, settings, task_words, source_words, bind_words, with_commas, binds_words, binds_listed, use_words, item_words, items_words, resource_words, resources_words, words_of}
+use Rattle.plant_grammar.specs.Grammar.{Tree, key_word, mark_word, section_words, type_word, name_words, list_words, lists_words, block_words, program_words, settings, task_words, source_words, bind_words, with_commas, binds_words, binds_listed, use_words, item_words, resource_words, resources_words, words_of}
 use Rattle.plant_grammar.specs.JudgedWords.{Judged, sound, sounds, in_order, listed, judged_source}
 use Rattle.plant_grammar.specs.Lawful.{lists_variables, block_variables, uses_of, binds_of}
 use Rattle.plant_grammar.specs.NameFaults.{judged_variable, judged_list, judged_block, judged_program, judged_task, judged_bind, judged_binds, judged_use, judged_item, judged_resource, judged_of}

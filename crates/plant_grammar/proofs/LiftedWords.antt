@@ -1,5 +1,5 @@
 -- Words of a part are words of the whole that it stands in, with what was read in front of them.
-use Rattle.std.proofs.Common.{◌≡◌, ◌≢◌, ℕ, ◌+◌, ◌*◌, ◌<◌, ◌≤◌, ◌^◌, IsTrue, List, [], ◌∷◌, ◌++◌, length, map, Option, Some, None, refl, sym, ap, subst, ◌∙◌, append_assoc, arith}
+use Rattle.std.proofs.Common.{◌≡◌, ℕ, ◌+◌, ◌*◌, ◌<◌, ◌≤◌, IsTrue, List, [], ◌∷◌, ◌++◌, length, map, Option, Some, sym, ap, subst, ◌∙◌, append_assoc, arith}
 use Rattle.std.specs.Prelude.{All}
 use Rattle.std.specs.List.{flat_map, find}
 use Rattle.std.proofs.lemmas.List.{append-nil, length-append}
@@ -22,19 +22,19 @@ use Rattle.plant_grammar.specs.declared.grammar.tree.Use.{Use}
 use Rattle.plant_grammar.specs.declared.grammar.tree.Item.{Item}
 use Rattle.plant_grammar.specs.declared.grammar.tree.Item.TheVariants as item
 use Rattle.plant_grammar.specs.declared.grammar.tree.Resource.{Resource}
-use Rattle.plant_grammar.specs.Grammar.{Tree, key_word, mark_word, section_words, type_word, name_words, list_words, lists_words, block_words, program_words, bind_words, task_words, use_words, item_words, resource_words}
-use Rattle.plant_grammar.specs.JudgedWords.{Judged, sound, sounds, is_among, new_name, known_name, in_order, listed}
+use Rattle.plant_grammar.specs.Grammar.{key_word, mark_word, section_words, type_word, name_words, list_words, lists_words, block_words, program_words, bind_words, task_words, use_words, item_words, resource_words}
+use Rattle.plant_grammar.specs.JudgedWords.{Judged, sound, sounds, is_among, known_name, in_order}
 use Rattle.plant_grammar.specs.Names.{is_named, AreNamesApart}
-use Rattle.plant_grammar.specs.Lawful.{lists_variables, block_variables, variables, AreVariables, IsListLawful, IsBlockLawful, IsProgramLawful, AreProgramsDeclared, task_of, use_of, uses_of, binds_of, programs_alone, AreItemsLawful, AreResourcesLawful, IsResourceLawful}
-use Rattle.plant_grammar.specs.WellFormed.{HasNames, IsBlockWellFormed, IsProgramWellFormed, AreIntervalsPositive, IsResourceWellFormed, IsTreeWellFormed}
-use Rattle.plant_grammar.specs.NameFaults.{judged_list, judged_block, judged_program, judged_task, judged_bind, judged_binds, variables_found, variables_named, judged_use, judged_item, judged_resource, judged_of}
+use Rattle.plant_grammar.specs.Lawful.{lists_variables, block_variables, variables, AreVariables, IsListLawful, IsBlockLawful, IsProgramLawful, AreProgramsDeclared, task_of, use_of, uses_of, binds_of, programs_alone}
+use Rattle.plant_grammar.specs.WellFormed.{HasNames, IsBlockWellFormed, IsProgramWellFormed, IsResourceWellFormed, IsTreeWellFormed}
+use Rattle.plant_grammar.specs.NameFaults.{judged_list, judged_block, judged_program, judged_task, judged_binds, variables_found, variables_named, judged_use, judged_item, judged_resource, judged_of}
 use Rattle.plant_grammar.specs.Steps.NamesRead.{bind_and_comma, AreBindsLawful, AreItemsLawfulBehind, AreResourcesLawfulBehind}
 use Rattle.plant_grammar.specs.Steps.SoundWords.{Fits, BeginsSound, EndsFaulty, judged_lists, AreListsFormed, judged_blocks, AreBlocksFormed, bind_behind, judged_in_parentheses, IsItemFormed, item_behind, judged_items, AreItemsFormed, judged_resources_behind, AreResourcesFormed}
 use Rattle.plant_grammar.proofs.DecodedWords.{vec_of}
 use Rattle.plant_grammar.proofs.WordLists.{flat_map-push}
 use Rattle.plant_grammar.proofs.WalkedPrograms.{lawful_lists_named, lawful_blocks_formed, lawful_program_formed}
 use Rattle.plant_grammar.proofs.WalkedResources.{formed_resources}
-use Rattle.plant_grammar.proofs.JudgedParts.{sounds_both, in_order_sound, in_order_last, listed_last, among_taken, new_sound, known_sound}
+use Rattle.plant_grammar.proofs.JudgedParts.{sounds_both, in_order_sound, in_order_last, listed_last, new_sound, known_sound}
 use Rattle.plant_grammar.proofs.SoundParts.{each_list_sound, each_block_sound, each_program_sound, each_bind_sound, each_item_sound, each_resource_sound}
 
 -- Each part stands in a whole, behind these words, which have no fault there.

@@ -1,21 +1,19 @@
 -- The programs that begin words up to a name refused are those that were read.
-use Rattle.std.proofs.Common.{◌≡◌, ℕ, ◌+◌, List, [], ◌∷◌, ◌++◌, length, map, inl, inr, Option, Some, None, refl, sym, ap, ◌∙◌, append_assoc, arith}
+use Rattle.std.proofs.Common.{◌≡◌, List, [], ◌∷◌, ◌++◌, length, map, inl, inr, Some, None, refl, sym, ap, ◌∙◌, append_assoc, arith}
 use Rattle.std.specs.List.{flat_map}
 use Rattle.std.proofs.lemmas.List.{append-nil, length-append}
 use Rattle.plant_text.specs.declared.token.Token.{Token}
 use Rattle.plant_text.specs.declared.token.Token.TheVariants as token
 use Rattle.plant_text.specs.declared.token.Keyword.TheVariants as key
 use Rattle.plant_grammar.specs.declared.grammar_fault.GrammarFaultKind.{GrammarFaultKind}
-use Rattle.plant_grammar.specs.declared.grammar.tree.VarBlock.{VarBlock}
 use Rattle.plant_grammar.specs.declared.grammar.tree.Program.{Program}
 use Rattle.plant_grammar.specs.Grammar.{key_word, program_words}
 use Rattle.plant_grammar.specs.JudgedWords.{Judged, sound, sounds, new_name, in_order}
 use Rattle.plant_grammar.specs.Lawful.{block_variables, AreProgramsDeclared}
-use Rattle.plant_grammar.specs.NameFaults.{judged_block, judged_program, IsLastRefused}
+use Rattle.plant_grammar.specs.NameFaults.{judged_block, judged_program}
 use Rattle.plant_grammar.specs.WellFormed.{IsProgramWellFormed}
 use Rattle.plant_grammar.specs.Steps.Declaring.{RefusesPlantWords, RefusesFirst}
 use Rattle.plant_grammar.specs.Steps.NamesRead.{IsOfName, RefusesBehind}
-use Rattle.plant_grammar.specs.Steps.Reading.{AreAllPrograms}
 use Rattle.plant_grammar.specs.Steps.SoundWords.{Fits, EndsFaulty}
 use Rattle.plant_grammar.proofs.ForgottenFaults.{forget, forget_both, forget_sounds, program_forgotten}
 use Rattle.plant_grammar.proofs.OneTree.{one_program, program_stops, all_programs}

@@ -1,5 +1,5 @@
 -- Words that were read up to one that the grammar doesn't have there begin something, and have no fault.
-use Rattle.std.proofs.Common.{◌≡◌, ℕ, ◌+◌, ◌<◌, ◌≤◌, ◌^◌, IsTrue, List, [], ◌∷◌, ◌++◌, length, map, Option, Some, None, refl, sym, ap, subst, ◌∙◌, append_assoc, arith}
+use Rattle.std.proofs.Common.{◌≡◌, ℕ, ◌+◌, ◌<◌, ◌≤◌, IsTrue, List, [], ◌∷◌, ◌++◌, length, map, Option, Some, None, refl, sym, ap, subst, ◌∙◌, append_assoc, arith}
 use Rattle.std.specs.Prelude.{All, Any}
 use Rattle.std.specs.Global.{Vec}
 use Rattle.std.specs.List.{flat_map, find}
@@ -29,8 +29,8 @@ use Rattle.plant_grammar.specs.declared.grammar.tree.Bind.{Bind}
 use Rattle.plant_grammar.specs.declared.grammar.tree.Use.{Use}
 use Rattle.plant_grammar.specs.declared.grammar.tree.Item.{Item}
 use Rattle.plant_grammar.specs.declared.grammar.tree.Resource.{Resource}
-use Rattle.plant_grammar.specs.Grammar.{Tree, TextValue, item_words, resource_words, key_word, mark_word, type_word, name_words, list_words, block_words, program_words, settings, task_words, source_words, bind_words, with_commas, binds_words, binds_listed}
-use Rattle.plant_grammar.specs.JudgedWords.{Judged, sound, sounds, is_among, new_name, known_name, listed, input_name, judged_source, judged_type}
+use Rattle.plant_grammar.specs.Grammar.{item_words, resource_words, key_word, mark_word, type_word, name_words, list_words, block_words, program_words, settings, task_words, bind_words, with_commas, binds_words, binds_listed}
+use Rattle.plant_grammar.specs.JudgedWords.{Judged, sound, sounds, is_among, new_name, known_name, judged_source, judged_type}
 use Rattle.plant_grammar.specs.Kinds.{input_kind_of, IsOfInputKind}
 use Rattle.plant_grammar.specs.Names.{is_named, AreNamesApart}
 use Rattle.plant_grammar.specs.Lawful.{block_variables, variables, AreVariables, MayBeDeclared, IsTypeLawful, IsBlockLawful, IsProgramLawful, AreProgramsDeclared, task_of, use_of, uses_of, binds_of, programs_alone, AreItemsLawful, AreResourcesLawful}
@@ -38,14 +38,14 @@ use Rattle.plant_grammar.specs.WellFormed.{HasNames, IsBlockWellFormed, IsProgra
 use Rattle.plant_grammar.specs.NameFaults.{judged_variable, judged_list, judged_block, judged_program, judged_task, judged_bind, judged_binds, variables_found, variables_named, judged_use, judged_item, judged_resource, judged_of}
 use Rattle.plant_grammar.specs.Steps.NamesRead.{IsNew, name_and_comma, bind_and_comma, AreBindsLawful}
 use Rattle.plant_grammar.specs.Steps.ReadParts.{TallyValue, with_instance, with_binds, tally_with}
-use Rattle.plant_grammar.specs.Steps.SoundWords.{Fits, BeginsSound, IsNothing, BeginWords, BeginsSettings, BeginsOutput, end_words, judged_names, AreNamesFormed, ListedFit, bind_behind, judged_in_parentheses, IsItemFormed, item_behind, judged_items, AreItemsFormed, judged_resources_behind, AreResourcesFormed}
+use Rattle.plant_grammar.specs.Steps.SoundWords.{Fits, BeginsSound, BeginWords, BeginsOutput, end_words, judged_names, AreNamesFormed, ListedFit, bind_behind, judged_in_parentheses, IsItemFormed, item_behind, judged_items, AreItemsFormed, judged_resources_behind, AreResourcesFormed}
 use Rattle.plant_grammar.proofs.DecodedWords.{vec_of}
 use Rattle.plant_grammar.proofs.RefusedNames.{names_and_commas, binds_and_commas}
 use Rattle.plant_grammar.proofs.Apart.{apart_none}
 use Rattle.plant_grammar.proofs.FaultyParts.{found_among}
 use Rattle.plant_grammar.proofs.WalkedPrograms.{lawful_program_formed}
 use Rattle.plant_grammar.proofs.JudgedParts.{among_taken, sounds_both, listed_last, listed_sound, new_sound, known_sound}
-use Rattle.plant_grammar.proofs.SoundParts.{variables_sound, list_sound, program_sound, task_sound, input_sound, source_sound, binds_sound, each_bind_sound, not_among}
+use Rattle.plant_grammar.proofs.SoundParts.{variables_sound, list_sound, program_sound, task_sound, input_sound, binds_sound, each_bind_sound, not_among}
 use Rattle.plant_grammar.proofs.LiftedWords.{Lifts, lift_sound, empty_resource, IsTyped, bind_in_binds, item_in_items, resource_in_resources, program_in_tree, resources_in_tree}
 
 -- one begins with no words

@@ -1,15 +1,12 @@
 -- What is lawful where it stands has no fault.
-use Rattle.std.proofs.Common.{◌≡◌, ◌≢◌, ℕ, zero, suc, ◌+◌, ◌<◌, ◌≤◌, leb, Bool, true, false, not, cond, IsTrue, List, [], ◌∷◌, ◌++◌, length, map, get_or, position, Option, Some, None, is_none, refl, sym, ap, subst, ◌∙◌, append_assoc, arith}
+use Rattle.std.proofs.Common.{◌≡◌, ℕ, zero, suc, ◌+◌, ◌<◌, ◌≤◌, leb, Bool, true, false, not, cond, IsTrue, List, [], ◌∷◌, ◌++◌, length, map, get_or, Option, Some, None, is_none, refl, sym, ap, subst, ◌∙◌, append_assoc, arith}
 use Rattle.std.specs.Prelude.{All, Any}
 use Rattle.std.specs.List.{flat_map, find}
-use Rattle.std.specs.Option.{option_and_then}
 use Rattle.std.proofs.lemmas.Bool.{leb-true, false_from_ne_true}
 use Rattle.std.proofs.lemmas.List.{append-nil, get_or-map, length-append, length-map, map-append}
 use Rattle.std.proofs.lemmas.List.Concat.{flat_map-cons}
-use Rattle.std.proofs.lemmas.List.Elements.{All-head}
 use Rattle.lists.specs.Items.{items_or_none}
 use Rattle.declared_names.specs.declared.declarations.Kind.{Kind}
-use Rattle.declared_names.specs.declared.declarations.Kind.TheVariants as value
 use Rattle.declared_names.specs.declared.declarations.Declaration.{Declaration}
 use Rattle.declared_names.specs.Kinds.{kind_of_space}
 use Rattle.words.specs.declared.address.Space.{Space}
@@ -35,12 +32,12 @@ use Rattle.plant_grammar.specs.declared.grammar.tree.Item.{Item}
 use Rattle.plant_grammar.specs.declared.grammar.tree.Item.TheVariants as item
 use Rattle.plant_grammar.specs.declared.grammar.tree.Resource.{Resource}
 use Rattle.plant_grammar.specs.Grammar.{key_word, mark_word, section_words, type_word, name_words, list_words, lists_words, block_words, program_words, settings, task_words, source_words, bind_words, with_commas, binds_words, binds_listed, use_words, item_words, items_words, resource_words}
-use Rattle.plant_grammar.specs.JudgedWords.{Judged, sound, sounds, if_so, is_among, new_name, known_name, in_order, listed, input_name, may_take, judged_source, judged_type}
+use Rattle.plant_grammar.specs.JudgedWords.{Judged, sound, sounds, if_so, is_among, known_name, input_name, may_take, judged_source, judged_type}
 use Rattle.plant_grammar.specs.Kinds.{input_kind_of, HasFieldKind, IsOfInputKind}
 use Rattle.plant_grammar.specs.Names.{is_named, AreNamesApart}
 use Rattle.plant_grammar.specs.Lawful.{list_variables, lists_variables, block_variables, variables, AreVariables, MayBeDeclared, IsTypeLawful, IsListLawful, IsBlockLawful, IsProgramLawful, AreProgramsDeclared, task_of, use_of, uses_of, binds_of, programs_alone, IsUseLawful, IsResourceLawful, MayBeCounted}
 use Rattle.plant_grammar.specs.NameFaults.{judged_variable, judged_list, judged_block, judged_program, judged_task, judged_bind, judged_binds, variables_found, variables_named, judged_use, judged_item, judged_resource}
-use Rattle.plant_grammar.specs.Steps.NamesRead.{IsNameTaken, IsNew, AreBindsLawful, AreItemsLawfulBehind, AreResourcesLawfulBehind}
+use Rattle.plant_grammar.specs.Steps.NamesRead.{IsNew, AreBindsLawful, AreItemsLawfulBehind, AreResourcesLawfulBehind}
 use Rattle.plant_grammar.specs.Steps.ReadParts.{TallyValue, tally_with, MayFollow}
 use Rattle.plant_grammar.specs.Steps.SameNames.{named_both}
 use Rattle.plant_grammar.specs.Steps.SoundWords.{judged_names, judged_lists, judged_blocks, bind_behind, item_behind, judged_items}

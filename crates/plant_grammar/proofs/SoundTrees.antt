@@ -1,18 +1,12 @@
 -- A lawful tree's words have no fault.
-use Rattle.std.proofs.Common.{◌≡◌, ℕ, ◌+◌, ◌≤◌, List, [], ◌∷◌, ◌++◌, length, map, take, Some, refl, sym, ap, subst, ◌∙◌, arith}
-use Rattle.std.specs.Prelude.{All, slice_get}
+use Rattle.std.proofs.Common.{◌≡◌, ◌+◌, List, [], ◌∷◌, ◌++◌, length, sym, ap, ◌∙◌, arith}
 use Rattle.std.specs.List.{flat_map}
-use Rattle.plant_text.specs.declared.token.Token.{Token}
 use Rattle.plant_text.specs.declared.token.Token.TheVariants as token
 use Rattle.plant_text.specs.declared.token.Keyword.TheVariants as key
-use Rattle.plant_grammar.specs.declared.grammar.tree.Program.{Program}
-use Rattle.plant_grammar.specs.declared.grammar.tree.Item.{Item}
-use Rattle.plant_grammar.specs.declared.grammar.tree.Item.TheVariants as item
-use Rattle.plant_grammar.specs.declared.grammar.tree.Use.{Use}
 use Rattle.plant_grammar.specs.declared.grammar.tree.Resource.{Resource}
 use Rattle.plant_grammar.specs.Grammar.{Tree, key_word, program_words, resource_words, resources_words, words_of}
 use Rattle.plant_grammar.specs.JudgedWords.{Judged, sound, sounds, in_order}
-use Rattle.plant_grammar.specs.Lawful.{uses_of, binds_of, programs_alone, IsUseLawful, IsResourceLawful, AreProgramsDeclared, AreResourcesLawful, IsTreeLawful, all_uses}
+use Rattle.plant_grammar.specs.Lawful.{uses_of, binds_of, programs_alone, IsResourceLawful, AreProgramsDeclared, AreResourcesLawful, IsTreeLawful}
 use Rattle.plant_grammar.specs.NameFaults.{judged_program, judged_resource, judged_of}
 use Rattle.plant_grammar.specs.Steps.SoundWords.{judged_resources_behind}
 use Rattle.plant_grammar.proofs.WordLists.{resources_end}

@@ -1,5 +1,5 @@
 -- What is left behind words that were read, and where that is stuck.
-use Rattle.std.proofs.Common.{◌≡◌, ◌≢◌, ◌⊎◌, inl, inr, ◌==◌, ℕ, true, false, List, [], ◌∷◌, ◌++◌, None, Some, refl, ap, ◌∙◌, ◌+◌}
+use Rattle.std.proofs.Common.{◌≡◌, ◌≢◌, ◌⊎◌, inl, inr, ◌==◌, ℕ, true, false, List, [], ◌∷◌, ◌++◌, None, Some, refl, ap, ◌∙◌}
 use Rattle.std.proofs.lemmas.Bool.Decides.{eqb_tells}
 use Rattle.plant_text.specs.declared.token.Token.{Token}
 use Rattle.plant_text.specs.declared.token.Token.TheVariants as token

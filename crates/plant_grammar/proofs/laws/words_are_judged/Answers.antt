@@ -1,5 +1,3 @@
-use Rattle.plant_grammar.proofs.MisplacedWords as places
-use Rattle.plant_grammar.proofs.SoundFronts as fronts
 use Rattle.plant_grammar.proofs.ForgottenFaults.{forgotten}
 use Rattle.plant_grammar.proofs.laws.words_are_judged.Goals as words_are_judged_goals
 

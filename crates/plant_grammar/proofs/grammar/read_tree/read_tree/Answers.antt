@@ -1,6 +1,6 @@
 use Rattle.plant_text.specs.declared.token.Token.TheVariants as token
 use Rattle.plant_grammar.proofs.ExpectedWords.{stuck_told}
-use Rattle.std.proofs.Common.{◌≡◌, ◌≢◌, ◌<◌, ◌^◌, ◌++◌, List, length, ◌∙◌, ap, subst, [], refl, ◌+◌, ◌∷◌}
+use Rattle.std.proofs.Common.{◌≡◌, ◌≢◌, ◌<◌, ◌^◌, ◌++◌, List, length, ◌∙◌, ap, subst, [], refl, ◌∷◌}
 use Rattle.std.specs.List.{flat_map}
 use Rattle.lists.proofs.Results.{kept_fault}
 use Rattle.plant_grammar.specs.Grammar.{Tree, TextValue, words_of, key_word, program_words}

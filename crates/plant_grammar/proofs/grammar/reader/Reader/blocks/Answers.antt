@@ -1,5 +1,5 @@
 use Rattle.declared_names.specs.declared.declarations.Declaration.{Declaration}
-use Rattle.std.proofs.Common.{◌≡◌, ◌≢◌, ◌++◌, [], ◌∷◌, List, All, refl, ◌∙◌, subst, ◌+◌}
+use Rattle.std.proofs.Common.{◌≡◌, ◌≢◌, ◌++◌, [], ◌∷◌, List, All, refl, ◌∙◌, subst}
 use Rattle.plant_grammar.specs.Lawful.{block_variables, IsBlockLawful, AreVariables}
 use Rattle.plant_grammar.specs.Grammar.{block_words}
 use Rattle.plant_grammar.proofs.WordLists.{words_more, declared_more, all_more}

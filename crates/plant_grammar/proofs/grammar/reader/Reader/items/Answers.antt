@@ -1,4 +1,4 @@
-use Rattle.std.proofs.Common.{◌∙◌, ◌≡◌, ◌≢◌, ◌++◌, List, refl, sym, subst, ◌∷◌, [], ◌+◌}
+use Rattle.std.proofs.Common.{◌∙◌, ◌≡◌, ◌≢◌, ◌++◌, List, refl, sym, subst, ◌∷◌, []}
 use Rattle.plant_grammar.specs.Lawful.{use_of, AreItemsLawful}
 use Rattle.plant_grammar.specs.Grammar.{item_words, items_words}
 use Rattle.plant_grammar.specs.Steps.ReadParts.{types_alone, MayFollow}

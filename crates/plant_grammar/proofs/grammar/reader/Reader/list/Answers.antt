@@ -1,6 +1,6 @@
 use Rattle.plant_text.specs.declared.token.Token.{Token}
 use Rattle.plant_grammar.specs.Grammar.{mark_word, name_words, type_word}
-use Rattle.std.proofs.Common.{[], ◌∷◌, subst, sym, ◌++◌, ◌+◌, List}
+use Rattle.std.proofs.Common.{[], ◌∷◌, subst, sym, ◌++◌, List}
 use Rattle.plant_grammar.specs.Steps.NamesRead.{RefusesOneList}
 use Rattle.plant_grammar.specs.Steps.Declaring.{BeginRefused}
 use Rattle.plant_text.specs.declared.token.Punctuation.TheVariants.{Colon, Semicolon}

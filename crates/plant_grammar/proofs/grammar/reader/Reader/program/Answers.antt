@@ -1,5 +1,5 @@
 use Rattle.plant_text.specs.declared.token.Token.TheVariants as token
-use Rattle.std.proofs.Common.{◌≡◌, ◌≢◌, ◌<◌, ◌++◌, [], ◌∷◌, List, length, subst, sym, arith, ap, ◌+◌, ◌∙◌, ℕ}
+use Rattle.std.proofs.Common.{◌≡◌, ◌≢◌, ◌<◌, ◌++◌, [], ◌∷◌, List, length, subst, sym, arith, ap, ◌∙◌, ℕ}
 use Rattle.std.proofs.lemmas.List.{length-map}
 use Rattle.plant_grammar.specs.Grammar.{TextValue}
 use Rattle.plant_grammar.specs.declared.grammar.tree.Program.{Program}

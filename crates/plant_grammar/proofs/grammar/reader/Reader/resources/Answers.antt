@@ -1,4 +1,4 @@
-use Rattle.std.proofs.Common.{◌∙◌, rules, ◌≡◌, ◌≢◌, ◌<◌, ◌++◌, length, refl, sym, subst, List, ◌∷◌, [], arith, ◌+◌}
+use Rattle.std.proofs.Common.{◌∙◌, rules, ◌≡◌, ◌≢◌, ◌<◌, ◌++◌, length, refl, sym, subst, List, ◌∷◌, [], arith}
 use Rattle.plant_grammar.specs.declared.grammar.tree.Resource.{Resource}
 use Rattle.plant_grammar.specs.Lawful.{uses_of, AreResourcesLawful}
 use Rattle.plant_grammar.specs.Grammar.{resource_words, resources_words}

@@ -1,5 +1,5 @@
 use Rattle.plant_text.specs.declared.token.Token.{Token}
-use Rattle.std.proofs.Common.{◌∷◌, [], refl, ap, append_assoc, arith, ◌++◌, ◌+◌, ◌<◌, ◌∙◌, List, ℕ}
+use Rattle.std.proofs.Common.{◌∷◌, [], refl, ap, append_assoc, arith, ◌++◌, ◌<◌, ◌∙◌, List, ℕ}
 use Rattle.lists.proofs.Results.{kept_fault}
 use Rattle.plant_text.specs.declared.token.Keyword.TheVariants as key
 use Rattle.plant_text.specs.declared.token.Punctuation.TheVariants as mark

@@ -7,7 +7,7 @@ use Rattle.plant_grammar.specs.Steps.Declaring.{BeginRefused}
 use Rattle.lists.proofs.Results.{kept_fault}
 use Rattle.plant_grammar.proofs.ReadLines.{line_before}
 use Rattle.plant_grammar.proofs.RefusedPlaces.{task_refused}
-use Rattle.std.proofs.Common.{◌∷◌, [], ap, append_assoc, arith, refl, subst, sym, ◌++◌, ◌+◌, ◌<◌, ◌∙◌, List}
+use Rattle.std.proofs.Common.{◌∷◌, [], ap, append_assoc, arith, refl, subst, sym, ◌++◌, ◌<◌, ◌∙◌, List}
 use Rattle.plant_text.specs.declared.token.Keyword.TheVariants as key
 use Rattle.plant_text.specs.declared.token.Punctuation.TheVariants as mark
 use Rattle.plant_grammar.specs.Grammar.{settings, key_word, mark_word}
