@@ -42,12 +42,11 @@ use Rattle.plant_grammar.specs.NameFaults.{judged_variable, judged_list, judged_
 use Rattle.plant_grammar.specs.Steps.NamesRead.{IsOfName, Tells, TellsOfName, TellsOfSoughtName, IsNameTaken, IsRefused, IsUnknown, IsAfter, IsAfterName, name_and_comma, bind_and_comma, RefusesVariable, RefusesType, RefusesOneList, RefusesList, RefusesBlock, RefusesBlocks, MayNameProgram, RefusesProgram, RefusesTask, RefusesOneBind, RefusesBind, RefusesTyped, RefusesBinds, MayNameInstance, RefusesInstance, RefusesItems, MayNameResource, RefusesResource, RefusesResources, RefusesBehind}
 use Rattle.plant_grammar.specs.Steps.SameNames.{named_back, named_both}
 use Rattle.plant_grammar.specs.Steps.SoundWords.{Fits, EndsFaulty, judged_lists, AreListsFormed, judged_blocks, AreBlocksFormed, bind_behind, judged_in_parentheses, IsItemFormed, item_behind, judged_items, AreItemsFormed, judged_resources_behind, AreResourcesFormed}
-use Rattle.plant_grammar.proofs.DecodedWords.{vec_of}
 use Rattle.plant_grammar.proofs.FoundTypes.{found_any}
 use Rattle.plant_grammar.proofs.RefusedNames.{tells_with}
 use Rattle.plant_grammar.proofs.JudgedParts.{sounds_both, listed_last, among_taken, taken_among, new_sound, new_faulty, known_sound, unknown_faulty, among_first, among_last, among_parts}
 use Rattle.plant_grammar.proofs.SoundParts.{variables_sound, names_sound, input_sound, not_among}
-use Rattle.plant_grammar.proofs.LiftedWords.{lift_faulty, list_in_lists, lists_in_block, block_in_blocks, blocks_in_program, program_in_tree, bind_in_binds, IsTyped, binds_in_use, use_in_item, task_in_item, item_in_items, items_in_resource, resource_in_resources, resources_in_tree}
+use Rattle.plant_grammar.proofs.LiftedWords.{vec_of, lift_faulty, list_in_lists, lists_in_block, block_in_blocks, blocks_in_program, program_in_tree, bind_in_binds, IsTyped, binds_in_use, use_in_item, task_in_item, item_in_items, items_in_resource, resource_in_resources, resources_in_tree}
 
 -- a new name of which this is told, in other words for the names that there are
 new_told : {A : Type 0} (k : GrammarFaultKind) (name_of : A → List ℕ) (xs : List A) (count most : ℕ) (n : List ℕ) → IsOfName k → TellsOfName k (IsNameTaken name_of xs n) (most ≤ count) → new_name (map name_of xs) count most n ≡ record { word = token.Name n; fault = Some k }

@@ -9,8 +9,6 @@ pub mod StuckBehind
 pub mod WalkedPrograms
 pub mod WalkedResources
 pub mod FirstWords
-pub mod Endings
-pub mod DecodedWords
 pub mod BodyPlaces
 pub mod MisplacedWords
 pub mod RefusedNames

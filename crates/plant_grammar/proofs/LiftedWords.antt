@@ -1,7 +1,9 @@
 -- Words of a part are words of the whole that it stands in, with what was read in front of them.
-use Rattle.std.proofs.Common.{◌≡◌, ℕ, ◌+◌, ◌*◌, ◌<◌, ◌≤◌, IsTrue, List, [], ◌∷◌, ◌++◌, length, map, Option, Some, sym, ap, subst, ◌∙◌, append_assoc, arith}
+use Rattle.std.proofs.Common.{◌^◌, refl, ◌≡◌, ℕ, ◌+◌, ◌*◌, ◌<◌, ◌≤◌, IsTrue, List, [], ◌∷◌, ◌++◌, length, map, Option, Some, sym, ap, subst, ◌∙◌, append_assoc, arith}
 use Rattle.std.specs.Prelude.{All}
+use Rattle.std.specs.Global.{Vec}
 use Rattle.std.specs.List.{flat_map, find}
+use denote.RawPtr.{null_ptr}
 use Rattle.std.proofs.lemmas.List.{append-nil, length-append}
 use Rattle.std.proofs.lemmas.List.Concat.{flat_map-cons}
 use Rattle.std.proofs.lemmas.List.Elements.{All-nil, All-cons, All-push, All-append, All-weaker}
@@ -30,12 +32,15 @@ use Rattle.plant_grammar.specs.WellFormed.{HasNames, IsBlockWellFormed, IsProgra
 use Rattle.plant_grammar.specs.NameFaults.{judged_list, judged_block, judged_program, judged_task, judged_binds, variables_found, variables_named, judged_use, judged_item, judged_resource, judged_of}
 use Rattle.plant_grammar.specs.Steps.NamesRead.{bind_and_comma, AreBindsLawful, AreItemsLawfulBehind, AreResourcesLawfulBehind}
 use Rattle.plant_grammar.specs.Steps.SoundWords.{Fits, BeginsSound, EndsFaulty, judged_lists, AreListsFormed, judged_blocks, AreBlocksFormed, bind_behind, judged_in_parentheses, IsItemFormed, item_behind, judged_items, AreItemsFormed, judged_resources_behind, AreResourcesFormed}
-use Rattle.plant_grammar.proofs.DecodedWords.{vec_of}
 use Rattle.plant_grammar.proofs.WordLists.{flat_map-push}
 use Rattle.plant_grammar.proofs.WalkedPrograms.{lawful_lists_named, lawful_blocks_formed, lawful_program_formed}
 use Rattle.plant_grammar.proofs.WalkedResources.{formed_resources}
 use Rattle.plant_grammar.proofs.JudgedParts.{sounds_both, in_order_sound, in_order_last, listed_last, new_sound, known_sound}
 use Rattle.plant_grammar.proofs.SoundParts.{each_list_sound, each_block_sound, each_program_sound, each_bind_sound, each_item_sound, each_resource_sound}
+
+-- a list as a `Vec`
+abbrev pub vec_of : {A : Type 0} → (xs : List A) → length xs < 2 ^ 63 → Vec A
+vec_of xs fits = record { ptr = null_ptr; len = length xs; cap = length xs; alloc = record { memory = record { seal = tt } }; items = xs; ok = (refl, omega arith); small = fits }
 
 -- Each part stands in a whole, behind these words, which have no fault there.
 abbrev pub Lifts : {A B : Type 0} → List Token → (A → List Judged) → (A → Type 0) → (B → List Judged) → (B → Type 0) → Type 0

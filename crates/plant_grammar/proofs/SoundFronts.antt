@@ -39,14 +39,13 @@ use Rattle.plant_grammar.specs.NameFaults.{judged_variable, judged_list, judged_
 use Rattle.plant_grammar.specs.Steps.NamesRead.{IsNew, name_and_comma, bind_and_comma, AreBindsLawful}
 use Rattle.plant_grammar.specs.Steps.ReadParts.{TallyValue, with_instance, with_binds, tally_with}
 use Rattle.plant_grammar.specs.Steps.SoundWords.{Fits, BeginsSound, BeginWords, BeginsOutput, end_words, judged_names, AreNamesFormed, ListedFit, bind_behind, judged_in_parentheses, IsItemFormed, item_behind, judged_items, AreItemsFormed, judged_resources_behind, AreResourcesFormed}
-use Rattle.plant_grammar.proofs.DecodedWords.{vec_of}
 use Rattle.plant_grammar.proofs.RefusedNames.{names_and_commas, binds_and_commas}
 use Rattle.plant_grammar.proofs.Apart.{apart_none}
 use Rattle.plant_grammar.proofs.FaultyParts.{found_among}
 use Rattle.plant_grammar.proofs.WalkedPrograms.{lawful_program_formed}
 use Rattle.plant_grammar.proofs.JudgedParts.{among_taken, sounds_both, listed_last, listed_sound, new_sound, known_sound}
 use Rattle.plant_grammar.proofs.SoundParts.{variables_sound, list_sound, program_sound, task_sound, input_sound, binds_sound, each_bind_sound, not_among}
-use Rattle.plant_grammar.proofs.LiftedWords.{Lifts, lift_sound, empty_resource, IsTyped, bind_in_binds, item_in_items, resource_in_resources, program_in_tree, resources_in_tree}
+use Rattle.plant_grammar.proofs.LiftedWords.{vec_of, Lifts, lift_sound, empty_resource, IsTyped, bind_in_binds, item_in_items, resource_in_resources, program_in_tree, resources_in_tree}
 
 -- one begins with no words
 pub begins_none : {A : Type 0} (judge : A → List Judged) (P : A → Type 0) (x : A) → P x → BeginsSound judge P []
