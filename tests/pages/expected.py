@@ -6,7 +6,7 @@ from rules.lines import is_comment
 
 MARKS = {"RESTART": "restart", "REFUSED": "refused", "FAULT": "fault", "UNANSWERED": "unanswered", "UNSHOWN": "unshown", "NOJOURNAL": "unshown", "OVERRUN": "overrun", "FIELD": "ended"}
 # The word of a line that names its lane.
-PLACES = {"EVAL": 2, "DELIVER": 2, "RESTART": 1, "START": 1, "HEAR": 1, "FAULT": 1, "OVERRUN": 1}
+PLACES = {"EVAL": 2, "DELIVER": 2, "RESTART": 1, "START": 1, "HEAR": 1, "FAULT": 1, "OVERRUN": 1, "EXPECT": 1}
 
 
 # Ladders.
@@ -157,6 +157,9 @@ class Told:
             if what == "RESTART" or words[2] != "1":
                 self.marks[number] = "restart"
             self.restarts.append(words[1])
+        elif what == "EXPECT":
+            self.lane(words[1].partition(".")[0])
+            self.mark(number, "taken" if words[2] == "met" else "unmet")
         elif what == "REPLAY" and words[-1] == "differs":
             self.marks[number] = "replay"
         elif what in MARKS:
@@ -278,6 +281,8 @@ def label_differences(lines, at):
             wanted = [line]
         elif words[0] == "FAULT":
             wanted = [words[2], words[3]]
+        elif words[0] == "EXPECT":
+            wanted = [line.partition(".")[2]]
         else:
             wanted = []
         if not all(it in label for it in wanted):

@@ -1,5 +1,6 @@
 -- What the program writes for the words of its command line.
 use Rattle.std.specs.Prelude.{◌≡◌, ℕ, List, Option, None, Bool, true, false}
+use Rattle.std.specs.Borrow.{Bor}
 use Rattle.std.specs.Option.{option_map, option_map_or}
 use Rattle.console.specs.declared.request.TextRequest.{TextRequest}
 use Rattle.console.specs.declared.request.TextRequest.TheVariants.{Eval, Check, Plan}
@@ -13,6 +14,7 @@ use Rattle.text_commands.specs.declared.form.Form.TheVariants.{Rows, Drawings, C
 use Rattle.text_commands.specs.declared.text_command_fault.TextCommandFault.{TextCommandFault}
 use Rattle.console.specs.declared.request.TraceFiles.{TraceFiles}
 use Rattle.traces.specs.declared.texts.Wanted.{Wanted}
+use Rattle.text_commands.specs.Sources.{SourceValue}
 use Rattle.text_commands.specs.TestText.{ExplainsTest}
 use Rattle.text_commands.specs.Traced.{WritesTraced}
 use Rattle.text_commands.specs.declared.traced.Traced.{Traced}
@@ -42,19 +44,23 @@ pub record HasNoTrace (traced : Traced) : Type 0 where
   pub dump : traced.texts.dump ≡ None
   pub diagram : traced.texts.diagram ≡ None
 
+-- the drawing in a text, or the program type of a name in it
+abbrev pub asked_source : List ℕ → Option (Bor (List ℕ)) → SourceValue
+asked_source text program = record { text = text; program = option_map (λ name. name.now) program }
+
 -- what was asked for was written: by its own command, with its words, at its times; and this is the first difference from
 -- what they expect, if there is one, with the texts for the files that are wanted
 abbrev pub WritesAnswer : Bool → TextRequest → List ℕ → Option (List ℕ) → Option (List ℕ) → Traced → Type 0
-WritesAnswer terminal (Eval drawing dt view color files strictness words) text old new traced =
+WritesAnswer terminal (Eval drawing dt view color files strictness words program) text old new traced =
     (wanted : Wanted) × AreWantedFor drawing.now files wanted
-    × WritesTraced text (words_in (Eval drawing dt view color files strictness words)) dt (form_of view color terminal) wanted old new
+    × WritesTraced (asked_source text program) (words_in (Eval drawing dt view color files strictness words program)) dt (form_of view color terminal) wanted old new
     traced
 WritesAnswer terminal (Check plant strictness) text old new traced = WritesCheck text old new × HasNoTrace traced
 WritesAnswer terminal (Plan plant until form) text old new traced = WritesPlan text until form old new × HasNoTrace traced
 
 -- why what was asked for wasn't written, and what was written before
 abbrev pub ExplainsAnswer : Bool → TextRequest → List ℕ → Option (List ℕ) → Option (List ℕ) → TextCommandFault → Type 0
-ExplainsAnswer terminal (Eval drawing dt view color files strictness words) text old new fault =
-    ExplainsTest text (words_in (Eval drawing dt view color files strictness words)) dt (form_of view color terminal) old new fault
+ExplainsAnswer terminal (Eval drawing dt view color files strictness words program) text old new fault =
+    ExplainsTest (asked_source text program) (words_in (Eval drawing dt view color files strictness words program)) dt (form_of view color terminal) old new fault
 ExplainsAnswer terminal (Check plant strictness) text old new fault = ExplainsCheck text old new fault
 ExplainsAnswer terminal (Plan plant until form) text old new fault = ExplainsPlan text until form old new fault

@@ -1,5 +1,6 @@
 -- What the words of the command line ask for.
 use Rattle.std.specs.Prelude.{◌≡◌, ℕ, ◌^◌, ◌<◌, ◌⊎◌, List, [], Option, Some, None, Bool, true, false, bytes_eq, codes, map, unwrap_or}
+use Rattle.std.specs.Borrow.{Bor}
 use Rattle.std.specs.Option.{option_map, option_map_or}
 use Rattle.std.specs.Str.Parse.{IsNumeral, digits_value}
 use Rattle.clap.specs.Lexer.{usize_max}
@@ -109,6 +110,10 @@ vcd_rule = option_of (codes "vcd")
 abbrev pub svg_rule : Rule
 svg_rule = option_of (codes "svg")
 
+-- an option `--program P`
+abbrev pub program_rule : Rule
+program_rule = option_of (codes "program")
+
 -- with the options for files of a trace, `[--vcd FILE] [--svg FILE]`
 abbrev pub traced : App → App
 traced a = with_rule (with_rule a vcd_rule) svg_rule
@@ -159,9 +164,9 @@ shown_app =
     let dt = with_rule (with_rule (new_app (codes "eval")) drawing_rule) dt_rule in
     with_rule (with_rule (with_rule dt show_rule) chart_rule) color_rule
 
--- .. `[--vcd FILE] [--svg FILE] [--strict] [--no-warnings] [NAME=VALUES]..`
+-- .. `[--program P] [--vcd FILE] [--svg FILE] [--strict] [--no-warnings] [NAME=VALUES]..`
 abbrev pub eval_app : App
-eval_app = with_rule (warned (traced shown_app)) words_rule
+eval_app = with_rule (warned (traced (with_rule shown_app program_rule))) words_rule
 
 -- `verify FILE --never NAME [--given NAME] [--no-restarts] [--dt MS] [--most-states N] [--most-waiting N]`
 abbrev pub claimed_app : App
@@ -170,9 +175,9 @@ claimed_app =
     let given = with_rule (with_rule never given_rule) no_restarts_rule in
     with_rule (with_rule (with_rule given dt_rule) most_states_rule) most_waiting_rule
 
--- .. `[--strict] [--no-warnings] [WORD]..`
+-- .. `[--program P] [--strict] [--no-warnings] [WORD]..`
 abbrev pub verify_app : App
-verify_app = with_rule (warned claimed_app) words_rule
+verify_app = with_rule (warned (with_rule claimed_app program_rule)) words_rule
 
 -- `check PLANT [--strict] [--no-warnings]`
 abbrev pub check_app : App
@@ -337,9 +342,13 @@ AsksFiles found files =
     (option_map (λ f. f.now) files.vcd ≡ first_of (codes "vcd") found)
     × (option_map (λ f. f.now) files.svg ≡ first_of (codes "svg") found)
 
+-- the name behind `--program`
+abbrev pub AsksProgram : List Row → Option (Bor (List ℕ)) → Type 0
+AsksProgram found program = option_map (λ p. p.now) program ≡ first_of (codes "program") found
+
 -- the subcommand that asks for it
 abbrev pub command_of : Request → Text
-command_of (OfText (Eval drawing dt view color files strictness words)) = codes "eval"
+command_of (OfText (Eval drawing dt view color files strictness words program)) = codes "eval"
 command_of (OfText (Check plant strictness)) = codes "check"
 command_of (OfText (Plan plant until form)) = codes "plan"
 command_of (Verify verify) = codes "verify"
@@ -352,12 +361,13 @@ command_of (Audit audit) = codes "audit"
 
 -- what was found for its options gives what it asks for
 abbrev pub Asks : List Row → Request → Type 0
-Asks found (OfText (Eval drawing dt view color files strictness words)) =
+Asks found (OfText (Eval drawing dt view color files strictness words program)) =
     (drawing.now ≡ given_word (codes "DRAWING") found) × GivesNumber 0 (first_of (codes "dt") found) dt
     × GivesView (is_given (codes "show") found) (is_given (codes "chart") found) view
     × GivesColor (first_of (codes "color") found) color
     × AsksFiles found files × (map (λ w. w.now) words.items ≡ words_given found)
     × GivesStrictness (is_given (codes "strict") found) (is_given (codes "no-warnings") found) strictness
+    × AsksProgram found program
 Asks found (OfText (Check plant strictness)) = (plant.now ≡ given_word (codes "PLANT") found)
     × GivesStrictness (is_given (codes "strict") found) (is_given (codes "no-warnings") found) strictness
 Asks found (OfText (Plan plant until form)) =
@@ -373,6 +383,7 @@ Asks found (Verify verify) =
     × GivesOption (first_of (codes "most-waiting") found) verify.most_waiting
     × (map (λ w. w.now) verify.words.items ≡ words_given found)
     × GivesStrictness (is_given (codes "strict") found) (is_given (codes "no-warnings") found) verify.strictness
+    × AsksProgram found verify.program
 Asks found (Sim sim) =
     (sim.plant.now ≡ given_word (codes "PLANT") found) × (sim.schedule.now ≡ given_word (codes "SCHEDULE") found)
     × GivesNumber 4294967295 (first_of (codes "max-number") found) sim.max_number × AsksFiles found sim.files
@@ -404,24 +415,30 @@ OnlyMemoryRefuses {X} asks error = (x : X) → asks x → kind_of error ≡ OutO
 
 -- the file that is to be read
 abbrev pub file_of : TextRequest → List ℕ
-file_of (Eval drawing dt view color files strictness words) = drawing.now
+file_of (Eval drawing dt view color files strictness words program) = drawing.now
 file_of (Check plant strictness) = plant.now
 file_of (Plan plant until form) = plant.now
 
 -- the files that are written of a trace
 abbrev pub files_in : TextRequest → TraceFiles
-files_in (Eval drawing dt view color files strictness words) = files
+files_in (Eval drawing dt view color files strictness words program) = files
 files_in (Check plant strictness) = record { vcd = None; svg = None }
 files_in (Plan plant until form) = record { vcd = None; svg = None }
 
 -- what becomes of warnings
 abbrev pub strictness_of : TextRequest → Strictness
-strictness_of (Eval drawing dt view color files strictness words) = strictness
+strictness_of (Eval drawing dt view color files strictness words program) = strictness
 strictness_of (Check plant strictness) = strictness
 strictness_of (Plan plant until form) = Silent
 
 -- the words NAME=VALUES and NAME==VALUES
 abbrev pub words_in : TextRequest → List (List ℕ)
-words_in (Eval drawing dt view color files strictness words) = map (λ w. w.now) words.items
+words_in (Eval drawing dt view color files strictness words program) = map (λ w. w.now) words.items
 words_in (Check plant strictness) = []
 words_in (Plan plant until form) = []
+
+-- the name of the program type that is asked about
+abbrev pub program_in : TextRequest → Option (Bor (List ℕ))
+program_in (Eval drawing dt view color files strictness words program) = program
+program_in (Check plant strictness) = None
+program_in (Plan plant until form) = None

@@ -16,26 +16,25 @@ use Rattle.verifying.specs.declared.summary.Summary.{Summary}
 use Rattle.verifying.specs.declared.verify_fault.VerifyFault.{VerifyFault}
 use Rattle.verifying_plants.specs.VerifyPlant.{ExplainsAnswer as ExplainsPlantVerdicts, WritesAnswer as WritesPlantVerdicts}
 use Rattle.verifying_plants.specs.declared.verify_plant_fault.VerifyPlantFault.{VerifyPlantFault}
-use Rattle.world.specs.Simulated.{EndsEarly}
-use Rattle.world.specs.LiveRun.{EndsLiveRun}
+use Rattle.tested_schedules.specs.Tested.{EndsEarly}
+use Rattle.tested_schedules.specs.TestedLines.{EndsTestedLines}
 use Rattle.world.specs.declared.sim_fault.SimFault.{SimFault}
-use Rattle.world.specs.declared.live_fault.LiveFault.{LiveFault}
+use Rattle.tested_schedules.specs.declared.live_fault.LiveFault.{LiveFault}
 use Rattle.console.specs.declared.answered.Answered.{Answered}
 use Rattle.console.specs.declared.request.RunRequest.{RunRequest}
 use Rattle.console.specs.declared.request.SimRequest.{SimRequest}
 use Rattle.console.specs.declared.request.TextRequest.{TextRequest}
 use Rattle.console.specs.declared.request.VerifyRequest.{VerifyRequest}
-use Rattle.console.specs.Answers.{WritesAnswer, ExplainsAnswer}
+use Rattle.console.specs.Answers.{WritesAnswer, ExplainsAnswer, asked_source}
 use Rattle.console.specs.CommandLine.{file_of, strictness_of}
-use Rattle.console.specs.Warned.{EndsWarned, IsDrawingQuiet, IsQuiet}
+use Rattle.console.specs.Warned.{EndsWarned, IsLadderQuiet, IsQuiet}
 use Rattle.console.specs.FieldWords.{one_text_of}
 use Rattle.console.specs.Giving.{command_fault}
-use Rattle.console.specs.ShellWord.{shell_word}
 use Rattle.console.specs.Statuses.{status_of, status_of_fault, status_of_inputs, status_of_question, status_of_plant_question, status_of_schedule, status_of_lines}
 use Rattle.console.specs.TracedRun.{WritesTracedRun, WritesTracedLines}
 use Rattle.console.specs.declared.verify_answer.Subject.{Subject}
 use Rattle.console.specs.declared.verify_answer.Subject.TheVariants.{Drawing, Plant, Neither}
-use Rattle.console.specs.Verifying.{asked_question, asked_of_plant, subject_of}
+use Rattle.console.specs.Verifying.{asked_question, asked_of_plant, eval_words, subject_of}
 
 -- after words that ask for nothing it is 0 where help or the version was asked for, 3 for want of memory, and else 2
 abbrev pub status_of_words : ErrorKind → ℕ
@@ -97,19 +96,20 @@ abbrev pub EndsText : Bool → TextRequest → Answered → Type 0
 EndsText terminal request answered =
     EndsWith (status_of_unread (file_of request)) answered ⊎ IsObeyed terminal request answered
 
--- how `plc verify` of a drawing ends, by what came of it; verdicts are followed by warnings
+-- how `plc verify` of a drawing or a program type ends, by what came of it; verdicts are followed by warnings
 abbrev pub EndsVerdicts : VerifyRequest → List ℕ → Result Summary VerifyFault → ℕ → Type 0
 EndsVerdicts request text (Ok summary) status =
-    EndsWarned (IsDrawingQuiet (unwrap_or request.dt 0) text) request.strictness (status_of summary) status
+    EndsWarned (IsLadderQuiet request.program (unwrap_or request.dt 0) text) request.strictness (status_of summary) status
 EndsVerdicts request text (Err fault) status = status ≡ status_of_question fault
 
--- the claims about the drawing in a text were answered, or why they weren't; and so it ended
+-- the claims about the drawing in a text, or a program type, were answered, or why they weren't; and so it ended
 pub record IsDrawingVerified (request : VerifyRequest) (text : List ℕ) (status : ℕ) : Type 0 where
   pub old : Option (List ℕ)
   pub new : Option (List ℕ)
   pub answered : Result Summary VerifyFault
-  pub is : let question = asked_question (shell_word request.file.now) request in
-      MatchResult answered (WritesVerdicts text question old new) (ExplainsVerdicts text question old new)
+  pub is : let question = asked_question (eval_words request) request in
+      let source = asked_source text request.program in
+      MatchResult answered (WritesVerdicts source question old new) (ExplainsVerdicts source question old new)
   pub ended : EndsVerdicts request text answered status
 
 -- the status of `plc verify` of a plant, by what came of it
@@ -151,12 +151,12 @@ IsUnprepared request status =
     ⊎ IsNoPlantStatus request.plant.now status
 
 -- how a schedule ends, by what came of it
-abbrev pub EndsAfterSchedule : Result TraceTexts SimFault → Answered → Type 0
-EndsAfterSchedule (Ok texts) answered = (answered.status ≡ 0) × (answered.texts ≡ texts)
+abbrev pub EndsAfterSchedule : Result Answered SimFault → Answered → Type 0
+EndsAfterSchedule (Ok done) answered = answered ≡ done
 EndsAfterSchedule (Err fault) answered = EndsWith (status_of_schedule fault) answered
 
-abbrev pub EndsAfterLines : Result TraceTexts LiveFault → Answered → Type 0
-EndsAfterLines (Ok texts) answered = (answered.status ≡ 0) × (answered.texts ≡ texts)
+abbrev pub EndsAfterLines : Result Answered LiveFault → Answered → Type 0
+EndsAfterLines (Ok done) answered = answered ≡ done
 EndsAfterLines (Err fault) answered = EndsWith (status_of_lines fault) answered
 
 -- the schedule of a file was done with the plant, or why it wasn't; and so it ended
@@ -164,7 +164,7 @@ pub record IsScheduleDone (plant : PlantValue) (request : SimRequest) (answered 
   pub schedule : List ℕ
   pub old : Option (List ℕ)
   pub new : Option (List ℕ)
-  pub obeyed : Result TraceTexts SimFault
+  pub obeyed : Result Answered SimFault
   pub is : MatchResult obeyed (WritesTracedRun plant request schedule old new)
       (EndsEarly plant request.max_number schedule old new)
   pub ended : EndsAfterSchedule obeyed answered
@@ -176,9 +176,9 @@ pub record AreLinesDone (plant : PlantValue) (request : SimRequest) (answered : 
   pub line : List ℕ
   pub old : Option (List ℕ)
   pub new : Option (List ℕ)
-  pub obeyed : Result TraceTexts LiveFault
+  pub obeyed : Result Answered LiveFault
   pub is : MatchResult obeyed (WritesTracedLines plant request given left old new)
-      (EndsLiveRun plant request.max_number given left line old new)
+      (EndsTestedLines plant request.max_number given left line old new)
   pub ended : EndsAfterLines obeyed answered
 
 -- the plant of a file, and what was done with it

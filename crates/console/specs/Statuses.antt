@@ -1,5 +1,5 @@
 -- The statuses with which the program ends.
-use Rattle.std.specs.Prelude.{ℕ}
+use Rattle.std.specs.Prelude.{ℕ, Bool, if◌then◌else◌}
 use Rattle.verifying.specs.declared.verify_fault.VerifyFault.{VerifyFault}
 use Rattle.verifying.specs.declared.verify_fault.VerifyFault.TheVariants.{Command, Claim, Given, Held, TooManyInputs, NoTime}
 use Rattle.verifying_plants.specs.declared.verify_plant_fault.VerifyPlantFault.{VerifyPlantFault}
@@ -13,8 +13,8 @@ use Rattle.evaluation.specs.declared.input_fault.InputFault.{InputFault}
 use Rattle.evaluation.specs.declared.input_fault.InputFault.TheVariants as input
 use Rattle.world.specs.declared.sim_fault.SimFault.{SimFault}
 use Rattle.world.specs.declared.sim_fault.SimFault.TheVariants as sim
-use Rattle.world.specs.declared.live_fault.LiveFault.{LiveFault}
-use Rattle.world.specs.declared.live_fault.LiveFault.TheVariants as live
+use Rattle.tested_schedules.specs.declared.live_fault.LiveFault.{LiveFault}
+use Rattle.tested_schedules.specs.declared.live_fault.LiveFault.TheVariants as live
 
 -- after claims were answered it is 0 if all hold, 4 if one fails, and 5 if none fails and one is undecided
 abbrev pub status_of : Summary → ℕ
@@ -52,6 +52,10 @@ abbrev pub status_of_inputs : InputFault → ℕ
 status_of_inputs input.Syntax = 2
 status_of_inputs input.Twice = 2
 status_of_inputs input.Memory = 3
+
+-- after a schedule was done it is 4 if an expectation was unmet, and else 0
+abbrev pub status_of_expectations : Bool → ℕ
+status_of_expectations has_unmet = if has_unmet then 4 else 0
 
 -- after a fault of a schedule it is 1 if a line is refused, and else 3
 abbrev pub status_of_schedule : SimFault → ℕ

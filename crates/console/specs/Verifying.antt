@@ -1,7 +1,9 @@
 -- What the words of `plc verify` ask.
-use Rattle.std.specs.Prelude.{◌==◌, ◌&&◌, ◌||◌, ℕ, Bool, true, is_none, List, [], ◌∷◌, not, unwrap_or, if◌then◌else◌}
+use Rattle.std.specs.Prelude.{◌==◌, ◌&&◌, ◌||◌, ◌++◌, ℕ, Bool, true, is_none, List, [], ◌∷◌, Option, Some, None, codes, not, unwrap_or, if◌then◌else◌}
+use Rattle.std.specs.Borrow.{Bor}
 use Rattle.std.specs.List.{list_any}
 use Rattle.console.specs.declared.request.VerifyRequest.{VerifyRequest}
+use Rattle.console.specs.ShellWord.{shell_word}
 use Rattle.console.specs.declared.verify_answer.Subject.{Subject}
 use Rattle.console.specs.declared.verify_answer.Subject.TheVariants.{Drawing, Plant, Neither}
 use Rattle.text_commands.specs.Rows.{texts}
@@ -26,14 +28,24 @@ are_plain (name ∷ names) = not (is_of_plant name) && are_plain names
 abbrev pub is_of_drawings : VerifyRequest → Bool
 is_of_drawings request = not request.no_restarts && is_none request.most_waiting
 
--- it is about a plant where all words are of one, about a drawing where none has, and nothing is asked of plants alone
+-- it is about a plant where all words are of one and no program type is asked about, about a drawing or a program type where
+-- none has a dot or comma, and nothing is asked of plants alone
 abbrev pub subject_of : VerifyRequest → Subject
 subject_of request =
-    if are_of_plant (texts request.claims.items) && are_of_plant (texts request.given.items) then Plant
+    if are_of_plant (texts request.claims.items) && are_of_plant (texts request.given.items) && is_none request.program then Plant
     else (if are_plain (texts request.claims.items) && (are_plain (texts request.given.items) && is_of_drawings request) then Drawing else Neither)
 
--- the claims, what is given, the words, the time between scans and the number of states of the request, for the drawing in
--- this file
+-- the option for a program type
+abbrev pub program_words : Option (Bor (List ℕ)) → List ℕ
+program_words None = []
+program_words (Some name) = codes " --program " ++ shell_word name.now
+
+-- the words that stand for a drawing or a program type before those for `plc eval`
+abbrev pub eval_words : VerifyRequest → List ℕ
+eval_words request = shell_word request.file.now ++ program_words request.program
+
+-- the claims, what is given, the words, the time between scans and the number of states of the request, with the
+-- words for `plc eval`
 abbrev pub asked_question : List ℕ → VerifyRequest → QuestionValue
 asked_question file request = record {
   file = file;

@@ -1,5 +1,6 @@
 -- Warnings of a command.
-use Rattle.std.specs.Prelude.{◌≡◌, ◌⊎◌, ◌&&◌, ◌==◌, ℕ, if◌then◌else◌, List, [], ◌∷◌, Bool, true, false}
+use Rattle.std.specs.Prelude.{◌≡◌, ◌⊎◌, ◌&&◌, ◌==◌, ℕ, if◌then◌else◌, List, [], ◌∷◌, Bool, true, false, Option, Some, None}
+use Rattle.std.specs.Borrow.{Bor}
 use Rattle.text_commands.specs.Comments.{without_comments}
 use Rattle.warnings.specs.OfPlant.{AreWarningsOfPlant, IsNoPlant}
 use Rattle.warnings.specs.OfText.{AreWarningsOf, HasNoNetworks}
@@ -48,9 +49,14 @@ IsPlantQuiet text quiet =
     ((told : PlantWarnings) × ArePlantWarnings text told × (quiet ≡ is_plant_quiet told))
     ⊎ (IsNoPlantEither text × (quiet ≡ true))
 
+-- of a program type what is warned of in its plant
+abbrev pub IsLadderQuiet : Option (Bor (List ℕ)) → ℕ → List ℕ → Bool → Type 0
+IsLadderQuiet None dt text quiet = IsDrawingQuiet dt text quiet
+IsLadderQuiet (Some name) dt text quiet = IsPlantQuiet text quiet
+
 -- what is warned of in the text of a request, where no time between scans is judged; a plan is told without warnings
 abbrev pub IsQuiet : TextRequest → List ℕ → Bool → Type 0
-IsQuiet (Eval drawing dt view color files strictness words) text quiet = IsDrawingQuiet 0 text quiet
+IsQuiet (Eval drawing dt view color files strictness words program) text quiet = IsLadderQuiet program 0 text quiet
 IsQuiet (Check plant strictness) text quiet = IsPlantQuiet text quiet
 IsQuiet (Plan plant until form) text quiet = quiet ≡ true
 

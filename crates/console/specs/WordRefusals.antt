@@ -22,10 +22,13 @@ abbrev pub word_refusal : WordRefusal → List ℕ
 word_refusal word.NoFieldInput = codes "plc: a word is no ADDRESS=VALUE such as %IX0=1 or %IW2=-7"
 word_refusal word.AddressTwice = codes "plc: two words give one address its value"
 word_refusal (word.NoResource name) = name_refused name.now (codes "the plant has no resource of this name")
+word_refusal (word.NoProgram name) = name_refused name.now (codes "the plant has no program type of this name")
 word_refusal (word.NoKind name) = name_refused name.now (codes "there is no kind of fault of this name; plc explain lists all")
 word_refusal word.NoFile =
     codes "plc: -: only a schedule is read from standard input; a file of this name is ./-"
 word_refusal word.NoSubject =
     codes "plc: names without a dot are of a drawing, names R.P.V of a plant, and a question is about one of them; --no-restarts and --most-waiting are of plants"
+word_refusal word.NoProgramOfNames =
+    codes "plc: --program asks about one program type: its names have no dot, and --no-restarts and --most-waiting are of plants"
 word_refusal (word.WrittenOver path option) = written_over path.now option.now
 word_refusal (word.WrittenTwice path first option) = written_twice path.now first.now option.now

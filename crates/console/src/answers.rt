@@ -4,7 +4,7 @@ ghost use Rattle.console.specs.Endings.{EndsAfter, EndsText, status_of_differenc
 
 use crate::answered::Answered;
 use crate::command_fault::CommandFault;
-use crate::faults::{print_difference, print_failure, print_fault_of_text};
+use crate::faults::{Source, print_difference, print_failure, print_fault_of_text};
 use crate::files::file_text;
 use crate::piped::Piped;
 use crate::request::{Color, TextRequest, TraceFiles, View};
@@ -14,7 +14,9 @@ use std::alloc::Global;
 use std::io;
 use std::io::Write;
 use std::rt::{Clock, Files};
-use text_commands::{Difference, Form, TextCommandFault, Traced, check, eval_traced, plan_text};
+use text_commands::{
+    Difference, Form, LadderSource, TextCommandFault, Traced, check, eval_traced, plan_text,
+};
 use text_lines::{OnTerminal, ToldLines};
 use traces::{TraceTexts, Wanted};
 
@@ -87,11 +89,16 @@ pub fn obey<W: Write>(
             color,
             files,
             words,
+            program,
             ..
         } => {
             let form = form_of(*view, *color, terminal);
             let wanted = wanted_for(drawing, *files);
-            eval_traced(alloc, text, words, *dt, form, wanted, writer)
+            let source = LadderSource {
+                text,
+                program: *program,
+            };
+            eval_traced(alloc, source, words, *dt, form, wanted, writer)
         }
         TextRequest::Check { .. } => {
             check(alloc, text, writer)?;
@@ -132,8 +139,12 @@ fn tell_text<R: Eprint + AllocGlobal>(
             Ok(Answered { status, texts })
         }
         Err(fault) => {
-            let (file, words) = (request.file(), request.words());
-            let status = print_fault_of_text(rt, file, text, words, is_closed, fault)?;
+            let source = Source {
+                file: request.file(),
+                text,
+                program: request.program(),
+            };
+            let status = print_fault_of_text(rt, source, request.words(), is_closed, fault)?;
             Ok(Answered::with(status))
         }
     }

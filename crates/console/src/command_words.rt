@@ -262,6 +262,7 @@ fn eval_request<'a>(
             is_given(inner, "no-warnings"),
         )?,
         words: words_given(alloc, inner)?,
+        program: word_of(inner, "program"),
     }))
 }
 
@@ -298,6 +299,7 @@ fn verify_request<'a>(
             is_given(inner, "no-warnings"),
         )?,
         words: words_given(alloc, inner)?,
+        program: word_of(inner, "program"),
     }))
 }
 

@@ -1,6 +1,6 @@
 ghost use Rattle.std.specs.Prelude.{◌≡◌, false, IfOk, codes};
 ghost use Rattle.clap.specs.Words.{app_of, new_app, rule_of};
-ghost use Rattle.console.specs.CommandLine.{needed_word, option_of, flag_of, words_rule, plant_rule, file_rule, until_rule, state_rule, journal_rule, as_schedule_rule, paced_rule, clock_rule, cycle_rule, node_field_rule, end_rule, show_rule, chart_rule, color_rule, vcd_rule, svg_rule, traced, strict_rule, no_warnings_rule, warned, kind_rule, never_rule, given_rule, journals_rule, shown_app, eval_app, claimed_app, verify_app, check_app, plan_app, limited_app, sim_app, paced_app, run_app, node_app, explain_app, audit_app, page_app, versioned, commanded, plc_app, text_app};
+ghost use Rattle.console.specs.CommandLine.{needed_word, option_of, flag_of, words_rule, plant_rule, file_rule, until_rule, state_rule, journal_rule, as_schedule_rule, paced_rule, clock_rule, cycle_rule, node_field_rule, end_rule, show_rule, chart_rule, color_rule, program_rule, vcd_rule, svg_rule, traced, strict_rule, no_warnings_rule, warned, kind_rule, never_rule, given_rule, journals_rule, shown_app, eval_app, claimed_app, verify_app, check_app, plan_app, limited_app, sim_app, paced_app, run_app, node_app, explain_app, audit_app, page_app, versioned, commanded, plc_app, text_app};
 
 use crate::help::{
     AUDIT_HELP, CHECK_HELP, EVAL_HELP, EXPLAIN_HELP, FIRST_STEPS, NODE_HELP, PAGE_HELP, PLAN_HELP,
@@ -214,6 +214,18 @@ fn color_arg<'a>(alloc: Global) -> Arg<'a>
     )
 }
 
+fn program_arg<'a>(alloc: Global) -> Arg<'a>
+    ensures rule { rule_of result ≡ program_rule }
+    ensures local { result.global ≡ false }
+{
+    number_arg(
+        alloc,
+        "program",
+        "P",
+        "The file is a plant, and its program type P is asked about, by its declarations",
+    )
+}
+
 fn vcd_arg<'a>(alloc: Global) -> Arg<'a>
     ensures rule { rule_of result ≡ vcd_rule }
     ensures local { result.global ≡ false }
@@ -306,9 +318,15 @@ fn shown_command<'a>(alloc: Global) -> Result<Command<'a>, AllocError>
     ensures { IfOk result (λ c. app_of c ≡ shown_app) }
 {
     Command::new(alloc, "eval")
-        .about("Evaluates a drawing, scan by scan, and writes its variables after each scan")
+        .about(
+            "Evaluates a drawing, or a program type of a plant, scan by scan, and writes its variables after each scan",
+        )
         .after_help(EVAL_HELP)
-        .arg(needed_arg(alloc, "DRAWING", "The file of the drawing"))?
+        .arg(needed_arg(
+            alloc,
+            "DRAWING",
+            "The file of the drawing, or with --program of the plant",
+        ))?
         .arg(number_arg(
             alloc,
             "dt",
@@ -323,7 +341,8 @@ fn shown_command<'a>(alloc: Global) -> Result<Command<'a>, AllocError>
 fn eval_command<'a>(alloc: Global) -> Result<Command<'a>, AllocError>
     ensures { IfOk result (λ c. app_of c ≡ eval_app) }
 {
-    warned_command(alloc, traced_command(alloc, shown_command(alloc)?)?)?.arg(words_arg(
+    let command = shown_command(alloc)?.arg(program_arg(alloc))?;
+    warned_command(alloc, traced_command(alloc, command)?)?.arg(words_arg(
         alloc,
         "NAME=VALUES",
         "The values of a variable before the scans; NAME==VALUES: what they are to be after them",
@@ -370,7 +389,8 @@ fn claimed_command<'a>(alloc: Global) -> Result<Command<'a>, AllocError>
 fn verify_command<'a>(alloc: Global) -> Result<Command<'a>, AllocError>
     ensures { IfOk result (λ c. app_of c ≡ verify_app) }
 {
-    warned_command(alloc, claimed_command(alloc)?)?.arg(words_arg(
+    let command = claimed_command(alloc)?.arg(program_arg(alloc))?;
+    warned_command(alloc, command)?.arg(words_arg(
         alloc,
         "WORD",
         "Of a drawing NAME=BIT, an input that has this value in every scan; of a plant ADDRESS=VALUE or ADDRESS=LEAST..GREATEST, what a field address holds",

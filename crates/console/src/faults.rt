@@ -8,13 +8,22 @@ use crate::remarks::{print_mark_of, print_remark};
 use crate::shown::Shown;
 use crate::status::{DIFFERS, FAILED, TEXT_REFUSED, WORD_REFUSED};
 use evaluation::InputFault;
-use guidance::{help_with, help_with_a_schedule, help_with_a_word};
+use guidance::{help_with, help_with_a_program, help_with_a_schedule, help_with_a_word};
 use mistakes::more_with;
 use std::alloc::AllocError;
 use std::fmt::Display;
 use std::io;
+use tested_schedules::LiveFault;
 use text_commands::{Difference, TextCommandFault, TextFault, WordFault, WordFaultKind};
-use world::{LiveFault, SimFault};
+use world::SimFault;
+
+/// A file that was read, its text, and the name of the program type in it that is asked about.
+#[derive(Clone, Copy)]
+pub(crate) struct Source<'a> {
+    pub file: &'a str,
+    pub text: &'a str,
+    pub program: Option<&'a str>,
+}
 
 /// Tells what helps to mend a text. The fault was told before: what can't be told here is left out.
 fn print_help<R: Eprint>(rt: &R, help: Result<String, AllocError>) {
@@ -48,10 +57,20 @@ pub fn print_word_refusal<R: Eprint>(rt: &R, refusal: WordRefusal<'_>) -> io::Re
     Ok(WORD_REFUSED)
 }
 
+/// Tells that a plant has no program type of the name that is asked about, and the nearest ones that it has; the status.
+fn print_no_program<R: Eprint + AllocGlobal>(rt: &R, source: Source<'_>) -> io::Result<u8>
+    ensures { IfOk result (λ status. status ≡ 2) }
+{
+    let name = source.program.unwrap_or("");
+    let status = print_word_refusal(rt, WordRefusal::NoProgram(name))?;
+    print_help(rt, help_with_a_program(rt.alloc(), source.text, name));
+    Ok(status)
+}
+
 /// Tells the fault of a word by its number, and where no variable has that name the nearest ones; the status.
 pub(crate) fn print_fault_of_word<R: Eprint + AllocGlobal, F: Display + Drop>(
     rt: &R,
-    text: &str,
+    source: Source<'_>,
     words: &[&str],
     number: usize,
     is_unknown: bool,
@@ -63,15 +82,17 @@ pub(crate) fn print_fault_of_word<R: Eprint + AllocGlobal, F: Display + Drop>(
     let refused = RefusedWord { word, fault };
     eprintln!(rt; "{refused}")?;
     if is_unknown {
-        print_help(rt, help_with_a_word(rt.alloc(), text, word));
+        let help = help_with_a_word(rt.alloc(), source.text, source.program, word);
+        print_help(rt, help);
     }
     Ok(WORD_REFUSED)
 }
 
-/// Tells why a word NAME=VALUES or NAME==VALUES is refused; of an INT or a TIME how its values are written. The status.
+/// Tells why a word NAME=VALUES or NAME==VALUES is refused, or the name of a program type; of an INT or a TIME how its values
+/// are written. The status.
 fn print_refused_word<R: Eprint + AllocGlobal>(
     rt: &R,
-    text: &str,
+    source: Source<'_>,
     words: &[&str],
     fault: WordFault,
 ) -> io::Result<u8>
@@ -92,11 +113,12 @@ fn print_refused_word<R: Eprint + AllocGlobal>(
             Ok(WORD_REFUSED)
         }
         WordFaultKind::NoVariable => {
-            print_fault_of_word(rt, text, words, fault.number, true, fault)
+            print_fault_of_word(rt, source, words, fault.number, true, fault)
         }
         WordFaultKind::BadDigits | WordFaultKind::Twice => {
-            print_fault_of_word(rt, text, words, fault.number, false, fault)
+            print_fault_of_word(rt, source, words, fault.number, false, fault)
         }
+        WordFaultKind::NoProgram => print_no_program(rt, source),
     }
 }
 
@@ -118,30 +140,46 @@ pub(crate) fn print_unwritten<R: Eprint>(rt: &R, is_closed: bool) -> io::Result<
     print_failure(rt, CommandFault::Write)
 }
 
-/// Tells a fault of a command; the text is that of the file. The status.
-pub fn print_fault<R: Eprint + AllocGlobal>(
+/// Tells a fault of a command about what was read; the status.
+fn print_fault_about<R: Eprint + AllocGlobal>(
     rt: &R,
-    file: &str,
-    text: &str,
+    source: Source<'_>,
     words: &[&str],
     fault: CommandFault,
 ) -> io::Result<u8>
     ensures { IfOk result (λ status. status ≡ status_of_fault fault) }
 {
     match fault {
-        CommandFault::Text(fault) => print_text_fault(rt, file, text, fault),
-        CommandFault::Word(fault) => print_refused_word(rt, text, words, fault),
+        CommandFault::Text(fault) => print_text_fault(rt, source.file, source.text, fault),
+        CommandFault::Word(fault) => print_refused_word(rt, source, words, fault),
         CommandFault::Write | CommandFault::Run(_) | CommandFault::Memory => {
             print_failure(rt, fault)
         }
     }
 }
 
+/// Tells a fault of a command; the text is that of the file. The status.
+pub fn print_fault<'a, R: Eprint + AllocGlobal>(
+    rt: &R,
+    file: &'a str,
+    text: &'a str,
+    words: &[&str],
+    fault: CommandFault,
+) -> io::Result<u8>
+    ensures { IfOk result (λ status. status ≡ status_of_fault fault) }
+{
+    let source = Source {
+        file,
+        text,
+        program: None,
+    };
+    print_fault_about(rt, source, words, fault)
+}
+
 /// Tells a fault of a command of one text; the status. `is_closed` is whether the output's reader has ended.
 pub(crate) fn print_fault_of_text<R: Eprint + AllocGlobal>(
     rt: &R,
-    file: &str,
-    text: &str,
+    source: Source<'_>,
     words: &[&str],
     is_closed: bool,
     fault: TextCommandFault,
@@ -150,7 +188,7 @@ pub(crate) fn print_fault_of_text<R: Eprint + AllocGlobal>(
 {
     match fault {
         TextCommandFault::Write => print_unwritten(rt, is_closed),
-        _ => print_fault(rt, file, text, words, fault.into()),
+        _ => print_fault_about(rt, source, words, fault.into()),
     }
 }
 

@@ -26,6 +26,9 @@ after the first scan, and behind a blank after each one that changed it.
 A word NAME==VALUES tells what the variable NAME is to be after each scan, and behind its last value nothing.
 The first difference is told on standard error.
 
+With --program P the file is a plant, and its program type P, in either case, is tried by its declarations: its variables
+in their order, and with --show its drawing, comments as empty rows. Warnings are those of plc check.
+
 With --vcd FILE all variables are written as a value change dump (IEEE 1364) after the last scan, for programs that show
 waves; with --svg FILE as a timing diagram, which a browser shows. The first scan is at 0 ms, each further one --dt MS later,
 or 1 ms where that is 0. A file is written whole, in the place of one of its name, but of none that is read; both options may
@@ -54,8 +57,8 @@ Example, for the drawing examples/start_stop.ladder:
   $ plc eval examples/start_stop.ladder START=1,0*500 RUN==1*501 >/dev/null
   $ plc eval examples/start_stop.ladder START=100 STOP=001 --svg start_stop.svg >/dev/null
 
-The exit status is 0; 1 if the text of the drawing is refused, with FILE:LINE:COLUMN: Kind on standard error, or with --strict
-where there is a warning; 2 if a word is refused; 3 if the file can't be read, the output or a file can't be written or there is no memory left;
+The exit status is 0; 1 if the text of the drawing is refused, with FILE:LINE:COLUMN: Kind on standard error, or the plant, with
+FILE:LINE: Kind, or with --strict where there is a warning; 2 if a word is refused; 3 if the file can't be read, the output or a file can't be written or there is no memory left;
 4 if a variable isn't what a word NAME==VALUES tells.";
 
 /// What `plc verify --help` tells behind the words.
@@ -86,6 +89,9 @@ Example:
   $ plc verify examples/press.ladder --dt 100 --never TIED_DOWN
   HOLDS TIED_DOWN is never on: 24 states, 96 scans
   given dt 100 ms
+
+With --program P the file is a plant, and the names are variables of its program type P, tried by its declarations. An input
+is a BOOL that nothing stores, of whatever section.
 
 Names R.P.V, parted by commas, make FILE a plant: of these BOOL outputs V of program instances P in resources R never all
 are TRUE, whatever the network loses, delays, repeats or overtakes, and whoever restarts. Each task is evaluated at any moment,
@@ -168,6 +174,10 @@ by blanks or tabs, and stand in either case; a line that is blank or begins with
   RESTART R1               resource R1 restarts: it forgets all but retained variables, and its incarnation is one more
   HEAR R1 R2 2             R1 hears that R2 is in incarnation 2: what R1 makes from now on is meant for that
 
+A line EXPECT R1.A.N=1 R1.A.FULL=0 is no event and changes nothing: for each word a line tells whether the output N or FULL
+of program A has this value, met, or unmet and its value: what its task's last evaluation in the present incarnation of R1
+gave, before the first one FALSE, 0 or T#0ms.
+
 An evaluation takes, from each task that feeds it, the latest evaluation that reached its resource and is meant for its
 present incarnation; one that is never delivered is lost, and one may be delivered twice, late or out of order. What
 names nothing that exists changes nothing and is written as REFUSED, with the number of the event and the reason.
@@ -190,8 +200,9 @@ Example:
   EVAL 2 R2.SLOW 1.1 TAKES R1.FAST=1.1 GIVES B.SEEN=1 B.HIT=0
 
 The exit status is 0; 1 if the text of the plant is refused, with FILE:LINE: Kind on standard error, or a line of the
-schedule is no event, with FILE:LINE: Syntax, after the lines of the events before it; 2 if a word is refused; 3 if a file
-can't be read or written, the output can't be written or there is no memory left.";
+schedule is neither an event nor an EXPECT line, with FILE:LINE: Syntax, after what those before it wrote; 2 if a word is
+refused; 3 if a file can't be read or written, the output can't be written or there is no memory left; 4 if a word of an
+EXPECT line is unmet.";
 
 /// What `plc run --help` tells behind the words.
 pub const RUN_HELP: &str = "\

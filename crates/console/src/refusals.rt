@@ -260,12 +260,16 @@ pub enum WordRefusal<'a> {
     AddressTwice,
     /// The plant has no resource of this name.
     NoResource(&'a str),
+    /// The plant has no program type of this name.
+    NoProgram(&'a str),
     /// There is no kind of fault of this name.
     NoKind(&'a str),
     /// `-` stands in the place of a file.
     NoFile,
     /// The names are neither all of a drawing nor all of a plant, or what is asked of a drawing is asked of plants alone.
     NoSubject,
+    /// Names are of a plant, or what is asked of a program type is asked of plants alone.
+    NoProgramOfNames,
     /// A file is read, and would be written for an option.
     WrittenOver {
         path: &'a str,
@@ -323,6 +327,9 @@ pub fn write_word_refusal<W: fmt::Write>(
         WordRefusal::NoResource(name) => {
             write_named(f, name, "the plant has no resource of this name")
         }
+        WordRefusal::NoProgram(name) => {
+            write_named(f, name, "the plant has no program type of this name")
+        }
         WordRefusal::NoKind(name) => write_named(
             f,
             name,
@@ -333,6 +340,9 @@ pub fn write_word_refusal<W: fmt::Write>(
         ),
         WordRefusal::NoSubject => f.write_str(
             "plc: names without a dot are of a drawing, names R.P.V of a plant, and a question is about one of them; --no-restarts and --most-waiting are of plants",
+        ),
+        WordRefusal::NoProgramOfNames => f.write_str(
+            "plc: --program asks about one program type: its names have no dot, and --no-restarts and --most-waiting are of plants",
         ),
         WordRefusal::WrittenOver { path, option } => write_written_over(f, path, option),
         WordRefusal::WrittenTwice {

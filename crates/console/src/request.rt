@@ -1,5 +1,5 @@
 ghost use Rattle.std.specs.Prelude.{◌≡◌, map};
-ghost use Rattle.console.specs.CommandLine.{file_of, files_in, strictness_of, words_in};
+ghost use Rattle.console.specs.CommandLine.{file_of, files_in, program_in, strictness_of, words_in};
 
 use text_commands::PlanForm;
 
@@ -52,9 +52,10 @@ impl TraceFiles<'_> {
 /// What is done with the text of one file.
 #[derive(Drop)]
 pub enum TextRequest<'a> {
-    /// The scans of a drawing, each `dt` milliseconds after the one before. The words set its variables, or tell what they
-    /// are to be.
+    /// The scans of a drawing, or of a program type of a plant, each `dt` milliseconds after the one before. The words set its
+    /// variables, or tell what they are to be.
     Eval {
+        /// The file of the drawing, or with a program type that of the plant.
         drawing: &'a str,
         dt: u32,
         view: View,
@@ -62,6 +63,8 @@ pub enum TextRequest<'a> {
         files: TraceFiles<'a>,
         strictness: Strictness,
         words: Vec<&'a str>,
+        /// The name of the program type.
+        program: Option<&'a str>,
     },
     /// How many resources, tasks, programs and connections a plant has.
     Check {
@@ -109,6 +112,16 @@ impl<'a> TextRequest<'a> {
         }
     }
 
+    /// The name of the program type that is asked about.
+    pub fn program(&self) -> Option<&'a str>
+        ensures { result ≡ program_in self.now }
+    {
+        match self {
+            TextRequest::Eval { program, .. } => *program,
+            TextRequest::Check { .. } | TextRequest::Plan { .. } => None,
+        }
+    }
+
     /// The words NAME=VALUES and NAME==VALUES.
     pub fn words(&self) -> &[&'a str]
         ensures { map (λ w. w.now) result.now ≡ words_in self.now }
@@ -121,7 +134,7 @@ impl<'a> TextRequest<'a> {
 }
 
 /// Whether variables of a drawing, or outputs of a plant, are ever TRUE. The claims name them: by names without a dot the
-/// file is a drawing, by names `R.P.V` a plant. `dt` is the time between scans or evaluations in ms. What is given, restarts
+/// file is a drawing, or with `program` a plant of which that program type is asked about; by names `R.P.V` it is a plant. `dt` is the time between scans or evaluations in ms. What is given, restarts
 /// and `most_waiting` are of plants, warnings of drawings. At most `most_states` states are looked at; the words hold inputs.
 #[derive(Drop)]
 pub struct VerifyRequest<'a> {
@@ -134,6 +147,7 @@ pub struct VerifyRequest<'a> {
     pub most_waiting: Option<u32>,
     pub strictness: Strictness,
     pub words: Vec<&'a str>,
+    pub program: Option<&'a str>,
 }
 
 /// What each event of a schedule does to a plant; in one incarnation a task is evaluated `max_number` times at most.

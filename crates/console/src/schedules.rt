@@ -1,6 +1,7 @@
-ghost use Rattle.std.specs.Prelude.{◌⊎◌, IfOk, IfErr};
-ghost use Rattle.world.specs.Simulated.{EndsEarly};
-ghost use Rattle.world.specs.LiveRun.{EndsLiveRun};
+ghost use Rattle.std.specs.Prelude.{◌≡◌, ◌⊎◌, IfOk, IfErr};
+ghost use Rattle.tested_schedules.specs.Tested.{EndsEarly};
+ghost use Rattle.tested_schedules.specs.TestedLines.{EndsTestedLines};
+ghost use Rattle.console.specs.Statuses.{status_of_expectations};
 ghost use Rattle.console.specs.TracedRun.{WritesTracedRun, WritesTracedLines};
 ghost use Rattle.console.specs.Steps.Ending.{AreEndTexts};
 ghost use Rattle.console.specs.Endings.{AreLinesDone, EndsAfterLines, EndsAfterSchedule, EndsSim, EndsWith, IsScheduleDone};
@@ -12,16 +13,24 @@ use crate::faults::{print_failure, print_live_fault, print_sim_fault};
 use crate::files::{STANDARD_INPUT, file_plant, file_text};
 use crate::piped::Piped;
 use crate::request::SimRequest;
-use crate::status::DONE;
+use crate::status::{DIFFERS, DONE};
 use plant::Plant;
 use std::alloc::{AllocError, Global};
 use std::io;
 use std::io::{BufReader, Read, Write};
 use std::rt::{Clock, Files};
 use std::sync::Arc;
+use tested_schedules::{LiveFault, Tested, test_in_turns, test_schedule};
 use text_lines::{OnTerminal, ToldLines};
 use traces::{TraceTexts, event_texts};
-use world::{LiveFault, SimFault, Simulated, simulate_world, simulate_world_in_turns};
+use world::{SimFault, Simulated};
+
+/// The status after a schedule was done.
+fn status_of(has_unmet: bool) -> u8
+    ensures { result ≡ status_of_expectations has_unmet }
+{
+    if has_unmet { DIFFERS } else { DONE }
+}
 
 /// The texts for the files of a trace of a schedule that was done.
 fn texts_of(
@@ -36,24 +45,41 @@ fn texts_of(
     event_texts(alloc, wanted, world.plant(), ended.events, world.log())
 }
 
-/// Writes what each event of a schedule does to the plant, as the words ask for it; the texts for the files of its trace.
+/// The status of a schedule that was done, and the texts for the files of its trace.
+fn answered_for(
+    alloc: Global,
+    request: &SimRequest<'_>,
+    tested: &Tested,
+) -> Result<Answered, AllocError>
+    ensures status { IfOk result (λ answered. answered.status ≡ status_of_expectations tested.now.has_unmet) }
+    ensures texts { IfOk result (λ answered. AreEndTexts request.now tested.now.ended answered.texts) }
+{
+    let texts = texts_of(alloc, request, &tested.ended)?;
+    Ok(Answered {
+        status: status_of(tested.has_unmet),
+        texts,
+    })
+}
+
+/// Writes what each event of a schedule does to the plant, and what its EXPECT lines find, as the words ask for it; the
+/// status, and the texts for the files of its trace.
 pub fn obey_schedule<W: Write>(
     alloc: Global,
     request: &SimRequest<'_>,
     plant: Arc<Plant>,
     schedule: &str,
     writer: &mut W,
-) -> Result<TraceTexts, SimFault>
+) -> Result<Answered, SimFault>
     ensures ok { IfOk result
         (WritesTracedRun plant.value request.now schedule.now (W.contents writer.old) (W.contents writer.new)) }
     ensures fault { IfErr result
         (EndsEarly plant.value request.now.max_number schedule.now (W.contents writer.old) (W.contents writer.new)) }
 {
-    let ended = simulate_world(alloc, plant, schedule, request.max_number, writer)?;
-    let Ok(texts) = texts_of(alloc, request, &ended) else {
-        return Err(SimFault::Memory);
-    };
-    Ok(texts)
+    let tested = test_schedule(alloc, plant, schedule, request.max_number, writer)?;
+    match answered_for(alloc, request, &tested) {
+        Ok(answered) => Ok(answered),
+        Err(_) => Err(SimFault::Memory),
+    }
 }
 
 /// Tells how a schedule ended; the status, and the texts for the files of its trace. `is_closed` is whether the output's
@@ -63,15 +89,12 @@ fn tell_schedule<R: Eprint + AllocGlobal>(
     request: &SimRequest<'_>,
     schedule: &str,
     is_closed: bool,
-    obeyed: Result<TraceTexts, SimFault>,
+    obeyed: Result<Answered, SimFault>,
 ) -> io::Result<Answered>
     ensures { IfOk result (EndsAfterSchedule obeyed) }
 {
     match obeyed {
-        Ok(texts) => Ok(Answered {
-            status: DONE,
-            texts,
-        }),
+        Ok(answered) => Ok(answered),
         Err(fault) => {
             let status = print_sim_fault(rt, request.schedule, schedule, is_closed, fault)?;
             Ok(Answered::with(status))
@@ -95,8 +118,8 @@ fn write_schedule<R: Clock + Print + Eprint + AllocGlobal>(
     tell_schedule(rt, request, schedule, writer.is_closed, obeyed)
 }
 
-/// Writes what each event of a schedule does to the plant, as the words ask for it, before it reads the next line;
-/// the texts for the files of its trace.
+/// Writes what each event of a schedule does to the plant, and what its EXPECT lines find, as the words ask for it, before
+/// it reads the next line; the status, and the texts for the files of its trace.
 pub fn obey_lines<R: Read, W: Write>(
     alloc: Global,
     request: &SimRequest<'_>,
@@ -104,19 +127,19 @@ pub fn obey_lines<R: Read, W: Write>(
     line: &mut Vec<u8>,
     input: &mut R,
     writer: &mut W,
-) -> Result<TraceTexts, LiveFault>
+) -> Result<Answered, LiveFault>
     ensures ok { IfOk result
         (WritesTracedLines plant.value request.now (R.remaining input.old) (R.remaining input.new)
         (W.contents writer.old) (W.contents writer.new)) }
     ensures fault { IfErr result
-        (EndsLiveRun plant.value request.now.max_number (R.remaining input.old) (R.remaining input.new) line.new.items
+        (EndsTestedLines plant.value request.now.max_number (R.remaining input.old) (R.remaining input.new) line.new.items
         (W.contents writer.old) (W.contents writer.new)) }
 {
-    let ended = simulate_world_in_turns(alloc, plant, request.max_number, line, input, writer)?;
-    let Ok(texts) = texts_of(alloc, request, &ended) else {
-        return Err(LiveFault::Memory);
-    };
-    Ok(texts)
+    let tested = test_in_turns(alloc, plant, request.max_number, line, input, writer)?;
+    match answered_for(alloc, request, &tested) {
+        Ok(answered) => Ok(answered),
+        Err(_) => Err(LiveFault::Memory),
+    }
 }
 
 /// Tells how the lines of standard input ended, of which this one was read last; the status, and the texts for the files of
@@ -125,15 +148,12 @@ fn tell_lines<R: Eprint + AllocGlobal>(
     rt: &R,
     request: &SimRequest<'_>,
     line: &[u8],
-    obeyed: Result<TraceTexts, LiveFault>,
+    obeyed: Result<Answered, LiveFault>,
 ) -> io::Result<Answered>
     ensures { IfOk result (EndsAfterLines obeyed) }
 {
     match obeyed {
-        Ok(texts) => Ok(Answered {
-            status: DONE,
-            texts,
-        }),
+        Ok(answered) => Ok(answered),
         Err(fault) => {
             let status = print_live_fault(rt, request.schedule, line, fault)?;
             Ok(Answered::with(status))

@@ -11,7 +11,7 @@ pub const FAILED: u8 = 3;
 /// The status after all was done, help and the version among it.
 pub(crate) const DONE: u8 = 0;
 
-/// The status after a variable isn't what a word expects.
+/// The status after a variable or an output isn't what a word expects.
 pub(crate) const DIFFERS: u8 = 4;
 
 /// The status after a claim fails.

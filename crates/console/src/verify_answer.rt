@@ -1,24 +1,28 @@
-ghost use Rattle.std.specs.Prelude.{◌≡◌, ◌⊎◌, IfOk, IfErr, Result};
+ghost use Rattle.std.specs.Prelude.{◌≡◌, ◌⊎◌, IfOk, IfErr, Result, string_bytes};
 ghost use Rattle.text_commands.specs.Rows.{texts};
 ghost use Rattle.verifying.specs.VerifyText.{ExplainsAnswer, WritesAnswer};
 ghost use Rattle.verifying_plants.specs.VerifyPlant.{ExplainsAnswer as ExplainsPlantAnswer, WritesAnswer as WritesPlantAnswer};
 ghost use Rattle.console.specs.Statuses.{status_of, status_of_question, status_of_plant_question};
-ghost use Rattle.console.specs.Verifying.{are_of_plant, are_plain, asked_question, asked_of_plant, is_of_plant, is_of_drawings, subject_of};
+ghost use Rattle.console.specs.Answers.{asked_source};
+ghost use Rattle.console.specs.Verifying.{are_of_plant, are_plain, asked_question, asked_of_plant, eval_words, is_of_plant, is_of_drawings, subject_of};
 ghost use Rattle.console.specs.Endings.{EndsVerify, IsDrawingVerified, IsPlantVerified, EndsVerdicts, status_of_plant_verdicts};
 
 use crate::command_fault::CommandFault;
-use crate::faults::{print_failure, print_fault_of_text, print_fault_of_word, print_word_refusal};
+use crate::faults::{
+    Source, print_failure, print_fault_of_text, print_fault_of_word, print_word_refusal,
+};
 use crate::files::file_text;
 use crate::piped::Piped;
 use crate::refusals::WordRefusal;
 use crate::request::VerifyRequest;
 use crate::shell_word::shell_word;
 use crate::status::{CLAIM_FAILS, DONE, UNDECIDED, WORD_REFUSED};
-use crate::warned::warn_of_a_drawing;
-use std::alloc::Global;
+use crate::warned::warn_of_a_ladder;
+use std::alloc::{AllocError, Global};
 use std::io;
 use std::io::Write;
 use std::rt::{Clock, Files};
+use text_commands::LadderSource;
 use text_lines::{OnTerminal, Progress};
 use verifying::{ClaimFaultKind, Question, Summary, VerifyFault, verify_text};
 use verifying_plants::{PlantQuestion, VerifyPlantFault, verify_plant_text};
@@ -26,6 +30,7 @@ use verifying_plants::{PlantQuestion, VerifyPlantFault, verify_plant_text};
 /// What a question is about.
 #[derive(Clone, Copy, Debug, PartialEq, Eq)]
 pub enum Subject {
+    /// A drawing, or a program type of a plant.
     Drawing,
     Plant,
     /// Names are of neither, or what is asked is of plants alone.
@@ -64,12 +69,12 @@ fn is_of_drawings(request: &VerifyRequest<'_>) -> bool
     !request.no_restarts && request.most_waiting.is_none()
 }
 
-/// What a question is about: all names have dots in a plant, none in a drawing, of which neither restarts nor waiting images
-/// are asked.
+/// What a question is about: all names have dots in a plant, none in a drawing or a program type, of which neither restarts
+/// nor waiting images are asked.
 fn subject_of(request: &VerifyRequest<'_>) -> Subject
     ensures { result ≡ subject_of request.now }
 {
-    if are_of_plant(&request.claims) && are_of_plant(&request.given) {
+    if are_of_plant(&request.claims) && are_of_plant(&request.given) && request.program.is_none() {
         Subject::Plant
     } else if are_plain(&request.claims) && are_plain(&request.given) && is_of_drawings(request) {
         Subject::Drawing
@@ -81,8 +86,8 @@ fn subject_of(request: &VerifyRequest<'_>) -> Subject
 /// Of how many waiting images the order is kept, unless the words say it.
 const MOST_WAITING: u32 = 8;
 
-/// Writes what is true of the claims about the drawing in the text. The file is the word that stands for it before the words
-/// for `plc eval`. How far the search is is told meanwhile.
+/// Writes what is true of the claims about the drawing in the text, or about a program type. The file is the words that stand
+/// for it before those for `plc eval`. How far the search is is told meanwhile.
 pub fn obey_verify<W: Write, P: Progress>(
     alloc: Global,
     request: &VerifyRequest<'_>,
@@ -91,8 +96,8 @@ pub fn obey_verify<W: Write, P: Progress>(
     writer: &mut W,
     progress: &mut P,
 ) -> Result<Summary, VerifyFault>
-    ensures ok { IfOk result (WritesAnswer text.now (asked_question file.now request.now) (W.contents writer.old) (W.contents writer.new)) }
-    ensures fault { IfErr result (ExplainsAnswer text.now (asked_question file.now request.now) (W.contents writer.old) (W.contents writer.new)) }
+    ensures ok { IfOk result (WritesAnswer (asked_source text.now request.now.program) (asked_question file.now request.now) (W.contents writer.old) (W.contents writer.new)) }
+    ensures fault { IfErr result (ExplainsAnswer (asked_source text.now request.now.program) (asked_question file.now request.now) (W.contents writer.old) (W.contents writer.new)) }
 {
     let question = Question {
         file,
@@ -102,7 +107,11 @@ pub fn obey_verify<W: Write, P: Progress>(
         dt: request.dt.unwrap_or(0),
         most_states: request.most_states,
     };
-    verify_text(alloc, text, &question, writer, progress)
+    let source = LadderSource {
+        text,
+        program: request.program,
+    };
+    verify_text(alloc, source, &question, writer, progress)
 }
 
 /// The status after all claims were answered.
@@ -116,6 +125,15 @@ fn status_of(summary: Summary) -> u8
     }
 }
 
+/// What was read for a question.
+fn source_of<'a>(request: &VerifyRequest<'a>, text: &'a str) -> Source<'a> {
+    Source {
+        file: request.file,
+        text,
+        program: request.program,
+    }
+}
+
 /// Tells why there is no answer; the status. `is_closed` is whether the output's reader has ended.
 fn print_verify_fault<R: Eprint + AllocGlobal>(
     rt: &R,
@@ -126,20 +144,21 @@ fn print_verify_fault<R: Eprint + AllocGlobal>(
 ) -> io::Result<u8>
     ensures { IfOk result (λ status. status ≡ status_of_question fault) }
 {
+    let source = source_of(request, text);
     match fault {
         VerifyFault::Command(fault) => {
-            print_fault_of_text(rt, request.file, text, &request.words, is_closed, fault)
+            print_fault_of_text(rt, source, &request.words, is_closed, fault)
         }
         VerifyFault::Claim(fault) => {
             let is_unknown = fault.kind == ClaimFaultKind::NoVariable;
-            print_fault_of_word(rt, text, &request.claims, fault.number, is_unknown, fault)
+            print_fault_of_word(rt, source, &request.claims, fault.number, is_unknown, fault)
         }
         VerifyFault::Given(fault) => {
             let is_unknown = fault.kind == ClaimFaultKind::NoVariable;
-            print_fault_of_word(rt, text, &request.given, fault.number, is_unknown, fault)
+            print_fault_of_word(rt, source, &request.given, fault.number, is_unknown, fault)
         }
         VerifyFault::Held(fault) => {
-            print_fault_of_word(rt, text, &request.words, fault.number, false, fault)
+            print_fault_of_word(rt, source, &request.words, fault.number, false, fault)
         }
         VerifyFault::TooManyInputs(_) | VerifyFault::NoTime => {
             eprintln!(rt; "plc: {fault}")?;
@@ -162,7 +181,15 @@ fn tell_verdicts<R: Eprint + AllocGlobal>(
         Ok(summary) => {
             let status = status_of(summary);
             let dt = request.dt.unwrap_or(0);
-            warn_of_a_drawing(rt, request.file, dt, text, request.strictness, status)
+            warn_of_a_ladder(
+                rt,
+                request.file,
+                request.program,
+                dt,
+                text,
+                request.strictness,
+                status,
+            )
         }
         Err(fault) => print_verify_fault(rt, request, text, is_closed, fault),
     }
@@ -201,18 +228,19 @@ fn print_verify_plant_fault<R: Eprint + AllocGlobal>(
 ) -> io::Result<u8>
     ensures { IfOk result (λ status. status ≡ status_of_plant_question fault) }
 {
+    let source = source_of(request, text);
     match fault {
         VerifyPlantFault::Command(fault) => {
-            print_fault_of_text(rt, request.file, text, &request.words, is_closed, fault)
+            print_fault_of_text(rt, source, &request.words, is_closed, fault)
         }
         VerifyPlantFault::Claim(fault) => {
-            print_fault_of_word(rt, text, &request.claims, fault.number, false, fault)
+            print_fault_of_word(rt, source, &request.claims, fault.number, false, fault)
         }
         VerifyPlantFault::Given(fault) => {
-            print_fault_of_word(rt, text, &request.given, fault.number, false, fault)
+            print_fault_of_word(rt, source, &request.given, fault.number, false, fault)
         }
         VerifyPlantFault::Range(fault) => {
-            print_fault_of_word(rt, text, &request.words, fault.number, false, fault)
+            print_fault_of_word(rt, source, &request.words, fault.number, false, fault)
         }
     }
 }
@@ -233,7 +261,19 @@ fn tell_plant_verdicts<R: Eprint + AllocGlobal>(
     }
 }
 
-/// Writes what is true of the claims about the drawing in the text; the status.
+/// The words that stand for a drawing or a program type before those for `plc eval`.
+fn eval_words(alloc: Global, request: &VerifyRequest<'_>) -> Result<String, AllocError>
+    ensures { IfOk result (λ words. string_bytes words ≡ eval_words request.now) }
+{
+    let mut words = shell_word(alloc, request.file)?;
+    if let Some(name) = request.program {
+        words.push_str(" --program ")?;
+        words.push_str(shell_word(alloc, name)?.as_str())?;
+    }
+    Ok(words)
+}
+
+/// Writes what is true of the claims about the drawing in the text, or about a program type; the status.
 fn answer_drawing<R: Clock + Print + Eprint + AllocGlobal>(
     rt: &R,
     told: bool,
@@ -242,7 +282,7 @@ fn answer_drawing<R: Clock + Print + Eprint + AllocGlobal>(
 ) -> io::Result<u8>
     ensures { IfOk result (λ status. (status ≡ 3) ⊎ IsDrawingVerified request.now text.now status) }
 {
-    let Ok(file) = shell_word(rt.alloc(), request.file) else {
+    let Ok(file) = eval_words(rt.alloc(), request) else {
         return print_failure(rt, CommandFault::Memory);
     };
     let mut writer = Piped::new(io::writer(rt));
@@ -275,6 +315,14 @@ fn answer_plant<R: Clock + Print + Eprint + AllocGlobal>(
     tell_plant_verdicts(rt, request, text, writer.is_closed, answered)
 }
 
+/// Why a question is about nothing.
+fn no_subject(request: &VerifyRequest<'_>) -> WordRefusal<'static> {
+    match request.program {
+        None => WordRefusal::NoSubject,
+        Some(_) => WordRefusal::NoProgramOfNames,
+    }
+}
+
 /// Reads a drawing or a plant, and writes what is true of the claims about it; the status. `told` is whether the search tells
 /// on standard error how far it is.
 pub fn answer_verify<R: Files + Clock + Print + Eprint + AllocGlobal>(
@@ -293,6 +341,6 @@ pub fn answer_verify<R: Files + Clock + Print + Eprint + AllocGlobal>(
             Ok(text) => answer_plant(rt, told, request, text.as_str()),
             Err(status) => Ok(status),
         },
-        Subject::Neither => print_word_refusal(rt, WordRefusal::NoSubject),
+        Subject::Neither => print_word_refusal(rt, no_subject(request)),
     }
 }

@@ -1,7 +1,7 @@
 //! Warnings: what is lawful, and most likely not meant.
 
 ghost use Rattle.std.specs.Prelude.{◌≡◌, IfOk, MatchOption};
-ghost use Rattle.console.specs.Warned.{AreDrawingWarnings, ArePlantWarnings, IsNoDrawing, IsNoPlantEither, EndsWarned, IsDrawingQuiet, IsPlantQuiet, IsQuiet, is_plant_quiet, strict_status};
+ghost use Rattle.console.specs.Warned.{AreDrawingWarnings, ArePlantWarnings, IsNoDrawing, IsNoPlantEither, EndsWarned, IsDrawingQuiet, IsLadderQuiet, IsPlantQuiet, IsQuiet, is_plant_quiet, strict_status};
 ghost use Rattle.console.specs.Steps.WarnedEnds.{IsStatusBehind};
 ghost use Rattle.console.specs.CommandLine.{strictness_of};
 
@@ -205,22 +205,39 @@ fn status_behind<R: Eprint>(
     }
 }
 
-/// Tells the warnings of a drawing's text behind all else that is told; the status, which was this one before them. The time
-/// between scans is judged if it isn't 0.
-pub fn warn_of_a_drawing<R: Eprint + AllocGlobal>(
+/// Tells the warnings of a drawing, or of the plant of a program type; whether there are none. An error is want of memory.
+fn tell_ladder<R: Eprint + AllocGlobal>(
     rt: &R,
     file: &str,
+    program: Option<&str>,
+    dt: u32,
+    text: &str,
+) -> io::Result<Result<bool, AllocError>>
+    ensures { IfOk result (λ told. IfOk told (IsLadderQuiet program.entry dt text.now)) }
+{
+    match program {
+        None => tell_drawing(rt, file, dt, text),
+        Some(_) => tell_plant(rt, file, text),
+    }
+}
+
+/// Tells the warnings of a drawing's text, or of the plant of a program type, behind all else that is told; the status, which
+/// was this one before them. The time between the scans of a drawing is judged if it isn't 0.
+pub fn warn_of_a_ladder<R: Eprint + AllocGlobal>(
+    rt: &R,
+    file: &str,
+    program: Option<&str>,
     dt: u32,
     text: &str,
     strictness: Strictness,
     status: u8,
 ) -> io::Result<u8>
-    ensures { IfOk result (EndsWarned (IsDrawingQuiet dt text.now) strictness status) }
+    ensures { IfOk result (EndsWarned (IsLadderQuiet program.entry dt text.now) strictness status) }
 {
     match strictness {
         Strictness::Silent => Ok(status),
         Strictness::Told | Strictness::Strict => {
-            let told = tell_drawing(rt, file, dt, text)?;
+            let told = tell_ladder(rt, file, program, dt, text)?;
             status_behind(rt, told, strictness, status)
         }
     }
@@ -235,7 +252,7 @@ fn tell_request<R: Eprint + AllocGlobal>(
     ensures { IfOk result (λ told. IfOk told (IsQuiet request.now text.now)) }
 {
     match request {
-        TextRequest::Eval { .. } => tell_drawing(rt, request.file(), 0, text),
+        TextRequest::Eval { program, .. } => tell_ladder(rt, request.file(), *program, 0, text),
         TextRequest::Check { .. } => tell_plant(rt, request.file(), text),
         TextRequest::Plan { .. } => Ok(Ok(true)),
     }

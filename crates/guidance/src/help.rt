@@ -5,6 +5,7 @@ ghost use Rattle.guidance.specs.Helping.{IsUndeclared, TellsTopic, TellsOf, show
 ghost use Rattle.guidance.specs.declared.topic.Topic.TheVariants.{ScheduleSyntax};
 
 use crate::excerpt::{line_of, marked_column, marked_line};
+use crate::mention::{Mention, Thing};
 use crate::mentions::mentions_of;
 use crate::nearest::{beginning, nearest_names};
 use crate::topic::Topic;
@@ -15,7 +16,7 @@ use network::Graph;
 use plant::PlantFault;
 use power_flow::{Declarations, Declared, Kind};
 use std::alloc::{AllocError, Global};
-use text_commands::{TextFault, without_comments};
+use text_commands::{TextFault, read_program, without_comments};
 use words::is_plain_name;
 
 /// The drawing of a text, if need be with its comments emptied. `None`: it is refused, or there was no memory left.
@@ -126,18 +127,79 @@ fn flags_in(alloc: Global, declarations: &Declarations) -> Result<Vec<&[u8]>, Al
     Ok(names)
 }
 
-/// The BOOL variables of a drawing that are nearest to the name in a word NAME=BITS; nothing where that is no name or no
-/// variable is BOOL.
-pub fn help_with_a_word(alloc: Global, text: &str, word: &str) -> Result<String, AllocError> {
+/// Of the BOOL variables among these the nearest to a name, behind what they are; nothing where it is no name or none is BOOL.
+fn near_flags(
+    alloc: Global,
+    declarations: &Declarations,
+    what: &str,
+    name: &[u8],
+) -> Result<String, AllocError> {
     let mut near = String::new(alloc);
-    let name = word.split('=').next().unwrap_or(word).as_bytes();
-    let Some(declarations) = names_of_a_drawing(alloc, text) else {
-        return Ok(near);
-    };
-    let flags = flags_in(alloc, &declarations)?;
+    let flags = flags_in(alloc, declarations)?;
     if is_plain_name(name) && !flags.is_empty() {
-        near.push_str("The nearest BOOL variables of the drawing:")?;
+        near.push_str(what)?;
         push_names(&mut near, &nearest_names(alloc, name, &flags)?)?;
+    }
+    Ok(near)
+}
+
+/// Those of a program type of a plant.
+fn near_program(
+    alloc: Global,
+    text: &str,
+    program: &str,
+    name: &[u8],
+) -> Result<String, AllocError> {
+    match read_program(alloc, text, program) {
+        Ok(Some(found)) => {
+            let declarations = found.ladder().declarations();
+            let what = "The nearest BOOL variables of the program:";
+            near_flags(alloc, declarations, what, name)
+        }
+        _ => Ok(String::new(alloc)),
+    }
+}
+
+/// The BOOL variables of a drawing, or of a program type of a plant, that are nearest to the name in a word NAME=BITS; nothing
+/// where that is no name or no variable is BOOL.
+pub fn help_with_a_word(
+    alloc: Global,
+    text: &str,
+    program: Option<&str>,
+    word: &str,
+) -> Result<String, AllocError> {
+    let name = word.split('=').next().unwrap_or(word).as_bytes();
+    if let Some(program) = program {
+        return near_program(alloc, text, program, name);
+    }
+    match names_of_a_drawing(alloc, text) {
+        Some(declarations) => {
+            let what = "The nearest BOOL variables of the drawing:";
+            near_flags(alloc, &declarations, what, name)
+        }
+        None => Ok(String::new(alloc)),
+    }
+}
+
+/// The names of the program types that are declared.
+fn program_types<'a>(alloc: Global, mentions: &[Mention<'a>]) -> Result<Vec<&'a [u8]>, AllocError> {
+    let mut names = Vec::new(alloc);
+    for mention in mentions {
+        if mention.is_declaration && mention.thing == Thing::ProgramType {
+            names.push(mention.name)?;
+        }
+    }
+    Ok(names)
+}
+
+/// The program types of a plant that are nearest to a name; nothing where that is no name or there are none.
+pub fn help_with_a_program(alloc: Global, text: &str, name: &str) -> Result<String, AllocError> {
+    let mut near = String::new(alloc);
+    let mentions = mentions_of(alloc, text.as_bytes())?;
+    let names = program_types(alloc, &mentions)?;
+    if is_plain_name(name.as_bytes()) && !names.is_empty() {
+        near.push_str("The nearest program types of the plant:")?;
+        push_names(&mut near, &nearest_names(alloc, name.as_bytes(), &names)?)?;
     }
     Ok(near)
 }

@@ -367,7 +367,7 @@ pub const TOO_LONG_REFUSED: &str = "(a task of 1 ms, and --until 100001)";
 pub const TOO_LONG_MENDED: &str = "(--until 100000)";
 
 pub const SCHEDULE_SYNTAX: &str =
-    "This line is no event, comment or blank line: write EVAL R.T dt with words such as %IX0=1 or %IW2=-7 behind it, DELIVER message R, RESTART R, or HEAR R S incarnation, and a comment on a line of its own behind #.";
+    "This line is no event, comment or blank line: write EVAL R.T dt with words such as %IX0=1 or %IW2=-7 behind it, DELIVER message R, RESTART R, HEAR R S incarnation, or EXPECT R.P.V=value, and a comment on a line of its own behind #.";
 
 pub const SCHEDULE_SYNTAX_REFUSED: &str = "\
 EVAL R1.FAST %IX0=1";

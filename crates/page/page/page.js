@@ -45,6 +45,11 @@ const EVENT_FORMS = {
   MESSAGE: [[new RegExp(`^MESSAGE (\\w+)\\.(\\w+) (\\d+\\.\\d+) (${ANSWERS})$`), (f) => (
     { kind: "delivery", isOwn: true, from: f[1], task: `${f[1]}.${f[2]}`, pair: f[3], answer: f[4] })]],
   SEND: [[/^SEND (\w+) ((?:HELLO|MESSAGE) .+)$/, (f) => ({ kind: "sending", isOwn: true, to: f[1], sent: f[2] })]],
+  EXPECT: [
+    [new RegExp(`^EXPECT (\\w+)\\.(\\w+\\.\\w+=${VALUE} (met|unmet ${VALUE}))$`), (f) => (
+      { kind: "expectation", lane: f[1], told: f[2], answer: f[3].split(" ")[0] })],
+    [/^EXPECT((?: \w+\.\w+\.\w+=\S+)+)$/i, (f) => ({ kind: "expectation", told: f[1].trim(), answer: "" })],
+  ],
   REFUSED: [[/^REFUSED(?: (\d+))? (\w+)$/, (f) => ({ kind: "refused", isOwn: !f[1], event: f[1], cause: f[2] })]],
   OVERRUN: [[/^OVERRUN (\w+)\.(\w+) (\d+)$/, (f) => ({ kind: "overrun", lane: f[1], late: `${f[1]}.${f[2]}`, skipped: f[3] })]],
   INPUT: [[/^INPUT taken$/, () => ({ kind: "input", isOwn: true })]],
@@ -601,11 +606,12 @@ function isMark(event) {
   if (event.kind === "delivery") return event.answer !== "taken" && event.answer !== "";
   if (event.kind === "restart") return !event.isStart || event.incarnation !== "1";
   if (event.kind === "replay") return event.answer === "differs";
+  if (event.kind === "expectation") return event.answer === "unmet";
   return ["refused", "overrun", "ended", "fault", "unanswered", "unshown"].includes(event.kind);
 }
 
 /** What kind of mark an event is, in a word. */
-const markOf = (event) => (event.kind === "delivery" ? event.answer : event.kind);
+const markOf = (event) => (["delivery", "expectation"].includes(event.kind) ? event.answer : event.kind);
 
 // ---- 5. Elements ----
 
@@ -1135,7 +1141,7 @@ class LanesView {
   summary() {
     const tally = new Map();
     for (const event of this.run.events) {
-      const word = event.kind === "delivery" ? `delivery ${event.answer}`.trim() : event.kind === "replay" ? event.told : event.kind;
+      const word = ["delivery", "expectation"].includes(event.kind) ? `${event.kind} ${event.answer}`.trim() : event.kind === "replay" ? event.told : event.kind;
       const found = tally.get(word) ?? { number: 0, first: event };
       found.number += 1;
       tally.set(word, found);
@@ -1333,7 +1339,7 @@ class LanesView {
   /** What has no lane, or says something of all lanes, has a band across. */
   band(event) {
     if (event.column !== undefined && !["fault", "unshown"].includes(event.kind)) return undefined;
-    if (["hearing", "sending", "input"].includes(event.kind)) return undefined;
+    if (["hearing", "sending", "input", "expectation"].includes(event.kind)) return undefined;
     return svg("rect", { x: GUTTER - 6, y: this.y(event.at) - EVENT / 2 + 2, width: this.width - GUTTER, height: EVENT - 4, class: `band is-${event.kind} is-${event.answer ?? ""}` });
   }
 
@@ -1421,6 +1427,12 @@ class LanesView {
 
   input(event, y) {
     return [this.inLane(event, y, "faint")];
+  }
+
+  expectation(event, y) {
+    if (isMark(event)) return this.fault(event, y);
+    const x = this.x(event.column ?? 0);
+    return [event.answer !== "" && path(`M${x - 5} ${y}L${x - 1} ${y + 4}L${x + 5} ${y - 5}`, "heard"), this.inLane(event, y, "faint")];
   }
 
   overrun(event, y) {
@@ -1608,6 +1620,7 @@ const TALLIES = {
   hearing: (_, number) => (number === 1 ? "hearing" : "hearings"),
   sending: (_, number) => (number === 1 ? "line sent" : "lines sent"),
   input: (_, number) => (number === 1 ? "input told" : "inputs told"),
+  expectation: (event, number) => `${number === 1 ? "expectation" : "expectations"} ${event.answer}`.trim(),
   overrun: () => "OVERRUN",
   ended: () => "FIELD ended",
   refused: () => "REFUSED",
@@ -1618,6 +1631,7 @@ const TALLIES = {
 
 const LABELS = {
   input: () => "INPUT taken",
+  expectation: (event) => event.told,
   overrun: (event) => `OVERRUN ${event.late} ${event.skipped}`,
   ended: () => "FIELD ended",
   refused: (event) => `REFUSED ${event.event ?? ""} ${event.cause}`.replace(/ +/g, " "),

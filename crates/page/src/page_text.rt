@@ -5,7 +5,7 @@ pub const HEAD: &str = r#"<!doctype html>
 <html lang="en">
 <head>
 <meta charset="utf-8">
-<meta http-equiv="Content-Security-Policy" content="default-src 'none'; style-src 'sha256-bg51AnsbfjPuqyVDUmKWc71XTY6GF3Ion86+ImvJcEw='; script-src 'sha256-9oLiTQf2sBVm+JgZ5jSvKPEtGr4mZtQBIk2VvBYEqJ0=' 'sha256-ChKaGAooh9MeAPmDwP4NMz6Juy8CuNAtGuTPKC1iCeE='; base-uri 'none'; form-action 'none'">
+<meta http-equiv="Content-Security-Policy" content="default-src 'none'; style-src 'sha256-dGxnvq/Jt3c3Dsb2HfgMGv7pld7tSyu9UpSYSE7PAec='; script-src 'sha256-9oLiTQf2sBVm+JgZ5jSvKPEtGr4mZtQBIk2VvBYEqJ0=' 'sha256-Wppg6qhQXtawF2uSkZECcKTVP1MBiy7kGfsI9TrdKQo='; base-uri 'none'; form-action 'none'">
 <meta name="viewport" content="width=device-width, initial-scale=1">
 <meta name="color-scheme" content="light dark">
 <title>plc</title>
@@ -115,7 +115,7 @@ button.chip { border-width: 2px; font-weight: 700; }
 .chip.is-stray { color: var(--stray); border-color: currentColor; }
 .chip.is-restart { color: var(--restart); border-color: currentColor; }
 .chip.is-unused { color: var(--unused); border-color: currentColor; }
-.chip.is-refused, .chip.is-overrun, .chip.is-ended, .chip.is-fault, .chip.is-unanswered, .chip.is-unshown, .chip.is-replay, .chip.is-differs { color: var(--bad); border-color: currentColor; }
+.chip.is-refused, .chip.is-overrun, .chip.is-ended, .chip.is-fault, .chip.is-unanswered, .chip.is-unshown, .chip.is-unmet, .chip.is-replay, .chip.is-differs { color: var(--bad); border-color: currentColor; }
 .chip.is-equal { color: var(--good); border-color: currentColor; font-weight: 700; }
 .legend { display: flex; flex-wrap: wrap; gap: 2px 18px; margin: 0 0 8px; font-size: 13px; color: var(--faint); }
 .legend > span { display: inline-flex; align-items: center; gap: 6px; }
@@ -160,7 +160,7 @@ button.chip { border-width: 2px; font-weight: 700; }
 .is-stray .mark-ring, .is-stray .mark-sign, .delivery-line.is-stray { stroke: var(--stray); }
 .is-unused .mark-ring, .is-unused .mark-hollow, .delivery-line.is-unused { stroke: var(--unused); }
 .delivery-line.is-old, .delivery-line.is-stray, .delivery-line.is-unused { stroke-width: 2; }
-.event.refused text.strong, .event.overrun text.strong, .event.ended text.strong, .event.fault text.strong, .event.unanswered text.strong, .event.unshown text.strong { fill: var(--bad); }
+.event.refused text.strong, .event.overrun text.strong, .event.ended text.strong, .event.fault text.strong, .event.unanswered text.strong, .event.unshown text.strong, .event.expectation text.strong { fill: var(--bad); }
 .fault-sign { fill: var(--bad); }
 .break { stroke: var(--restart); stroke-width: 3; fill: none; }
 .heard, .sent { stroke: var(--off); stroke-width: 1.5; fill: none; }
@@ -284,6 +284,11 @@ const EVENT_FORMS = {
   MESSAGE: [[new RegExp(`^MESSAGE (\\w+)\\.(\\w+) (\\d+\\.\\d+) (${ANSWERS})$`), (f) => (
     { kind: "delivery", isOwn: true, from: f[1], task: `${f[1]}.${f[2]}`, pair: f[3], answer: f[4] })]],
   SEND: [[/^SEND (\w+) ((?:HELLO|MESSAGE) .+)$/, (f) => ({ kind: "sending", isOwn: true, to: f[1], sent: f[2] })]],
+  EXPECT: [
+    [new RegExp(`^EXPECT (\\w+)\\.(\\w+\\.\\w+=${VALUE} (met|unmet ${VALUE}))$`), (f) => (
+      { kind: "expectation", lane: f[1], told: f[2], answer: f[3].split(" ")[0] })],
+    [/^EXPECT((?: \w+\.\w+\.\w+=\S+)+)$/i, (f) => ({ kind: "expectation", told: f[1].trim(), answer: "" })],
+  ],
   REFUSED: [[/^REFUSED(?: (\d+))? (\w+)$/, (f) => ({ kind: "refused", isOwn: !f[1], event: f[1], cause: f[2] })]],
   OVERRUN: [[/^OVERRUN (\w+)\.(\w+) (\d+)$/, (f) => ({ kind: "overrun", lane: f[1], late: `${f[1]}.${f[2]}`, skipped: f[3] })]],
   INPUT: [[/^INPUT taken$/, () => ({ kind: "input", isOwn: true })]],
@@ -840,11 +845,12 @@ function isMark(event) {
   if (event.kind === "delivery") return event.answer !== "taken" && event.answer !== "";
   if (event.kind === "restart") return !event.isStart || event.incarnation !== "1";
   if (event.kind === "replay") return event.answer === "differs";
+  if (event.kind === "expectation") return event.answer === "unmet";
   return ["refused", "overrun", "ended", "fault", "unanswered", "unshown"].includes(event.kind);
 }
 
 /** What kind of mark an event is, in a word. */
-const markOf = (event) => (event.kind === "delivery" ? event.answer : event.kind);
+const markOf = (event) => (["delivery", "expectation"].includes(event.kind) ? event.answer : event.kind);
 
 // ---- 5. Elements ----
 
@@ -1374,7 +1380,7 @@ class LanesView {
   summary() {
     const tally = new Map();
     for (const event of this.run.events) {
-      const word = event.kind === "delivery" ? `delivery ${event.answer}`.trim() : event.kind === "replay" ? event.told : event.kind;
+      const word = ["delivery", "expectation"].includes(event.kind) ? `${event.kind} ${event.answer}`.trim() : event.kind === "replay" ? event.told : event.kind;
       const found = tally.get(word) ?? { number: 0, first: event };
       found.number += 1;
       tally.set(word, found);
@@ -1572,7 +1578,7 @@ class LanesView {
   /** What has no lane, or says something of all lanes, has a band across. */
   band(event) {
     if (event.column !== undefined && !["fault", "unshown"].includes(event.kind)) return undefined;
-    if (["hearing", "sending", "input"].includes(event.kind)) return undefined;
+    if (["hearing", "sending", "input", "expectation"].includes(event.kind)) return undefined;
     return svg("rect", { x: GUTTER - 6, y: this.y(event.at) - EVENT / 2 + 2, width: this.width - GUTTER, height: EVENT - 4, class: `band is-${event.kind} is-${event.answer ?? ""}` });
   }
 
@@ -1660,6 +1666,12 @@ class LanesView {
 
   input(event, y) {
     return [this.inLane(event, y, "faint")];
+  }
+
+  expectation(event, y) {
+    if (isMark(event)) return this.fault(event, y);
+    const x = this.x(event.column ?? 0);
+    return [event.answer !== "" && path(`M${x - 5} ${y}L${x - 1} ${y + 4}L${x + 5} ${y - 5}`, "heard"), this.inLane(event, y, "faint")];
   }
 
   overrun(event, y) {
@@ -1847,6 +1859,7 @@ const TALLIES = {
   hearing: (_, number) => (number === 1 ? "hearing" : "hearings"),
   sending: (_, number) => (number === 1 ? "line sent" : "lines sent"),
   input: (_, number) => (number === 1 ? "input told" : "inputs told"),
+  expectation: (event, number) => `${number === 1 ? "expectation" : "expectations"} ${event.answer}`.trim(),
   overrun: () => "OVERRUN",
   ended: () => "FIELD ended",
   refused: () => "REFUSED",
@@ -1857,6 +1870,7 @@ const TALLIES = {
 
 const LABELS = {
   input: () => "INPUT taken",
+  expectation: (event) => event.told,
   overrun: (event) => `OVERRUN ${event.late} ${event.skipped}`,
   ended: () => "FIELD ended",
   refused: (event) => `REFUSED ${event.event ?? ""} ${event.cause}`.replace(/ +/g, " "),

@@ -28,6 +28,7 @@ pub mod FirstFailing
 pub mod MovedPlants
 mod NamesApart
 pub mod OnePlant
+pub mod ReadTexts
 pub mod OneTexts
 pub mod SmallCounts
 pub mod MissingParts

@@ -13,7 +13,10 @@ use Rattle.plant_text.specs.Places.{is_body, may_be_due, FitsPlace, is_body_due}
 use Rattle.plant_text.specs.Lines.{WordValue, last_line, IsSpelledBy, IsBegunBy, BeginsWithWordsThen, HasNoWordBehind, IsStoppedBy, AreWordsButLast, AreInTheirPlaces}
 use Rattle.plant_grammar.specs.Grammar.{Tree, program_words, words_of}
 use Rattle.plant_grammar.specs.WellFormed.{is_plain, IsTreeWellFormed}
-use Rattle.plant_grammar.specs.GoesOn.{GoesOn, IsLastMisplaced}
+use Rattle.plant_grammar.specs.GoesOn.{IsLastMisplaced}
+use Rattle.plant_grammar.specs.JudgedWords.{sounds}
+use Rattle.plant_grammar.specs.NameFaults.{GoesOnSound}
+use Rattle.plant_grammar.proofs.ForgottenFaults.{forget, forget_both, forget_sounds, forgotten}
 use Rattle.plant_grammar.specs.Steps.Lines.{ReaderValue, HasLinesOf}
 use Rattle.plant_grammar.specs.Steps.Declaring.{BeginWith, IsLineBefore}
 use Rattle.plant_grammar.specs.Steps.Expected.{MeetsMisplaced}
@@ -35,8 +38,10 @@ unknown_or_known (token.Body b) = inr (λ e. cc)
 unknown_or_known token.Unknown = inl refl
 
 -- words from which a plant goes on are known
-goes_on_known : (ws : List Token) → GoesOn ws → AreKnown ws
-goes_on_known ws g = all_first IsKnown ws g.1 (subst AreKnown g.2 (words_known g.0))
+goes_on_known : (ws : List Token) → GoesOnSound ws → AreKnown ws
+goes_on_known ws (tree, more, e, formed) =
+    let parts : words_of tree ≡ ws ++ forget more = sym (forgotten tree) ∙ ap forget e ∙ forget_both (sounds ws) more ∙ ap (λ (vs : List Token). vs ++ forget more) (forget_sounds ws) in
+    all_first IsKnown ws (forget more) (subst AreKnown parts (words_known tree))
 
 -- where words are followed by one, those and that one are known
 front_is : (xs ys : List Token) (x y : Token) → xs ++ x ∷ [] ≡ ys ++ y ∷ [] → xs ≡ ys
@@ -86,7 +91,7 @@ plain_word token.Unknown known none = absurd (known refl)
 plain_word _ known none = refl
 
 -- where the bodies of programs are drawn, so are those before a word
-front_drawn : (xs ys : List Token) → AreBodiesDrawn (xs ++ ys) → AreBodiesDrawn xs
+pub front_drawn : (xs ys : List Token) → AreBodiesDrawn (xs ++ ys) → AreBodiesDrawn xs
 front_drawn xs ys drawn = λ ps more formed e. drawn ps (more ++ ys) formed (ap (λ zs. zs ++ ys) e ∙ append_assoc (flat_map program_words ps) more ys)
 
 -- such is what is known of trees and the words behind them
@@ -102,7 +107,7 @@ pub syntax_first : (text : List ℕ) (ws : List WordValue) (r : ReaderValue) (li
     → MeetsMisplaced r line → IsMisplacedIn text line ⊎ (IsUnknownIn text line ⊎ EndsEarly text line)
 syntax_first text ws r line words drawn lines ends spelled begun stopped last_one in_places (inl (g, last)) =
     let tokens = map (λ (w : WordValue). w.token) ws in
-    let here : GoesOn tokens = subst GoesOn (sym words) g in
+    let here : GoesOnSound tokens = subst GoesOnSound (sym words) g in
     inr (inr (last (map (λ (w : WordValue). w.line) ws) lines ∙ ends, tokens, spelled (goes_on_known tokens here), here, subst AreBodiesDrawn (sym words) drawn))
 syntax_first text ws r line words drawn lines ends spelled begun stopped last_one in_places (inr b) =
     let line_of : WordValue → ℕ = λ (w : WordValue). w.line in
@@ -118,7 +123,7 @@ syntax_first text ws r line words drawn lines ends spelled begun stopped last_on
         let cuts : r.words ≡ map token_of cut.before ++ map token_of behind = sym words ∙ ap (map token_of) parts ∙ map-append token_of cut.before behind in
         front_drawn (map token_of cut.before) (map token_of behind) (subst AreBodiesDrawn cuts drawn)
 
-    is : (cut : CutAtLine IsLastMisplaced ws line) → GoesOn (map (λ (w : WordValue). w.token) cut.before) → (is_body_due (map (λ (w : WordValue). w.token) cut.before) ≡ true → may_be_due cut.word.token ≡ false) → (cut.word.token ≡ token.Unknown) ⊎ (cut.word.token ≢ token.Unknown) → IsMisplacedIn text line ⊎ (IsUnknownIn text line ⊎ EndsEarly text line)
+    is : (cut : CutAtLine IsLastMisplaced ws line) → GoesOnSound (map (λ (w : WordValue). w.token) cut.before) → (is_body_due (map (λ (w : WordValue). w.token) cut.before) ≡ true → may_be_due cut.word.token ≡ false) → (cut.word.token ≡ token.Unknown) ⊎ (cut.word.token ≢ token.Unknown) → IsMisplacedIn text line ⊎ (IsUnknownIn text line ⊎ EndsEarly text line)
     is cut goes_on misfit (inr known) =
         let token_of : WordValue → Token = λ (w : WordValue). w.token in
         let words : AreKnown (map token_of (cut.before ++ cut.word ∷ [])) = subst AreKnown (sym (map-append token_of cut.before (cut.word ∷ []))) (both (map token_of cut.before) (cut.word.token ∷ []) (goes_on_known (map token_of cut.before) goes_on) (behind cut.word.token [] known nothing)) in
@@ -153,6 +158,6 @@ syntax_first text ws r line words drawn lines ends spelled begun stopped last_on
         let token_of : WordValue → Token = λ (w : WordValue). w.token in
         let before : map token_of cut.before ≡ cut.holds.before = front_is (map token_of cut.before) cut.holds.before cut.word.token cut.holds.word (sym (map-append token_of cut.before (cut.word ∷ [])) ∙ cut.holds.parts) in
         let word : cut.word.token ≡ cut.holds.word = last_is (map token_of cut.before) cut.holds.before cut.word.token cut.holds.word (sym (map-append token_of cut.before (cut.word ∷ [])) ∙ cut.holds.parts) in
-        let goes_on = subst GoesOn (sym before) cut.holds.goes_on in
+        let goes_on = subst GoesOnSound (sym before) cut.holds.goes_on in
         let misfit : is_body_due (map token_of cut.before) ≡ true → may_be_due cut.word.token ≡ false = λ due. ap may_be_due word ∙ cut.holds.misfit (ap is_body_due (sym before) ∙ due) in
         is cut goes_on misfit (unknown_or_known cut.word.token)

@@ -3,8 +3,8 @@ use Rattle.std.proofs.Common.{◌≡◌, ◌≢◌, sym, ◌∙◌, inl, inr, �
 use Rattle.plant_grammar.specs.declared.grammar_fault.GrammarFault.{GrammarFault}
 use Rattle.plant_grammar.specs.declared.grammar_fault.GrammarFaultKind.{GrammarFaultKind}
 use Rattle.plant_grammar.specs.declared.grammar_fault.GrammarFaultKind.TheVariants as word
-use Rattle.plant_grammar.specs.NameFaults.{TellsOfName}
-use Rattle.plant_grammar.specs.NameFaults as names
+use Rattle.plant_grammar.specs.Steps.NamesRead.{TellsOfName}
+use Rattle.plant_grammar.specs.Steps.NamesRead as names
 use Rattle.plant_grammar.specs.WordFaults.{IsOfWord, IsGrammarFault}
 use Rattle.plant.specs.declared.plant_fault.BodyFault.{BodyFault}
 use Rattle.plant.specs.declared.plant_fault.BodyFault.TheVariants as body

@@ -10,5 +10,6 @@ pub mod PlantText
 pub mod Counts
 pub mod NamesApart
 pub mod Find
+pub mod ProgramText
 pub mod Plan
 pub mod Steps

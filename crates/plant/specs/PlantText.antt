@@ -6,7 +6,7 @@ use Rattle.plant_text.specs.declared.token.Token.{Token}
 use Rattle.plant_text.specs.declared.token.Token.TheVariants as token
 use Rattle.plant_grammar.specs.declared.grammar_fault.GrammarFaultKind.{GrammarFaultKind}
 use Rattle.plant_grammar.specs.declared.grammar.tree.Program.{Program}
-use Rattle.plant_grammar.specs.NameFaults.{RefusesBehind}
+use Rattle.plant_grammar.specs.NameFaults.{GoesOnSound, IsLastRefused}
 use Rattle.plant.specs.Faults.{kind_of_word}
 use Rattle.plant.specs.declared.plant_fault.PlantFault.{PlantFault}
 use Rattle.plant_grammar.specs.Grammar.{TextValue, Tree, program_words, words_of}
@@ -59,8 +59,8 @@ AreBodiesDrawn words =
     → words ≡ flat_map program_words programs ++ more → All HasLadder programs
 
 -- The text, but for a carriage return at its end, begins with these words, each on its line. A plant, as the grammar has it,
--- goes on from those before the last, and none from all of them; the line is that of the last. No body is due there, and
--- the last is none. The bodies of the programs before it have ladders.
+-- goes on from those before the last, which have no fault, and none from all of them; the line is that of the last. No body
+-- is due there, and the last is none. The bodies of the programs before it have ladders.
 pub record IsMisplacedIn (text : List ℕ) (line : ℕ) : Type 0 where
   pub before : List WordValue
   pub word : WordValue
@@ -68,24 +68,24 @@ pub record IsMisplacedIn (text : List ℕ) (line : ℕ) : Type 0 where
   pub known : word.token ≢ token.Unknown
   pub elsewhere : is_body_due (map (λ (w : WordValue). w.token) before) ≡ false
   pub plain : is_plain word.token ≡ true
-  pub goes_on : GoesOn (map (λ (w : WordValue). w.token) before)
+  pub goes_on : GoesOnSound (map (λ (w : WordValue). w.token) before)
   pub misplaced : GoesOn (map (λ (w : WordValue). w.token) (before ++ word ∷ [])) → ⊥
   pub drawn : AreBodiesDrawn (map (λ (w : WordValue). w.token) before)
   pub line_is : line ≡ word.line
 
--- The text begins with words from which a plant goes on, each on its line, and then with no word, which is told on this
--- line. The bodies of the programs before it have ladders.
+-- The text begins with words without a fault from which a plant goes on, each on its line, and then with no word, which is
+-- told on this line. The bodies of the programs before it have ladders.
 pub record IsUnknownIn (text : List ℕ) (line : ℕ) : Type 0 where
   pub before : List WordValue
-  pub goes_on : GoesOn (map (λ (w : WordValue). w.token) before)
+  pub goes_on : GoesOnSound (map (λ (w : WordValue). w.token) before)
   pub stopped : BeginsWithWordsThen (λ n rest. HasNoWordBehind (last_line text) before n rest line) (without_last 13 text) before
   pub drawn : AreBodiesDrawn (map (λ (w : WordValue). w.token) before)
 
--- The text spells words from which a plant goes on, and the bodies of the programs there have ladders. The line is the last
--- of the text.
+-- The text spells words without a fault from which a plant goes on, and the bodies of the programs there have ladders. The
+-- line is the last of the text.
 abbrev pub EndsEarly : List ℕ → ℕ → Type 0
 EndsEarly text line =
-    (line ≡ last_line text) × (words : List Token) × Spells (without_last 13 text) words × GoesOn words × AreBodiesDrawn words
+    (line ≡ last_line text) × (words : List Token) × Spells (without_last 13 text) words × GoesOnSound words × AreBodiesDrawn words
 
 -- The text isn't as the grammar has it: a plant goes on from its words up to one, on this line, which can't stand there; or
 -- up to what is no word; or from all of them.
@@ -121,18 +121,8 @@ pub record IsBodyFaultIn (text : List ℕ) (fault : PlantFault) : Type 0 where
   pub declared : AreProgramsDeclared (map (λ (t : TextValue). t.program) texts)
   pub first : IsFirstBodyFault texts fault
 
--- These words are programs whose words have no fault and whose bodies have ladders, and behind them the words of a plant up
--- to the last, which is the first refused.
-pub record IsLastRefused (kind : GrammarFaultKind) (words : List Token) : Type 0 where
-  pub programs : List Program
-  pub behind : List Token
-  pub parts : words ≡ flat_map program_words programs ++ behind
-  pub declared : AreProgramsDeclared programs
-  pub drawn : All HasLadder programs
-  pub refused : RefusesBehind kind programs behind
-
--- The text begins with these words, each on its line, of which the last is at fault: what stands before it has none, and
--- the kind tells what is wrong with it. The fault is on the line of that word.
+-- The text begins with these words, each on its line, of which the last is the first refused, as the kind tells. The fault is
+-- on the line of that word, and the bodies of the programs before it have ladders.
 pub record IsWordFaultIn (text : List ℕ) (fault : PlantFault) : Type 0 where
   pub kind : GrammarFaultKind
   pub kind_is : fault.kind ≡ kind_of_word kind
@@ -140,6 +130,7 @@ pub record IsWordFaultIn (text : List ℕ) (fault : PlantFault) : Type 0 where
   pub word : WordValue
   pub begun : BeginsWithWords (without_last 13 text) (before ++ word ∷ [])
   pub refused : IsLastRefused kind (map (λ (w : WordValue). w.token) (before ++ word ∷ []))
+  pub drawn : AreBodiesDrawn (map (λ (w : WordValue). w.token) before)
   pub line_is : fault.line ≡ word.line
 
 -- The text begins with a tree whose words are lawful, and whose bodies have ladders. In the order of the text, the first

@@ -1,6 +1,7 @@
 ghost use Rattle.plant.specs.Counts.{CountsAreSmall};
 ghost use Rattle.plant.specs.NamesApart.{NamesAreApart};
 ghost use Rattle.plant.specs.PlantText.{OneTree, OnePlantOfTree, OnePlant};
+ghost use Rattle.plant.specs.ProgramText.{OneProgram};
 
 use crate::ladder_laws::program_has_one_ladder;
 use plant_grammar::{words_are_in_place, words_have_one_tree};
@@ -28,6 +29,14 @@ pub fn one_plant()
 {
     one_tree();
     one_plant_of_tree();
+}
+
+/// The program types of a name in a text say the same, and have one ladder.
+pub fn one_program()
+    ensures { OneProgram }
+{
+    one_tree();
+    program_has_one_ladder();
 }
 
 /// A plant of a text has at most 16 resources, 64 instances and 4,096 connections, so its counts are numbers of 64 bits.

@@ -17,10 +17,14 @@ mod sources;
 mod task;
 
 pub use ladder_laws::program_has_one_ladder;
-pub use laws::{counts_are_small, names_are_apart, one_plant, one_plant_of_tree, one_tree};
+pub use laws::{
+    counts_are_small, names_are_apart, one_plant, one_plant_of_tree, one_program, one_tree,
+};
 pub use planning::plan;
 pub use plant::Plant;
 pub use plant_fault::{BodyFault, PlantFault, PlantFaultKind};
+pub use program_type::ProgramType;
+pub use read::read_program;
 pub use task::Task;
 pub use task_codes::{Binding, Due, PlanFault, Source, TaskCode, TaskRef};
 pub use words::{Address, Space};

@@ -5,12 +5,12 @@ ghost use Rattle.plant_grammar.specs.Names.{is_named};
 ghost use Rattle.plant.specs.ProgramTypes.{TypeValue};
 ghost use Rattle.plant.specs.Ladders.{IsLadderOf};
 
-use plant_grammar::{Name, Program};
+use plant_grammar::{Name, Program, is_named};
 use power_flow::Ladder;
 use std::marker::Model;
 use std::sync::Arc;
 
-/// A program type as it is written, and its ladder.
+/// A program type of a plant as it is written, and its ladder.
 #[derive(Drop)]
 pub struct ProgramType {
     program: Program,
@@ -60,4 +60,13 @@ pub(crate) fn type_named<'a>(types: &'a [ProgramType], name: &Name) -> Option<&'
     types
         .iter()
         .find(|found| name.is_same(&found.program().name))
+}
+
+/// The program type that is named by these characters, the first one, of these.
+pub(crate) fn take_named(types: Vec<ProgramType>, name: &str) -> Option<ProgramType>
+    ensures { result ≡ find (λ t. is_named name.now t.program.name) types.items }
+{
+    types
+        .into_iter()
+        .find(|found| is_named(name, found.program().name.as_str()))
 }

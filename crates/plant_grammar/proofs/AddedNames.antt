@@ -9,7 +9,7 @@ use Rattle.declared_names.specs.declared.declarations.Declaration.{Declaration}
 use Rattle.declared_names.specs.declared.declarations.Declared.{Declared}
 use Rattle.declared_names.specs.Names.{IsDeclared}
 use Rattle.plant_grammar.specs.Names.{is_named}
-use Rattle.plant_grammar.specs.NameFaults.{IsNameTaken, IsNew}
+use Rattle.plant_grammar.specs.Steps.NamesRead.{IsNameTaken, IsNew}
 use Rattle.plant_grammar.specs.Names.{AreNamesApart}
 use Rattle.plant_grammar.specs.Lawful.{AreVariables, MayBeDeclared}
 use Rattle.plant_grammar.proofs.Apart.{apart_more, list_any-map, any_with}

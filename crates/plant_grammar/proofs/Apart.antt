@@ -9,7 +9,7 @@ use Rattle.std.specs.Prelude.{Any}
 use Rattle.std.specs.List.{flat_map, list_any}
 use Rattle.plant_grammar.specs.Steps.SameNames.{named_back}
 use Rattle.plant_grammar.specs.Names.{is_named, AreNamesApart}
-use Rattle.plant_grammar.specs.NameFaults.{IsNew}
+use Rattle.plant_grammar.specs.Steps.NamesRead.{IsNew}
 
 pub list_any-map : {A B : Type 0} (f : A → B) (p : B → Bool) (xs : List A) → list_any p (map f xs) ≡ list_any (λ x. p (f x)) xs
 list_any-map f p [] = refl

@@ -8,7 +8,7 @@ use Rattle.std.specs.List.{list_any, find}
 use Rattle.plant_grammar.specs.declared.grammar.tree.Program.{Program}
 use Rattle.plant_grammar.specs.Lawful.{IsProgramLawful, AreProgramsDeclared}
 use Rattle.plant_grammar.specs.Names.{is_named}
-use Rattle.plant_grammar.specs.NameFaults.{IsNew}
+use Rattle.plant_grammar.specs.Steps.NamesRead.{IsNew}
 use Rattle.plant_grammar.proofs.Apart.{list_any-map, apart_more, apart_none}
 use Rattle.plant_grammar.proofs.WordLists.{all_more, grown}
 use Rattle.plant_grammar.specs.Grammar.{TextValue}
@@ -52,6 +52,21 @@ found_type (x ∷ xs) name t Q at q = go (is_named name x.program.name) refl at 
         → Any (λ p. IsTrue (is_named name p.name) × Q p) (x.program ∷ map (λ (t : TextValue). t.program) xs)
     go true e f later = let same : x ≡ t = cc in (0, x.program, omega arith, refl, (e, subst (λ (y : TextValue). Q y.program) (sym same) q))
     go false e f later = let r = later f in (suc r.0, r.1, omega (arith, r.2), r.3, r.4)
+
+-- so the first program of the name is its program
+pub found_program : (types : List TextValue) (name : List ℕ) (t : TextValue) → find (λ (t : TextValue). is_named name t.program.name) types ≡ Some t
+    → find (λ (p : Program). is_named name p.name) (map (λ (t : TextValue). t.program) types) ≡ Some t.program
+found_program [] name t at = absurd cc
+found_program (x ∷ xs) name t at = go (is_named name x.program.name) refl at (λ e. found_program xs name t e)
+  where
+    later : Option Program
+    later = find (λ (p : Program). is_named name p.name) (map (λ (t : TextValue). t.program) xs)
+
+    go : (b : Bool) → is_named name x.program.name ≡ b → cond b (Some x) (find (λ (t : TextValue). is_named name t.program.name) xs) ≡ Some t
+        → (find (λ (t : TextValue). is_named name t.program.name) xs ≡ Some t → later ≡ Some t.program)
+        → cond (is_named name x.program.name) (Some x.program) later ≡ Some t.program
+    go true e f more = let same : x ≡ t = cc in ap (λ (c : Bool). cond c (Some x.program) later) e ∙ ap (λ (y : TextValue). Some y.program) same
+    go false e f more = ap (λ (c : Bool). cond c (Some x.program) later) e ∙ more f
 
 pub map-grown : {A B : Type 0} (f : A → B) (xs ys : List A) (y : A) → ys ≡ xs ++ y ∷ [] → map f ys ≡ map f xs ++ f y ∷ []
 map-grown f xs ys y e = ap (λ zs. map f zs) e ∙ map-append f xs (y ∷ [])

@@ -24,7 +24,7 @@ use Rattle.plant_grammar.specs.Lawful.{declared_as, list_variables, lists_variab
 use Rattle.plant_grammar.specs.Parts.{ProgramParts, program_parts}
 use Rattle.plant_grammar.specs.Steps.Lines.{IsNotNext, IsOneNext, IsNoneNext}
 use Rattle.plant_grammar.specs.Steps.ReadParts.{section_start, IsSectionWhole}
-use Rattle.plant_grammar.specs.NameFaults.{IsNew}
+use Rattle.plant_grammar.specs.Steps.NamesRead.{IsNew}
 use Rattle.plant_grammar.proofs.Apart.{list_any-map}
 use Rattle.plant_grammar.proofs.NewNames.{behind_others, list_parts}
 use Rattle.plant_grammar.proofs.OneTree.{flat_map_same, next_read, all_read, one_list, list_stops, lists_parts, lists_whole, one_section, block_parts_of, one_block, block_stops, body_no_section, program_parts_of, one_program, program_stops}
@@ -61,7 +61,7 @@ names_back : (d : Declared) (ns : List (List ℕ)) → map (λ (v : Declaration)
 names_back d [] = refl
 names_back d (n ∷ ns) = ap (λ ms. n ∷ ms) (names_back d ns)
 
-may_declare : (s : Section) (vs : List Declaration) (l : NameList) → AreVariables (vs ++ list_variables s l) → MayBeDeclared vs l.names.items
+pub may_declare : (s : Section) (vs : List Declaration) (l : NameList) → AreVariables (vs ++ list_variables s l) → MayBeDeclared vs l.names.items
 may_declare s vs l are =
     let d = declared_as s l.type_name in
     let make : List ℕ → Declaration = λ n. record { name = n; declared = d } in (
@@ -70,7 +70,7 @@ may_declare s vs l are =
     )
 
 -- what is declared, where one more follows what was read
-declared_with : {A B : Type 0} (f : A → List B) (vs now : List B) (read all front : List A) (x : A) (more : List A) → now ≡ vs ++ flat_map f read → all ≡ front ++ x ∷ more → map f front ≡ map f read → vs ++ flat_map f all ≡ (now ++ f x) ++ flat_map f more
+pub declared_with : {A B : Type 0} (f : A → List B) (vs now : List B) (read all front : List A) (x : A) (more : List A) → now ≡ vs ++ flat_map f read → all ≡ front ++ x ∷ more → map f front ≡ map f read → vs ++ flat_map f all ≡ (now ++ f x) ++ flat_map f more
 declared_with f vs now read all front x more d whole same =
     let front_is = flat_map_same f front read same in
     ap (λ xs. vs ++ flat_map f xs) whole

@@ -28,7 +28,7 @@ use Rattle.plant_grammar.specs.Lawful.{variables, task_of, use_of, uses_of, bind
 use Rattle.plant_grammar.specs.Parts.{UseParts, ResourceParts, use_parts, resource_parts}
 use Rattle.plant_grammar.specs.Steps.Lines.{IsWordNext, IsNotNext}
 use Rattle.plant_grammar.specs.Steps.ReadParts.{TallyValue, tally_with, with_instance, EndWithBinds, MayFollow}
-use Rattle.plant_grammar.specs.NameFaults.{IsNew}
+use Rattle.plant_grammar.specs.Steps.NamesRead.{IsNew}
 use Rattle.plant_grammar.specs.Steps.Reading.{programs_of}
 use Rattle.plant_grammar.specs.Steps.Refusing.{HasRoomFor, AreTypesApart}
 use Rattle.plant_grammar.proofs.Apart.{any_with}
@@ -171,7 +171,7 @@ pub same_through : {A V B : Type 0} (view : A → V) (f : V → B) (xs ys : List
 same_through view f xs ys same = map_through view f xs ∙ ap (map f) same ∙ sym (map_through view f ys)
 
 -- the room that is left behind instances that were read
-room_left : (old now : TallyValue) (read all front us more : List Use) → all ≡ front ++ (us ++ more) → map use_parts front ≡ map use_parts read → now ≡ tally_with old read → HasRoomFor old all → HasRoomFor now us
+pub room_left : (old now : TallyValue) (read all front us more : List Use) → all ≡ front ++ (us ++ more) → map use_parts front ≡ map use_parts read → now ≡ tally_with old read → HasRoomFor old all → HasRoomFor now us
 room_left old now read all front us more whole same counted room =
     let instances : now.instances ≡ old.instances + length read = ap (λ (t : TallyValue). t.instances) counted in
     let binds : now.binds ≡ old.binds + length (flat_map binds_of read) = ap (λ (t : TallyValue). t.binds) counted in
@@ -184,7 +184,7 @@ room_left old now read all front us more whole same counted room =
     )
 
 -- pieces around one
-pieces : {A B : Type 0} (f : A → List B) (all front : List A) (x : A) (more : List A) → all ≡ front ++ x ∷ more → flat_map f all ≡ flat_map f front ++ (f x ++ flat_map f more)
+pub pieces : {A B : Type 0} (f : A → List B) (all front : List A) (x : A) (more : List A) → all ≡ front ++ x ∷ more → flat_map f all ≡ flat_map f front ++ (f x ++ flat_map f more)
 pieces f all front x more whole = ap (flat_map f) whole ∙ flat_map-append f front (x ∷ more) ∙ ap (λ ys. flat_map f front ++ ys) (flat_map-cons f x more)
 
 seam : {A : Type 0} (front : List A) (x : A) (more : List A) → slice_get (front ++ x ∷ more) (length front) ≡ Some x
@@ -196,7 +196,7 @@ front_taken [] x more = refl
 front_taken (y ∷ front) x more = ap (λ ys. y ∷ ys) (front_taken front x more)
 
 -- a line of lawful lines may follow those that were read
-may_follow : (tree : Tree) (read xs front : List Item) (x : Item) (more : List Item) → xs ≡ front ++ x ∷ more → map item_parts front ≡ map item_parts read → AreItemsLawful tree xs → MayFollow tree read x
+pub may_follow : (tree : Tree) (read xs front : List Item) (x : Item) (more : List Item) → xs ≡ front ++ x ∷ more → map item_parts front ≡ map item_parts read → AreItemsLawful tree xs → MayFollow tree read x
 may_follow tree read xs front (item.Task t) more whole same lawful =
     let tasks : flat_map task_of xs ≡ flat_map task_of front ++ t ∷ flat_map task_of more = pieces task_of xs front (item.Task t) more whole in
     let read_tasks = same_tasks front read same in

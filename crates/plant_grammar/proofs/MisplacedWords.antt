@@ -19,7 +19,10 @@ use Rattle.plant_grammar.specs.Steps.Expected.{Expected, Key, AName, MoreResourc
 use Rattle.plant_grammar.proofs.ReadLines.{line_before}
 use Rattle.plant_grammar.proofs.OneTree.{one_tree}
 use Rattle.plant_grammar.proofs.ExpectedWords.{walk_append, stuck_behind}
-use Rattle.plant_grammar.proofs.DecodedWords.{goes_on}
+use Rattle.plant_grammar.specs.NameFaults.{judged_of}
+use Rattle.plant_grammar.specs.JudgedWords.{sounds}
+use Rattle.plant_grammar.specs.Steps.SoundWords.{BeginsSound}
+use Rattle.plant_grammar.proofs.SoundTrees.{tree_sound}
 use Rattle.plant_grammar.proofs.WalkedPrograms.{one_program_walked, programs_walked, stuck_behind_programs, lawful_program_formed}
 use Rattle.plant_grammar.proofs.WalkedResources.{configured_walked, formed_resources}
 use Rattle.plant_grammar.proofs.BodyPlaces.{misfits, none_due}
@@ -53,15 +56,15 @@ tree_walked t formed =
     ∙ configured_walked t.resources [] formed.some_resource formed.resources
 
 -- from words up to an unexpected one no plant goes on
-unexpected_ends : (words : List Token) → EndsUnexpected whole_plant words → GoesOn words → ⊥
-unexpected_ends words s (tree, more, e, formed) =
+unexpected_ends : (Known : List Token → Type 0) (words : List Token) → EndsUnexpected Known whole_plant words → GoesOn words → ⊥
+unexpected_ends Known words s (tree, more, e, formed) =
     let parts : words_of tree ≡ s.before ++ s.word ∷ more = e ∙ ap (λ ws. ws ++ more) s.parts ∙ append_assoc s.before (s.word ∷ []) more in
     let ends : Some [] ≡ None = sym (tree_walked tree formed) ∙ ap (walk whole_plant) parts ∙ walk_append whole_plant s.expected s.before (s.word ∷ more) s.walked ∙ walk_unexpected s.expected s.word more s.unexpected in
     cc
 
 -- where the words are stuck, a plant goes on from all of them or they lead to the first from which none does
-pub meets_misplaced : (r : ReaderValue) (line : ℕ) → length r.words < 2 ^ 63 → IsStuck whole_plant r line → MeetsMisplaced r line
-meets_misplaced r line few (inl ((expected, walked, more), last)) = inl (goes_on r.words expected few walked, last)
+pub meets_misplaced : (r : ReaderValue) (line : ℕ) → length r.words < 2 ^ 63 → IsStuck (BeginsSound judged_of IsTreeWellFormed) whole_plant r line → MeetsMisplaced r line
+meets_misplaced r line few (inl (u, last)) = inl (u.known few, last)
 meets_misplaced r line few (inr b) =
     let parts : r.words ≡ b.holds.before ++ (b.holds.word ∷ b.rest) = b.parts ∙ ap (λ ws. ws ++ b.rest) b.holds.parts ∙ append_assoc b.holds.before (b.holds.word ∷ []) b.rest in
     let all = ap length parts ∙ length-append b.holds.before (b.holds.word ∷ b.rest) in
@@ -73,8 +76,8 @@ meets_misplaced r line few (inr b) =
         before = b.holds.before;
         word = b.holds.word;
         parts = b.holds.parts;
-        goes_on = goes_on b.holds.before b.holds.expected (omega (arith, few, all)) b.holds.walked;
-        misplaced = unexpected_ends b.front b.holds;
+        goes_on = b.holds.known (omega (arith, few, all));
+        misplaced = unexpected_ends (BeginsSound judged_of IsTreeWellFormed) b.front b.holds;
         misfit = misfits b.holds.before b.holds.expected b.holds.word b.holds.walked b.holds.unexpected;
       };
       behind = b.behind;
@@ -100,10 +103,10 @@ walk_ended [] es e = cc (e)
 walk_ended (t ∷ more) es e = cc (e)
 
 -- where the words are stuck, they don't begin with all that is expected
-stuck_no_whole : (es : List Expected) (r : ReaderValue) (line : ℕ) (whole rest : List Token) → IsStuck es r line → walk es whole ≡ Some [] → r.words ≡ whole ++ rest → ⊥
-stuck_no_whole es r line whole rest (inl ((expected, walked, more), last)) all e =
-    more (walk_ended rest expected (sym (walk_append es [] whole rest all) ∙ ap (walk es) (sym e) ∙ walked))
-stuck_no_whole es r line whole rest (inr b) all e =
+stuck_no_whole : (Known : List Token → Type 0) (es : List Expected) (r : ReaderValue) (line : ℕ) (whole rest : List Token) → IsStuck Known es r line → walk es whole ≡ Some [] → r.words ≡ whole ++ rest → ⊥
+stuck_no_whole Known es r line whole rest (inl (u, last)) all e =
+    u.more (walk_ended rest u.expected (sym (walk_append es [] whole rest all) ∙ ap (walk es) (sym e) ∙ u.walked))
+stuck_no_whole Known es r line whole rest (inr b) all e =
     let s = b.holds in
     let parts : s.before ++ s.word ∷ b.rest ≡ whole ++ rest = sym (append_assoc s.before (s.word ∷ []) b.rest) ∙ ap (λ ws. ws ++ b.rest) (sym s.parts) ∙ sym b.parts ∙ e in
     on (either_longer s.before (s.word ∷ b.rest) whole rest parts)
@@ -120,21 +123,21 @@ stuck_no_whole es r line whole rest (inr b) all e =
         cc
 
 -- so they don't begin with a whole plant
-pub stuck_no_plant : (r : ReaderValue) (line : ℕ) → IsStuck whole_plant r line
+pub stuck_no_plant : (Known : List Token → Type 0) (r : ReaderValue) (line : ℕ) → IsStuck Known whole_plant r line
     → (tree : Tree) (rest : List Token) → r.words ≡ words_of tree ++ rest → IsTreeWellFormed tree → ⊥
-stuck_no_plant r line stuck tree rest e formed = stuck_no_whole whole_plant r line (words_of tree) rest stuck (tree_walked tree formed) e
+stuck_no_plant Known r line stuck tree rest e formed = stuck_no_whole Known whole_plant r line (words_of tree) rest stuck (tree_walked tree formed) e
 
 -- nor, where a program gets stuck, with a whole program
-pub stuck_no_program : (r : ReaderValue) (fault : GrammarFault) → GetsStuck (Key key.Program ∷ program_rest) r fault → fault.kind ≡ Syntax
+pub stuck_no_program : (Known : List Token → Type 0) (r : ReaderValue) (fault : GrammarFault) → GetsStuck Known (Key key.Program ∷ program_rest) r fault → fault.kind ≡ Syntax
     → (p : Program) (rest : List Token) → IsProgramWellFormed p → r.words ≡ program_words p ++ rest → ⊥
-stuck_no_program r fault stuck syntax p rest formed e = stuck_no_whole (Key key.Program ∷ program_rest) r fault.line (program_words p) rest (stuck syntax []) (one_program_walked p [] formed) e
+stuck_no_program Known r fault stuck syntax p rest formed e = stuck_no_whole Known (Key key.Program ∷ program_rest) r fault.line (program_words p) rest (stuck syntax []) (one_program_walked p [] formed) e
 
 -- behind programs that were read, where no further one begins
-pub stuck_behind_read : (ps : List Program) (old one : ReaderValue) (fault : GrammarFault) → old.words ≡ flat_map program_words ps ++ one.words → KeepsLines old one → All IsProgramLawful ps → IsNotNext (key_word key.Program) one.words
-    → GetsStuck configuration_expected one fault → fault.kind ≡ Syntax → IsStuck whole_plant old fault.line
-stuck_behind_read ps old one fault e keeps lawful none stuck syntax =
-    stuck_behind whole_plant whole_plant (flat_map program_words ps) old one fault.line e keeps (programs_walked ps configuration_expected (All-weaker IsProgramLawful IsProgramWellFormed lawful_program_formed ps lawful))
-    (stuck_behind_programs configuration_expected one fault none stuck syntax [])
+pub stuck_behind_read : (Known : List Token → Type 0) (ps : List Program) (old one : ReaderValue) (fault : GrammarFault) → old.words ≡ flat_map program_words ps ++ one.words → KeepsLines old one → All IsProgramLawful ps → IsNotNext (key_word key.Program) one.words
+    → GetsStuck (λ w. Known (flat_map program_words ps ++ w)) configuration_expected one fault → fault.kind ≡ Syntax → IsStuck Known whole_plant old fault.line
+stuck_behind_read Known ps old one fault e keeps lawful none stuck syntax =
+    stuck_behind Known whole_plant whole_plant (flat_map program_words ps) old one fault.line e keeps (programs_walked ps configuration_expected (All-weaker IsProgramLawful IsProgramWellFormed lawful_program_formed ps lawful))
+    (stuck_behind_programs (λ w. Known (flat_map program_words ps ++ w)) configuration_expected one fault none stuck syntax [])
 
 -- a lawful tree is written as the grammar has it
 tree_formed : (tree : Tree) → IsTreeLawful tree → IsTreeWellFormed tree
@@ -158,7 +161,7 @@ misplaced_behind tree old new e keeps lawful some = on new.words refl
         before = words_of tree;
         word = t;
         parts = refl;
-        goes_on = (tree, [], sym (append-nil (words_of tree)), tree_formed tree lawful);
+        goes_on = (tree, [], tree_sound tree lawful ∙ sym (append-nil (sounds (words_of tree))), tree_formed tree lawful);
         misplaced = λ g.
             let whole : words_of tree ++ t ∷ g.1 ≡ words_of g.0 ++ [] = sym (append_assoc (words_of tree) (t ∷ []) g.1) ∙ sym g.2 ∙ sym (append-nil (words_of g.0)) in
             let none : t ∷ g.1 ≡ [] = (one_tree tree g.0 (t ∷ g.1) [] whole).0 in

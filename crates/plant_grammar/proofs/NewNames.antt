@@ -15,7 +15,7 @@ use Rattle.plant_grammar.specs.Steps.SameNames.{named_back}
 use Rattle.plant_grammar.specs.declared.grammar_fault.GrammarFaultKind.{GrammarFaultKind}
 use Rattle.plant_grammar.specs.declared.grammar_fault.GrammarFaultKind.TheVariants.{TooMany}
 use Rattle.plant_grammar.specs.declared.grammar.tree.Bind.{Bind}
-use Rattle.plant_grammar.specs.NameFaults.{IsNameTaken, IsNew}
+use Rattle.plant_grammar.specs.Steps.NamesRead.{IsNameTaken, IsNew}
 use Rattle.plant_grammar.specs.Lawful.{MayBeDeclared}
 
 -- a name behind others is none of them

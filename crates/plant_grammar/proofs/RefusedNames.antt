@@ -12,7 +12,7 @@ use Rattle.plant_text.specs.declared.token.Punctuation.TheVariants.{Comma}
 use Rattle.plant_grammar.specs.declared.grammar.tree.Bind.{Bind}
 use Rattle.plant_grammar.specs.Grammar.{mark_word, name_words, bind_words, with_commas}
 use Rattle.plant_grammar.specs.WordFaults.{IsGrammarFault}
-use Rattle.plant_grammar.specs.NameFaults.{IsOfName, Tells, TellsOfName, TellsOfSoughtName, IsNameTaken, IsRefused, IsMisused, IsUnknown, IsAfter, IsAfterAll, IsAfterName, IsAfterWhole, name_and_comma, bind_and_comma}
+use Rattle.plant_grammar.specs.Steps.NamesRead.{IsOfName, Tells, TellsOfName, TellsOfSoughtName, IsNameTaken, IsRefused, IsMisused, IsUnknown, IsAfter, IsAfterAll, IsAfterName, IsAfterWhole, name_and_comma, bind_and_comma}
 use Rattle.plant_grammar.specs.Steps.Lines.{ReaderValue}
 use Rattle.plant_grammar.specs.Steps.Declaring.{RepeatsName, IsNameNext, MissesName, BeginWith, BeginRefusedBehind}
 use Rattle.plant_grammar.proofs.NewNames.{one_name}

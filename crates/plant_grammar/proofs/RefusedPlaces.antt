@@ -1,9 +1,9 @@
 -- Where a name is refused, with what was read in front of it, rule by rule of the grammar.
-use Rattle.std.proofs.Common.{◌≡◌, ◌≢◌, ◌⊎◌, inl, inr, ℕ, ◌+◌, ◌<◌, ◌≤◌, IsTrue, List, [], ◌∷◌, ◌++◌, length, map, Some, None, refl, sym, ap, subst, ◌∙◌, append_assoc, arith}
-use Rattle.std.specs.Prelude.{All, Any}
+use Rattle.std.proofs.Common.{◌≡◌, ◌≢◌, ◌⊎◌, inl, inr, ℕ, ◌+◌, ◌<◌, ◌≤◌, List, [], ◌∷◌, ◌++◌, length, map, Some, None, refl, sym, ap, subst, ◌∙◌, append_assoc, arith}
+use Rattle.std.specs.Prelude.{All}
 use Rattle.std.proofs.lemmas.List.Elements.{All-nil}
 use Rattle.std_blocks.specs.declared.block_type.BlockType.{BlockType}
-use Rattle.std.specs.List.{flat_map}
+use Rattle.std.specs.List.{flat_map, find}
 use Rattle.declared_names.specs.declared.declarations.Declaration.{Declaration}
 use Rattle.declared_names.specs.declared.declarations.Kind.{Kind}
 use Rattle.words.specs.declared.address.Address.{Address}
@@ -28,7 +28,7 @@ use Rattle.plant_grammar.specs.Kinds.{input_kind_of, IsOfInputKind}
 use Rattle.declared_names.specs.Kinds.{kind_of_space}
 use Rattle.plant_grammar.specs.Names.{is_named}
 use Rattle.plant_grammar.specs.Lawful.{list_variables, block_variables, variables, AreVariables, MayBeDeclared, IsTypeLawful, IsListLawful, IsBlockLawful, task_of, use_of, uses_of, programs_alone, AreItemsLawful, AreResourcesLawful, MayBeCounted}
-use Rattle.plant_grammar.specs.NameFaults.{IsOfName, Tells, TellsOfName, TellsOfSoughtName, IsNameTaken, IsRefused, IsUnknown, IsAfter, IsAfterAll, IsAfterName, IsAfterType, IsAnyName, IsNew, name_and_comma, bind_and_comma, RefusesVariable, RefusesType, RefusesOneList, AreListsLawful, RefusesList, RefusesBlock, AreBlocksLawful, RefusesBlocks, RefusesProgramName, MayNameProgram, RefusesProgram, RefusesTask, RefusesInput, RefusesAddress, RefusesOneBind, AreBindsLawful, RefusesBind, RefusesTyped, NamesTask, RefusesBinds, RefusesInstanceName, MayNameInstance, RefusesInstance, AreItemsLawfulBehind, RefusesItems, RefusesResourceName, MayNameResource, RefusesResource, AreResourcesLawfulBehind, RefusesResources, RefusesBehind}
+use Rattle.plant_grammar.specs.Steps.NamesRead.{IsOfName, Tells, TellsOfName, TellsOfSoughtName, IsNameTaken, IsRefused, IsUnknown, IsAfter, IsAfterAll, IsAfterName, IsAfterType, IsAnyName, IsNew, name_and_comma, bind_and_comma, RefusesVariable, RefusesType, RefusesOneList, AreListsLawful, RefusesList, RefusesBlock, AreBlocksLawful, RefusesBlocks, RefusesProgramName, MayNameProgram, RefusesProgram, RefusesTask, RefusesInput, RefusesAddress, RefusesOneBind, AreBindsLawful, RefusesBind, RefusesTyped, NamesTask, RefusesBinds, RefusesInstanceName, MayNameInstance, RefusesInstance, AreItemsLawfulBehind, RefusesItems, RefusesResourceName, MayNameResource, RefusesResource, AreResourcesLawfulBehind, RefusesResources, RefusesBehind}
 use Rattle.plant_grammar.specs.Steps.Declaring.{RepeatsName, IsNameNext, MissesInput, BeginWith, RefusesItem, RefusesFurtherProgram, RefusesPlantWords}
 use Rattle.plant_grammar.specs.Steps.ReadParts.{TallyValue, tally_with}
 use Rattle.declared_names.specs.Names.{IsDeclared}
@@ -290,7 +290,7 @@ type_unknown k m programs before task one two e known b =
 
 -- an instance up to a word in its binds
 pub binds_of_type : {R : List Token → Type 0} (k : GrammarFaultKind) (m n : ℕ) (programs : List Program) (before : List Item) (task type : List ℕ) (p : Program) (one two now : List Token) → one ≡ key_word key.With ∷ token.Name task ∷ two → NamesTask before task → two ≡ mark_word Colon ∷ token.Name type ∷ now
-    → Any (λ (q : Program). IsTrue (is_named type q.name) × (q ≡ p)) programs → n ≡ m → BeginWith R (IsAfter (mark_word Open) (RefusesBind k n (variables p))) now → BeginWith R (RefusesBinds k m programs before) one
+    → find (λ (q : Program). is_named type q.name) programs ≡ Some p → n ≡ m → BeginWith R (IsAfter (mark_word Open) (RefusesBind k n (variables p))) now → BeginWith R (RefusesBinds k m programs before) one
 unfolding RefusesTyped
 binds_of_type {R = R} k m n programs before task type p one two now h1 is_task h2 known same b =
     let unknown = IsUnknown k (λ (q : Program). q.name) programs in

@@ -19,7 +19,7 @@ use Rattle.plant_grammar.specs.Grammar.{Tree}
 use Rattle.plant_grammar.specs.Names.{AreNamesApart}
 use Rattle.plant_grammar.specs.Lawful.{task_of, use_of, binds_of, IsUseLawful, IsResourceLawful, AreItemsLawful, AreResourcesLawful}
 use Rattle.plant_grammar.specs.Steps.ReadParts.{TallyValue, tally_with, is_task_line, MayFollow}
-use Rattle.plant_grammar.specs.NameFaults.{IsNew}
+use Rattle.plant_grammar.specs.Steps.NamesRead.{IsNew}
 use Rattle.plant_grammar.proofs.Apart.{apart_more, apart_none}
 use Rattle.plant_grammar.proofs.WordLists.{flat_map-push, flat_map-grown, grown}
 

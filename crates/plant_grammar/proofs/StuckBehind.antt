@@ -32,40 +32,40 @@ unfolding walk step begun
 name_walked n more es = refl
 
 -- where a fault of what is left is so, and this was read before
-pub stuck_after : (es fs : List Expected) (read : List Token) (old new : ReaderValue) (fault : GrammarFault) → old.words ≡ read ++ new.words → KeepsLines old new
-    → ((behind : List Expected) → walk (es ++ behind) read ≡ Some (fs ++ behind)) → GetsStuck fs new fault → GetsStuck es old fault
-stuck_after es fs read old new fault e keeps w stuck = λ syntax behind. stuck_behind (es ++ behind) (fs ++ behind) read old new fault.line e keeps (w behind) (stuck syntax behind)
+pub stuck_after : (Known : List Token → Type 0) (es fs : List Expected) (read : List Token) (old new : ReaderValue) (fault : GrammarFault) → old.words ≡ read ++ new.words → KeepsLines old new
+    → ((behind : List Expected) → walk (es ++ behind) read ≡ Some (fs ++ behind)) → GetsStuck (λ w. Known (read ++ w)) fs new fault → GetsStuck Known es old fault
+stuck_after Known es fs read old new fault e keeps w stuck = λ syntax behind. stuck_behind Known (es ++ behind) (fs ++ behind) read old new fault.line e keeps (w behind) (stuck syntax behind)
 
 -- a keyword was read
-pub stuck_after_key : (k : Keyword) (es : List Expected) (old new : ReaderValue) (fault : GrammarFault) → old.words ≡ token.Keyword k ∷ new.words → KeepsLines old new → GetsStuck es new fault → GetsStuck (Key k ∷ es) old fault
+pub stuck_after_key : (Known : List Token → Type 0) (k : Keyword) (es : List Expected) (old new : ReaderValue) (fault : GrammarFault) → old.words ≡ token.Keyword k ∷ new.words → KeepsLines old new → GetsStuck (λ w. Known (token.Keyword k ∷ w)) es new fault → GetsStuck Known (Key k ∷ es) old fault
 unfolding walk
-stuck_after_key k es old new fault e keeps stuck =
-    stuck_after (Key k ∷ es) es (token.Keyword k ∷ []) old new fault e keeps (λ behind. key_walked k [] (es ++ behind)) stuck
+stuck_after_key Known k es old new fault e keeps stuck =
+    stuck_after Known (Key k ∷ es) es (token.Keyword k ∷ []) old new fault e keeps (λ behind. key_walked k [] (es ++ behind)) stuck
 
 -- a mark was read
-pub stuck_after_mark : (p : Punctuation) (es : List Expected) (old new : ReaderValue) (fault : GrammarFault) → old.words ≡ token.Punctuation p ∷ new.words → KeepsLines old new → GetsStuck es new fault → GetsStuck (Mark p ∷ es) old fault
+pub stuck_after_mark : (Known : List Token → Type 0) (p : Punctuation) (es : List Expected) (old new : ReaderValue) (fault : GrammarFault) → old.words ≡ token.Punctuation p ∷ new.words → KeepsLines old new → GetsStuck (λ w. Known (token.Punctuation p ∷ w)) es new fault → GetsStuck Known (Mark p ∷ es) old fault
 unfolding walk
-stuck_after_mark p es old new fault e keeps stuck =
-    stuck_after (Mark p ∷ es) es (token.Punctuation p ∷ []) old new fault e keeps (λ behind. mark_walked p [] (es ++ behind)) stuck
+stuck_after_mark Known p es old new fault e keeps stuck =
+    stuck_after Known (Mark p ∷ es) es (token.Punctuation p ∷ []) old new fault e keeps (λ behind. mark_walked p [] (es ++ behind)) stuck
 
 -- a name was read
-pub stuck_after_name : (n : List ℕ) (es : List Expected) (old new : ReaderValue) (fault : GrammarFault) → old.words ≡ token.Name n ∷ new.words → KeepsLines old new → GetsStuck es new fault → GetsStuck (AName ∷ es) old fault
+pub stuck_after_name : (Known : List Token → Type 0) (n : List ℕ) (es : List Expected) (old new : ReaderValue) (fault : GrammarFault) → old.words ≡ token.Name n ∷ new.words → KeepsLines old new → GetsStuck (λ w. Known (token.Name n ∷ w)) es new fault → GetsStuck Known (AName ∷ es) old fault
 unfolding walk
-stuck_after_name n es old new fault e keeps stuck = stuck_after (AName ∷ es) es (token.Name n ∷ []) old new fault e keeps (λ behind. name_walked n [] (es ++ behind)) stuck
+stuck_after_name Known n es old new fault e keeps stuck = stuck_after Known (AName ∷ es) es (token.Name n ∷ []) old new fault e keeps (λ behind. name_walked n [] (es ++ behind)) stuck
 
 -- a body was read
-pub stuck_after_body : (b : List ℕ) (es : List Expected) (old new : ReaderValue) (fault : GrammarFault) → old.words ≡ token.Body b ∷ new.words → KeepsLines old new → GetsStuck es new fault → GetsStuck (ABody ∷ es) old fault
+pub stuck_after_body : (Known : List Token → Type 0) (b : List ℕ) (es : List Expected) (old new : ReaderValue) (fault : GrammarFault) → old.words ≡ token.Body b ∷ new.words → KeepsLines old new → GetsStuck (λ w. Known (token.Body b ∷ w)) es new fault → GetsStuck Known (ABody ∷ es) old fault
 unfolding walk step begun
-stuck_after_body b es old new fault e keeps stuck = stuck_after (ABody ∷ es) es (token.Body b ∷ []) old new fault e keeps (λ behind. refl) stuck
+stuck_after_body Known b es old new fault e keeps stuck = stuck_after Known (ABody ∷ es) es (token.Body b ∷ []) old new fault e keeps (λ behind. refl) stuck
 
 -- a keyword and a name were read
-pub stuck_after_key_and_name : (k : Keyword) (n : List ℕ) (es : List Expected) (old new : ReaderValue) (fault : GrammarFault) → old.words ≡ token.Keyword k ∷ token.Name n ∷ new.words → KeepsLines old new → GetsStuck es new fault → GetsStuck (Key k ∷ AName ∷ es) old fault
+pub stuck_after_key_and_name : (Known : List Token → Type 0) (k : Keyword) (n : List ℕ) (es : List Expected) (old new : ReaderValue) (fault : GrammarFault) → old.words ≡ token.Keyword k ∷ token.Name n ∷ new.words → KeepsLines old new → GetsStuck (λ w. Known (token.Keyword k ∷ token.Name n ∷ w)) es new fault → GetsStuck Known (Key k ∷ AName ∷ es) old fault
 unfolding walk
-stuck_after_key_and_name k n es old new fault e keeps stuck =
-    stuck_after (Key k ∷ AName ∷ es) es (token.Keyword k ∷ token.Name n ∷ []) old new fault e keeps (λ behind. key_walked k (token.Name n ∷ []) (AName ∷ (es ++ behind)) ∙ name_walked n [] (es ++ behind)) stuck
+stuck_after_key_and_name Known k n es old new fault e keeps stuck =
+    stuck_after Known (Key k ∷ AName ∷ es) es (token.Keyword k ∷ token.Name n ∷ []) old new fault e keeps (λ behind. key_walked k (token.Name n ∷ []) (AName ∷ (es ++ behind)) ∙ name_walked n [] (es ++ behind)) stuck
 
 -- a mark and a name were read
-pub stuck_after_mark_and_name : (p : Punctuation) (n : List ℕ) (es : List Expected) (old new : ReaderValue) (fault : GrammarFault) → old.words ≡ token.Punctuation p ∷ token.Name n ∷ new.words → KeepsLines old new → GetsStuck es new fault → GetsStuck (Mark p ∷ AName ∷ es) old fault
+pub stuck_after_mark_and_name : (Known : List Token → Type 0) (p : Punctuation) (n : List ℕ) (es : List Expected) (old new : ReaderValue) (fault : GrammarFault) → old.words ≡ token.Punctuation p ∷ token.Name n ∷ new.words → KeepsLines old new → GetsStuck (λ w. Known (token.Punctuation p ∷ token.Name n ∷ w)) es new fault → GetsStuck Known (Mark p ∷ AName ∷ es) old fault
 unfolding walk
-stuck_after_mark_and_name p n es old new fault e keeps stuck =
-    stuck_after (Mark p ∷ AName ∷ es) es (token.Punctuation p ∷ token.Name n ∷ []) old new fault e keeps (λ behind. mark_walked p (token.Name n ∷ []) (AName ∷ (es ++ behind)) ∙ name_walked n [] (es ++ behind)) stuck
+stuck_after_mark_and_name Known p n es old new fault e keeps stuck =
+    stuck_after Known (Mark p ∷ AName ∷ es) es (token.Punctuation p ∷ token.Name n ∷ []) old new fault e keeps (λ behind. mark_walked p (token.Name n ∷ []) (AName ∷ (es ++ behind)) ∙ name_walked n [] (es ++ behind)) stuck

@@ -196,63 +196,63 @@ pub some_expected : (e : Expected) (es : List Expected) → e ∷ es ≢ []
 some_expected e es wrong = cc
 
 -- the next word doesn't begin what must stand there
-pub stuck_at : (e : Expected) (es : List Expected) (r : ReaderValue) (fault : GrammarFault) → may_end e ≡ false → (fault.kind ≢ Memory → fault ≡ syntax_at r)
-    → (fault.kind ≢ Memory → (t : Token) (rest : List Token) → r.words ≡ t ∷ rest → begun e t ≡ None) → GetsStuck (e ∷ es) r fault
-stuck_at e es r fault must is none = λ syntax behind.
+pub stuck_at : (Known : List Token → Type 0) → Known [] → (e : Expected) (es : List Expected) (r : ReaderValue) (fault : GrammarFault) → may_end e ≡ false → (fault.kind ≢ Memory → fault ≡ syntax_at r)
+    → (fault.kind ≢ Memory → (t : Token) (rest : List Token) → r.words ≡ t ∷ rest → begun e t ≡ None) → GetsStuck Known (e ∷ es) r fault
+stuck_at Known nothing e es r fault must is none = λ syntax behind.
     let known = syntax_no_memory fault syntax in
-    stuck_here (e ∷ (es ++ behind)) r fault.line (ap (λ (f : GrammarFault). f.line) (is known)) (some_expected e (es ++ behind)) (λ t rest h. not_begun e (es ++ behind) t must (none known t rest h))
+    stuck_here Known nothing (e ∷ (es ++ behind)) r fault.line (ap (λ (f : GrammarFault). f.line) (is known)) (some_expected e (es ++ behind)) (λ t rest h. not_begun e (es ++ behind) t must (none known t rest h))
 
 -- no such keyword stands next
-pub key_stuck : (k : Keyword) (es : List Expected) (r : ReaderValue) (fault : GrammarFault) → fault ≡ syntax_at r → IsNotNext (token.Keyword k) r.words → GetsStuck (Key k ∷ es) r fault
+pub key_stuck : (Known : List Token → Type 0) → Known [] → (k : Keyword) (es : List Expected) (r : ReaderValue) (fault : GrammarFault) → fault ≡ syntax_at r → IsNotNext (token.Keyword k) r.words → GetsStuck Known (Key k ∷ es) r fault
 unfolding begun may_end
-key_stuck k es r fault is none =
-    stuck_at (Key k) es r fault refl (λ known. is) (λ known t rest h. ap (λ b. where_so b [] None) (no_key k t (λ e. none rest (h ∙ ap (λ u. u ∷ rest) e))))
+key_stuck Known nothing k es r fault is none =
+    stuck_at Known nothing (Key k) es r fault refl (λ known. is) (λ known t rest h. ap (λ b. where_so b [] None) (no_key k t (λ e. none rest (h ∙ ap (λ u. u ∷ rest) e))))
 
 -- no such mark stands next
-pub mark_stuck : (p : Punctuation) (es : List Expected) (r : ReaderValue) (fault : GrammarFault) → fault ≡ syntax_at r → IsNotNext (token.Punctuation p) r.words → GetsStuck (Mark p ∷ es) r fault
+pub mark_stuck : (Known : List Token → Type 0) → Known [] → (p : Punctuation) (es : List Expected) (r : ReaderValue) (fault : GrammarFault) → fault ≡ syntax_at r → IsNotNext (token.Punctuation p) r.words → GetsStuck Known (Mark p ∷ es) r fault
 unfolding begun may_end
-mark_stuck p es r fault is none =
-    stuck_at (Mark p) es r fault refl (λ known. is) (λ known t rest h. ap (λ b. where_so b [] None) (no_mark p t (λ e. none rest (h ∙ ap (λ u. u ∷ rest) e))))
+mark_stuck Known nothing p es r fault is none =
+    stuck_at Known nothing (Mark p) es r fault refl (λ known. is) (λ known t rest h. ap (λ b. where_so b [] None) (no_mark p t (λ e. none rest (h ∙ ap (λ u. u ∷ rest) e))))
 
 -- no name stands next
-pub name_stuck : (es : List Expected) (r : ReaderValue) (fault : GrammarFault) → (fault.kind ≢ Memory → fault ≡ syntax_at r) → (fault.kind ≢ Memory → IsNoneNext token.Name r.words) → GetsStuck (AName ∷ es) r fault
+pub name_stuck : (Known : List Token → Type 0) → Known [] → (es : List Expected) (r : ReaderValue) (fault : GrammarFault) → (fault.kind ≢ Memory → fault ≡ syntax_at r) → (fault.kind ≢ Memory → IsNoneNext token.Name r.words) → GetsStuck Known (AName ∷ es) r fault
 unfolding begun may_end
-name_stuck es r fault is none =
-    stuck_at AName es r fault refl is (λ known t rest h. ap (λ b. where_so b [] None) (no_name_word t (λ n e. none known n rest (h ∙ ap (λ u. u ∷ rest) e))))
+name_stuck Known nothing es r fault is none =
+    stuck_at Known nothing AName es r fault refl is (λ known t rest h. ap (λ b. where_so b [] None) (no_name_word t (λ n e. none known n rest (h ∙ ap (λ u. u ∷ rest) e))))
 
 -- no body stands next
-pub body_stuck : (es : List Expected) (r : ReaderValue) (fault : GrammarFault) → (fault.kind ≢ Memory → fault ≡ syntax_at r) → (fault.kind ≢ Memory → IsNoneNext token.Body r.words) → GetsStuck (ABody ∷ es) r fault
+pub body_stuck : (Known : List Token → Type 0) → Known [] → (es : List Expected) (r : ReaderValue) (fault : GrammarFault) → (fault.kind ≢ Memory → fault ≡ syntax_at r) → (fault.kind ≢ Memory → IsNoneNext token.Body r.words) → GetsStuck Known (ABody ∷ es) r fault
 unfolding begun may_end
-body_stuck es r fault is none =
-    stuck_at ABody es r fault refl is (λ known t rest h. ap (λ b. where_so b [] None) (no_body_word t (λ n e. none known n rest (h ∙ ap (λ u. u ∷ rest) e))))
+body_stuck Known nothing es r fault is none =
+    stuck_at Known nothing ABody es r fault refl is (λ known t rest h. ap (λ b. where_so b [] None) (no_body_word t (λ n e. none known n rest (h ∙ ap (λ u. u ∷ rest) e))))
 
 -- no number stands next
-pub number_stuck : (es : List Expected) (r : ReaderValue) (fault : GrammarFault) → fault ≡ syntax_at r → IsNoneNext token.Number r.words → GetsStuck (ANumber ∷ es) r fault
+pub number_stuck : (Known : List Token → Type 0) → Known [] → (es : List Expected) (r : ReaderValue) (fault : GrammarFault) → fault ≡ syntax_at r → IsNoneNext token.Number r.words → GetsStuck Known (ANumber ∷ es) r fault
 unfolding begun may_end
-number_stuck es r fault is none =
-    stuck_at ANumber es r fault refl (λ known. is) (λ known t rest h. ap (λ b. where_so b [] None) (no_number_word t (λ n e. none n rest (h ∙ ap (λ u. u ∷ rest) e))))
+number_stuck Known nothing es r fault is none =
+    stuck_at Known nothing ANumber es r fault refl (λ known. is) (λ known t rest h. ap (λ b. where_so b [] None) (no_number_word t (λ n e. none n rest (h ∙ ap (λ u. u ∷ rest) e))))
 
 -- no duration stands next, or 0
-pub duration_stuck : (es : List Expected) (r : ReaderValue) (fault : GrammarFault) → fault ≡ syntax_at r → ((n : ℕ) (rest : List Token) → r.words ≡ token.Duration n ∷ rest → 0 < n → ⊥) → GetsStuck (ADuration ∷ es) r fault
+pub duration_stuck : (Known : List Token → Type 0) → Known [] → (es : List Expected) (r : ReaderValue) (fault : GrammarFault) → fault ≡ syntax_at r → ((n : ℕ) (rest : List Token) → r.words ≡ token.Duration n ∷ rest → 0 < n → ⊥) → GetsStuck Known (ADuration ∷ es) r fault
 unfolding begun may_end
-duration_stuck es r fault is none =
-    stuck_at ADuration es r fault refl (λ known. is) (λ known t rest h. ap (λ b. where_so b [] None) (no_interval_word t (λ n e some. none n rest (h ∙ ap (λ u. u ∷ rest) e) some)))
+duration_stuck Known nothing es r fault is none =
+    stuck_at Known nothing ADuration es r fault refl (λ known. is) (λ known t rest h. ap (λ b. where_so b [] None) (no_interval_word t (λ n e some. none n rest (h ∙ ap (λ u. u ∷ rest) e) some)))
 
 -- neither an address nor a name stands next
-pub source_stuck : (es : List Expected) (r : ReaderValue) (fault : GrammarFault) → (fault.kind ≢ Memory → fault ≡ syntax_at r) → IsNoneNext token.Address r.words → (fault.kind ≢ Memory → IsNoneNext token.Name r.words) → GetsStuck (ASource ∷ es) r fault
+pub source_stuck : (Known : List Token → Type 0) → Known [] → (es : List Expected) (r : ReaderValue) (fault : GrammarFault) → (fault.kind ≢ Memory → fault ≡ syntax_at r) → IsNoneNext token.Address r.words → (fault.kind ≢ Memory → IsNoneNext token.Name r.words) → GetsStuck Known (ASource ∷ es) r fault
 unfolding begun may_end
-source_stuck es r fault is no_address none =
-    stuck_at ASource es r fault refl is (λ known t rest h.
+source_stuck Known nothing es r fault is no_address none =
+    stuck_at Known nothing ASource es r fault refl is (λ known t rest h.
     let parts : List Expected = Mark mark.Dot ∷ AName ∷ Mark mark.Dot ∷ AName ∷ [] in
     ap (λ b. where_so b [] (where_so (is_name t) parts None)) (no_address_word t (λ a e. no_address a rest (h ∙ ap (λ u. u ∷ rest) e)))
     ∙ ap (λ b. where_so b parts None) (no_name_word t (λ n e. none known n rest (h ∙ ap (λ u. u ∷ rest) e))))
 
 -- no type stands next
-pub type_stuck : (es : List Expected) (r : ReaderValue) (fault : GrammarFault) → fault ≡ syntax_at r → IsNoneNext token.Block r.words
-    → IsNotNext (token.Keyword key.Int) r.words → IsNotNext (token.Keyword key.Time) r.words → IsNotNext (token.Keyword key.Bool) r.words → GetsStuck (AType ∷ es) r fault
+pub type_stuck : (Known : List Token → Type 0) → Known [] → (es : List Expected) (r : ReaderValue) (fault : GrammarFault) → fault ≡ syntax_at r → IsNoneNext token.Block r.words
+    → IsNotNext (token.Keyword key.Int) r.words → IsNotNext (token.Keyword key.Time) r.words → IsNotNext (token.Keyword key.Bool) r.words → GetsStuck Known (AType ∷ es) r fault
 unfolding begun may_end
-type_stuck es r fault is no_block no_int no_time no_bool =
-    stuck_at AType es r fault refl (λ known. is) (λ known t rest h.
+type_stuck Known nothing es r fault is no_block no_int no_time no_bool =
+    stuck_at Known nothing AType es r fault refl (λ known. is) (λ known t rest h.
     let next : (k : Keyword) → IsNotNext (token.Keyword k) r.words → is_key k t ≡ false = λ k none. no_key k t (λ e. none rest (h ∙ ap (λ u. u ∷ rest) e)) in
     ap (λ b. where_so (b || (is_key key.Int t || (is_key key.Time t || is_key key.Bool t))) [] None) (no_block_word t (λ a e. no_block a rest (h ∙ ap (λ u. u ∷ rest) e)))
     ∙ ap (λ b. where_so (b || (is_key key.Time t || is_key key.Bool t)) [] None) (next key.Int no_int)
@@ -260,11 +260,11 @@ type_stuck es r fault is no_block no_int no_time no_bool =
     ∙ ap (λ b. where_so b [] None) (next key.Bool no_bool))
 
 -- no section begins next
-pub section_stuck : (es : List Expected) (r : ReaderValue) (fault : GrammarFault) → fault ≡ syntax_at r
-    → IsNotNext (token.Keyword key.VarInput) r.words → IsNotNext (token.Keyword key.VarOutput) r.words → IsNotNext (token.Keyword key.Var) r.words → GetsStuck (ASection ∷ es) r fault
+pub section_stuck : (Known : List Token → Type 0) → Known [] → (es : List Expected) (r : ReaderValue) (fault : GrammarFault) → fault ≡ syntax_at r
+    → IsNotNext (token.Keyword key.VarInput) r.words → IsNotNext (token.Keyword key.VarOutput) r.words → IsNotNext (token.Keyword key.Var) r.words → GetsStuck Known (ASection ∷ es) r fault
 unfolding begun may_end
-section_stuck es r fault is no_input no_output no_var =
-    stuck_at ASection es r fault refl (λ known. is) (λ known t rest h.
+section_stuck Known nothing es r fault is no_input no_output no_var =
+    stuck_at Known nothing ASection es r fault refl (λ known. is) (λ known t rest h.
     let next : (k : Keyword) → IsNotNext (token.Keyword k) r.words → is_key k t ≡ false = λ k none. no_key k t (λ e. none rest (h ∙ ap (λ u. u ∷ rest) e)) in
     let retained : List Expected = MayRetain ∷ [] in
     ap (λ b. where_so (b || is_key key.VarOutput t) [] (where_so (is_key key.Var t) retained None)) (next key.VarInput no_input)

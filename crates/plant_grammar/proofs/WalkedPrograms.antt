@@ -162,16 +162,16 @@ pub programs_walked : (ps : List Program) (es : List Expected) → All IsProgram
 programs_walked ps es each = walked_each program_words IsProgramWellFormed (MorePrograms ∷ es) (λ p formed. program_walked p es formed) ps each
 
 -- behind names, no comma stands next
-stuck_behind_names : (es : List Expected) (r : ReaderValue) (fault : GrammarFault) → IsNotNext (mark_word mark.Comma) r.words → GetsStuck es r fault → GetsStuck (MoreNames ∷ es) r fault
+stuck_behind_names : (Known : List Token → Type 0) (es : List Expected) (r : ReaderValue) (fault : GrammarFault) → IsNotNext (mark_word mark.Comma) r.words → GetsStuck Known es r fault → GetsStuck Known (MoreNames ∷ es) r fault
 unfolding begun may_end
-stuck_behind_names es r fault none stuck = λ syntax behind.
-    stuck_as (es ++ behind) (MoreNames ∷ (es ++ behind)) r fault.line (some_expected MoreNames (es ++ behind))
+stuck_behind_names Known es r fault none stuck = λ syntax behind.
+    stuck_as Known (es ++ behind) (MoreNames ∷ (es ++ behind)) r fault.line (some_expected MoreNames (es ++ behind))
     (λ t rest h. sym (left_out MoreNames (es ++ behind) t refl (ap (λ b. where_so b (AName ∷ MoreNames ∷ []) None) (no_mark mark.Comma t (λ same. none rest (h ∙ ap (λ u. u ∷ rest) same)))))) (stuck syntax behind)
 
 -- names were read, and no further one follows
-pub stuck_after_names : (ns : List (List ℕ)) (es : List Expected) (old new : ReaderValue) (fault : GrammarFault) → 0 < length ns → old.words ≡ name_words ns ++ new.words → KeepsLines old new → IsNotNext (mark_word mark.Comma) new.words → GetsStuck es new fault → GetsStuck (AName ∷ MoreNames ∷ es) old fault
-stuck_after_names ns es old new fault some e keeps none stuck =
-    stuck_after (AName ∷ MoreNames ∷ es) (MoreNames ∷ es) (name_words ns) old new fault e keeps (λ behind. names_walked ns (es ++ behind) some) (stuck_behind_names es new fault none stuck)
+pub stuck_after_names : (Known : List Token → Type 0) (ns : List (List ℕ)) (es : List Expected) (old new : ReaderValue) (fault : GrammarFault) → 0 < length ns → old.words ≡ name_words ns ++ new.words → KeepsLines old new → IsNotNext (mark_word mark.Comma) new.words → GetsStuck (λ w. Known (name_words ns ++ w)) es new fault → GetsStuck Known (AName ∷ MoreNames ∷ es) old fault
+stuck_after_names Known ns es old new fault some e keeps none stuck =
+    stuck_after Known (AName ∷ MoreNames ∷ es) (MoreNames ∷ es) (name_words ns) old new fault e keeps (λ behind. names_walked ns (es ++ behind) some) (stuck_behind_names (λ w. Known (name_words ns ++ w)) es new fault none stuck)
 
 -- the word of a type
 one_type_walked : (t : TypeName) (es : List Expected) → walk (AType ∷ es) (type_word t ∷ []) ≡ Some es
@@ -182,19 +182,19 @@ one_type_walked (Elementary kind.Time) es = refl
 one_type_walked (Block b) es = refl
 
 -- a type was read
-pub stuck_after_type : (t : TypeName) (es : List Expected) (old new : ReaderValue) (fault : GrammarFault) → old.words ≡ type_word t ∷ new.words → KeepsLines old new → GetsStuck es new fault → GetsStuck (AType ∷ es) old fault
-stuck_after_type t es old new fault e keeps stuck = stuck_after (AType ∷ es) es (type_word t ∷ []) old new fault e keeps (λ behind. one_type_walked t (es ++ behind)) stuck
+pub stuck_after_type : (Known : List Token → Type 0) (t : TypeName) (es : List Expected) (old new : ReaderValue) (fault : GrammarFault) → old.words ≡ type_word t ∷ new.words → KeepsLines old new → GetsStuck (λ w. Known (type_word t ∷ w)) es new fault → GetsStuck Known (AType ∷ es) old fault
+stuck_after_type Known t es old new fault e keeps stuck = stuck_after Known (AType ∷ es) es (type_word t ∷ []) old new fault e keeps (λ behind. one_type_walked t (es ++ behind)) stuck
 
 -- a section was read
-pub stuck_after_section : (s : Section) (es : List Expected) (old new : ReaderValue) (fault : GrammarFault) → old.words ≡ section_words s ++ new.words → KeepsLines old new → IsSectionWhole s new.words → GetsStuck es new fault → GetsStuck (ASection ∷ es) old fault
+pub stuck_after_section : (Known : List Token → Type 0) (s : Section) (es : List Expected) (old new : ReaderValue) (fault : GrammarFault) → old.words ≡ section_words s ++ new.words → KeepsLines old new → IsSectionWhole s new.words → GetsStuck (λ w. Known (section_words s ++ w)) es new fault → GetsStuck Known (ASection ∷ es) old fault
 unfolding walk step begun may_end
-stuck_after_section section.Input es old new fault e keeps whole stuck = stuck_after (ASection ∷ es) es (section_words section.Input) old new fault e keeps (λ behind. refl) stuck
-stuck_after_section section.Output es old new fault e keeps whole stuck = stuck_after (ASection ∷ es) es (section_words section.Output) old new fault e keeps (λ behind. refl) stuck
-stuck_after_section section.Local es old new fault e keeps whole stuck =
-    stuck_after (ASection ∷ es) (MayRetain ∷ es) (section_words section.Local) old new fault e keeps (λ behind. refl)
-    (λ syntax behind. stuck_as (es ++ behind) (MayRetain ∷ (es ++ behind)) new fault.line (some_expected MayRetain (es ++ behind))
+stuck_after_section Known section.Input es old new fault e keeps whole stuck = stuck_after Known (ASection ∷ es) es (section_words section.Input) old new fault e keeps (λ behind. refl) stuck
+stuck_after_section Known section.Output es old new fault e keeps whole stuck = stuck_after Known (ASection ∷ es) es (section_words section.Output) old new fault e keeps (λ behind. refl) stuck
+stuck_after_section Known section.Local es old new fault e keeps whole stuck =
+    stuck_after Known (ASection ∷ es) (MayRetain ∷ es) (section_words section.Local) old new fault e keeps (λ behind. refl)
+    (λ syntax behind. stuck_as (λ w. Known (section_words section.Local ++ w)) (es ++ behind) (MayRetain ∷ (es ++ behind)) new fault.line (some_expected MayRetain (es ++ behind))
     (λ t rest h. sym (left_out MayRetain (es ++ behind) t refl (ap (λ b. where_so b [] None) (no_key key.Retain t (λ same. whole rest (h ∙ ap (λ u. u ∷ rest) same)))))) (stuck syntax behind))
-stuck_after_section section.Retained es old new fault e keeps whole stuck = stuck_after (ASection ∷ es) es (section_words section.Retained) old new fault e keeps (λ behind. refl) stuck
+stuck_after_section Known section.Retained es old new fault e keeps whole stuck = stuck_after Known (ASection ∷ es) es (section_words section.Retained) old new fault e keeps (λ behind. refl) stuck
 
 -- a list of names and what may stand in its place, where the block doesn't end
 list_steps : (t : Token) (es : List Expected) → is_key key.EndVar t ≡ false → step (AName ∷ list_rest ++ MoreLists ∷ es) t ≡ step (MoreLists ∷ es) t
@@ -206,9 +206,9 @@ list_steps t es goes_on = by_name (is_name t) ∙ ap (λ b. or_skipped (where_so
     by_name false = refl
 
 -- a list of names can't stand there, and the block doesn't end
-pub stuck_in_list : (r : ReaderValue) (fault : GrammarFault) → IsNotNext (key_word key.EndVar) r.words → GetsStuck (AName ∷ list_rest) r fault → GetsStuck (MoreLists ∷ []) r fault
-stuck_in_list r fault goes_on stuck = λ syntax behind.
-    stuck_as (AName ∷ list_rest ++ MoreLists ∷ behind) (MoreLists ∷ behind) r fault.line (some_expected MoreLists behind)
+pub stuck_in_list : (Known : List Token → Type 0) (r : ReaderValue) (fault : GrammarFault) → IsNotNext (key_word key.EndVar) r.words → GetsStuck Known (AName ∷ list_rest) r fault → GetsStuck Known (MoreLists ∷ []) r fault
+stuck_in_list Known r fault goes_on stuck = λ syntax behind.
+    stuck_as Known (AName ∷ list_rest ++ MoreLists ∷ behind) (MoreLists ∷ behind) r fault.line (some_expected MoreLists behind)
     (λ t rest h. list_steps t behind (no_key key.EndVar t (λ same. goes_on rest (h ∙ ap (λ u. u ∷ rest) same)))) (stuck syntax (MoreLists ∷ behind))
 
 -- the first word of a block
@@ -224,16 +224,16 @@ first_same : (t u : Token) (ts us : List Token) → t ∷ ts ≡ u ∷ us → t 
 first_same t u ts us e = cc (e)
 
 -- a block begins, and gets stuck
-pub stuck_in_block : (r : ReaderValue) (fault : GrammarFault) → IsOneNext section_start r.words → GetsStuck (ASection ∷ MoreLists ∷ []) r fault → GetsStuck (MoreBlocks ∷ []) r fault
-stuck_in_block r fault next stuck = λ syntax behind.
-    stuck_as (ASection ∷ MoreLists ∷ MoreBlocks ∷ behind) (MoreBlocks ∷ behind) r fault.line (some_expected MoreBlocks behind)
+pub stuck_in_block : (Known : List Token → Type 0) (r : ReaderValue) (fault : GrammarFault) → IsOneNext section_start r.words → GetsStuck Known (ASection ∷ MoreLists ∷ []) r fault → GetsStuck Known (MoreBlocks ∷ []) r fault
+stuck_in_block Known r fault next stuck = λ syntax behind.
+    stuck_as Known (ASection ∷ MoreLists ∷ MoreBlocks ∷ behind) (MoreBlocks ∷ behind) r fault.line (some_expected MoreBlocks behind)
     (λ t rest h. subst (λ u. step (ASection ∷ MoreLists ∷ MoreBlocks ∷ behind) u ≡ step (MoreBlocks ∷ behind) u) (first_same (section_start next.0) t next.1 rest (sym next.2 ∙ h)) (block_steps next.0 behind)) (stuck syntax (MoreBlocks ∷ behind))
 
 -- no further block begins
-pub stuck_behind_blocks : (es : List Expected) (r : ReaderValue) (fault : GrammarFault) → IsNoneNext section_start r.words → GetsStuck es r fault → GetsStuck (MoreBlocks ∷ es) r fault
+pub stuck_behind_blocks : (Known : List Token → Type 0) (es : List Expected) (r : ReaderValue) (fault : GrammarFault) → IsNoneNext section_start r.words → GetsStuck Known es r fault → GetsStuck Known (MoreBlocks ∷ es) r fault
 unfolding begun may_end
-stuck_behind_blocks es r fault none stuck = λ syntax behind.
-    stuck_as (es ++ behind) (MoreBlocks ∷ (es ++ behind)) r fault.line (some_expected MoreBlocks (es ++ behind))
+stuck_behind_blocks Known es r fault none stuck = λ syntax behind.
+    stuck_as Known (es ++ behind) (MoreBlocks ∷ (es ++ behind)) r fault.line (some_expected MoreBlocks (es ++ behind))
     (λ t rest h.
     let next : (s : Section) (k : Keyword) → section_start s ≡ token.Keyword k → is_key k t ≡ false = λ s k starts. no_key k t (λ same. none s rest (h ∙ ap (λ u. u ∷ rest) (same ∙ sym starts))) in
     let more : List Expected = MoreLists ∷ MoreBlocks ∷ [] in
@@ -248,21 +248,21 @@ unfolding step begun may_end
 program_steps es = refl
 
 -- PROGRAM and a name were read
-pub stuck_after_start : (n : List ℕ) (es : List Expected) (old new : ReaderValue) (fault : GrammarFault) → old.words ≡ key_word key.Program ∷ token.Name n ∷ new.words → KeepsLines old new → GetsStuck es new fault → GetsStuck (Key key.Program ∷ AName ∷ es) old fault
+pub stuck_after_start : (Known : List Token → Type 0) (n : List ℕ) (es : List Expected) (old new : ReaderValue) (fault : GrammarFault) → old.words ≡ key_word key.Program ∷ token.Name n ∷ new.words → KeepsLines old new → GetsStuck (λ w. Known (key_word key.Program ∷ token.Name n ∷ w)) es new fault → GetsStuck Known (Key key.Program ∷ AName ∷ es) old fault
 unfolding walk step begun
-stuck_after_start n es old new fault e keeps stuck = stuck_after (Key key.Program ∷ AName ∷ es) es (key_word key.Program ∷ token.Name n ∷ []) old new fault e keeps (λ behind. refl) stuck
+stuck_after_start Known n es old new fault e keeps stuck = stuck_after Known (Key key.Program ∷ AName ∷ es) es (key_word key.Program ∷ token.Name n ∷ []) old new fault e keeps (λ behind. refl) stuck
 
 -- a program begins, and gets stuck
-pub stuck_in_program : (r : ReaderValue) (fault : GrammarFault) → IsWordNext (key_word key.Program) r.words → GetsStuck (Key key.Program ∷ program_rest) r fault → GetsStuck (MorePrograms ∷ []) r fault
-stuck_in_program r fault next stuck = λ syntax behind.
-    stuck_as (Key key.Program ∷ program_rest ++ MorePrograms ∷ behind) (MorePrograms ∷ behind) r fault.line (some_expected MorePrograms behind)
+pub stuck_in_program : (Known : List Token → Type 0) (r : ReaderValue) (fault : GrammarFault) → IsWordNext (key_word key.Program) r.words → GetsStuck Known (Key key.Program ∷ program_rest) r fault → GetsStuck Known (MorePrograms ∷ []) r fault
+stuck_in_program Known r fault next stuck = λ syntax behind.
+    stuck_as Known (Key key.Program ∷ program_rest ++ MorePrograms ∷ behind) (MorePrograms ∷ behind) r fault.line (some_expected MorePrograms behind)
     (λ t rest h. subst (λ u. step (Key key.Program ∷ program_rest ++ MorePrograms ∷ behind) u ≡ step (MorePrograms ∷ behind) u) (first_same (key_word key.Program) t next.0 rest (sym next.1 ∙ h)) (program_steps behind)) (stuck syntax (MorePrograms ∷ behind))
 
 -- no further program begins
-pub stuck_behind_programs : (es : List Expected) (r : ReaderValue) (fault : GrammarFault) → IsNotNext (key_word key.Program) r.words → GetsStuck es r fault → GetsStuck (MorePrograms ∷ es) r fault
+pub stuck_behind_programs : (Known : List Token → Type 0) (es : List Expected) (r : ReaderValue) (fault : GrammarFault) → IsNotNext (key_word key.Program) r.words → GetsStuck Known es r fault → GetsStuck Known (MorePrograms ∷ es) r fault
 unfolding begun may_end
-stuck_behind_programs es r fault none stuck = λ syntax behind.
-    stuck_as (es ++ behind) (MorePrograms ∷ (es ++ behind)) r fault.line (some_expected MorePrograms (es ++ behind))
+stuck_behind_programs Known es r fault none stuck = λ syntax behind.
+    stuck_as Known (es ++ behind) (MorePrograms ∷ (es ++ behind)) r fault.line (some_expected MorePrograms (es ++ behind))
     (λ t rest h. sym (left_out MorePrograms (es ++ behind) t refl (ap (λ b. where_so b (program_rest ++ MorePrograms ∷ []) None) (no_key key.Program t (λ same. none rest (h ∙ ap (λ u. u ∷ rest) same)))))) (stuck syntax behind)
 
 -- what is lawful is well-formed: the lists of a block, the blocks of a program, a program

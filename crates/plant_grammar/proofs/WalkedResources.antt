@@ -2,6 +2,7 @@
 use Rattle.std.proofs.Common.{◌≡◌, ℕ, Bool, true, false, not, ◌<◌, List, [], ◌∷◌, ◌++◌, Option, None, Some, length, refl, sym, ap, subst, ◌∙◌, append_assoc, arith}
 use Rattle.std.specs.Prelude.{All}
 use Rattle.std.specs.List.{flat_map}
+use Rattle.std.proofs.lemmas.List.{append-nil}
 use Rattle.std.proofs.lemmas.List.Concat.{flat_map-cons}
 use Rattle.std.proofs.lemmas.List.Elements.{All-head, All-tail, All-weaker}
 use Rattle.std.proofs.lemmas.Bool.{ne_eqb}
@@ -33,20 +34,20 @@ use Rattle.plant_grammar.proofs.UnexpectedWords.{no_key, no_mark, no_address_wor
 use Rattle.plant_grammar.proofs.StuckBehind.{stuck_after}
 
 -- where more is expected behind it
-pub stuck_more : (es more : List Expected) (r : ReaderValue) (fault : GrammarFault) → GetsStuck es r fault → GetsStuck (es ++ more) r fault
-stuck_more es more r fault stuck = λ syntax behind. subst (λ (fs : List Expected). IsStuck fs r fault.line) (sym (append_assoc es more behind)) (stuck syntax (more ++ behind))
+pub stuck_more : (Known : List Token → Type 0) (es more : List Expected) (r : ReaderValue) (fault : GrammarFault) → GetsStuck Known es r fault → GetsStuck Known (es ++ more) r fault
+stuck_more Known es more r fault stuck = λ syntax behind. subst (λ (fs : List Expected). IsStuck Known fs r fault.line) (sym (append_assoc es more behind)) (stuck syntax (more ++ behind))
 
 -- where the first word leads to the same from a part of a rule and from what it begins
-stuck_alike : (e : Expected) (es more : List Expected) (r : ReaderValue) (fault : GrammarFault) → ((behind : List Expected) (t : Token) (rest : List Token) → r.words ≡ t ∷ rest → step (es ++ (more ++ behind)) t ≡ step (e ∷ behind) t)
-    → GetsStuck es r fault → GetsStuck (e ∷ []) r fault
-stuck_alike e es more r fault same stuck = λ syntax behind.
-    stuck_as (es ++ (more ++ behind)) (e ∷ behind) r fault.line (some_expected e behind) (same behind) (stuck syntax (more ++ behind))
+stuck_alike : (Known : List Token → Type 0) (e : Expected) (es more : List Expected) (r : ReaderValue) (fault : GrammarFault) → ((behind : List Expected) (t : Token) (rest : List Token) → r.words ≡ t ∷ rest → step (es ++ (more ++ behind)) t ≡ step (e ∷ behind) t)
+    → GetsStuck Known es r fault → GetsStuck Known (e ∷ []) r fault
+stuck_alike Known e es more r fault same stuck = λ syntax behind.
+    stuck_as Known (es ++ (more ++ behind)) (e ∷ behind) r fault.line (some_expected e behind) (same behind) (stuck syntax (more ++ behind))
 
 -- where it begins with this word
-stuck_begun : (e : Expected) (es more : List Expected) (u : Token) (r : ReaderValue) (fault : GrammarFault) → IsWordNext u r.words → ((behind : List Expected) → step (es ++ (more ++ behind)) u ≡ step (e ∷ behind) u)
-    → GetsStuck es r fault → GetsStuck (e ∷ []) r fault
-stuck_begun e es more u r fault next same stuck =
-    stuck_alike e es more r fault (λ behind t rest h. let words : u ∷ next.0 ≡ t ∷ rest = sym next.1 ∙ h in let first : u ≡ t = cc (words) in subst (λ (t : Token). step (es ++ (more ++ behind)) t ≡ step (e ∷ behind) t) first (same behind)) stuck
+stuck_begun : (Known : List Token → Type 0) (e : Expected) (es more : List Expected) (u : Token) (r : ReaderValue) (fault : GrammarFault) → IsWordNext u r.words → ((behind : List Expected) → step (es ++ (more ++ behind)) u ≡ step (e ∷ behind) u)
+    → GetsStuck Known es r fault → GetsStuck Known (e ∷ []) r fault
+stuck_begun Known e es more u r fault next same stuck =
+    stuck_alike Known e es more r fault (λ behind t rest h. let words : u ∷ next.0 ≡ t ∷ rest = sym next.1 ∙ h in let first : u ≡ t = cc (words) in subst (λ (t : Token). step (es ++ (more ++ behind)) t ≡ step (e ∷ behind) t) first (same behind)) stuck
 
 -- the next word isn't this keyword, or this mark
 not_key : (k : Keyword) (words rest : List Token) (t : Token) → IsNotNext (token.Keyword k) words → words ≡ t ∷ rest → is_key k t ≡ false
@@ -116,14 +117,14 @@ unfolding walk step begun
 first_priority_walked n es = refl
 
 -- where the settings begin with an interval, or with a priority
-pub stuck_in_interval : (r : ReaderValue) (fault : GrammarFault) → IsWordNext (key_word key.Interval) r.words → GetsStuck (Key key.Interval ∷ interval_rest) r fault → GetsStuck (TheSettings ∷ []) r fault
+pub stuck_in_interval : (Known : List Token → Type 0) (r : ReaderValue) (fault : GrammarFault) → IsWordNext (key_word key.Interval) r.words → GetsStuck Known (Key key.Interval ∷ interval_rest) r fault → GetsStuck Known (TheSettings ∷ []) r fault
 unfolding step begun
-stuck_in_interval r fault next stuck = stuck_begun TheSettings (Key key.Interval ∷ interval_rest) behind_interval (key_word key.Interval) r fault next (λ behind. refl) stuck
+stuck_in_interval Known r fault next stuck = stuck_begun Known TheSettings (Key key.Interval ∷ interval_rest) behind_interval (key_word key.Interval) r fault next (λ behind. refl) stuck
 
-pub stuck_in_priority : (r : ReaderValue) (fault : GrammarFault) → IsNotNext (key_word key.Interval) r.words → GetsStuck (Key key.Priority ∷ priority_rest) r fault → GetsStuck (TheSettings ∷ []) r fault
+pub stuck_in_priority : (Known : List Token → Type 0) (r : ReaderValue) (fault : GrammarFault) → IsNotNext (key_word key.Interval) r.words → GetsStuck Known (Key key.Priority ∷ priority_rest) r fault → GetsStuck Known (TheSettings ∷ []) r fault
 unfolding step begun may_end
-stuck_in_priority r fault none stuck =
-    stuck_alike TheSettings (Key key.Priority ∷ priority_rest) behind_priority r fault (λ behind t rest h.
+stuck_in_priority Known r fault none stuck =
+    stuck_alike Known TheSettings (Key key.Priority ∷ priority_rest) behind_priority r fault (λ behind t rest h.
     one_way (is_key key.Priority t) (priority_rest ++ behind_priority) behind
     ∙ sym (ap (λ b. or_skipped (where_so b (interval_rest ++ behind_interval) (where_so (is_key key.Priority t) (priority_rest ++ behind_priority) None)) behind None) (not_key key.Interval r.words rest t none h))) stuck
 
@@ -141,11 +142,11 @@ source_walked (source.Field address) es = refl
 source_walked (source.Output resource instance output) es = refl
 
 -- where a source begins with a name
-pub stuck_in_output : (r : ReaderValue) (fault : GrammarFault) → IsNoneNext token.Address r.words → GetsStuck (AName ∷ Mark mark.Dot ∷ AName ∷ Mark mark.Dot ∷ AName ∷ []) r fault → GetsStuck (ASource ∷ []) r fault
+pub stuck_in_output : (Known : List Token → Type 0) (r : ReaderValue) (fault : GrammarFault) → IsNoneNext token.Address r.words → GetsStuck Known (AName ∷ Mark mark.Dot ∷ AName ∷ Mark mark.Dot ∷ AName ∷ []) r fault → GetsStuck Known (ASource ∷ []) r fault
 unfolding step begun may_end
-stuck_in_output r fault none stuck =
+stuck_in_output Known r fault none stuck =
     let parts : List Expected = Mark mark.Dot ∷ AName ∷ Mark mark.Dot ∷ AName ∷ [] in
-    stuck_alike ASource (AName ∷ parts) [] r fault (λ behind t rest h.
+    stuck_alike Known ASource (AName ∷ parts) [] r fault (λ behind t rest h.
     one_way (is_name t) parts behind
     ∙ sym (ap (λ b. or_skipped (where_so b [] (where_so (is_name t) parts None)) behind None) (no_address_word t (λ a e. none a rest (h ∙ ap (λ u. u ∷ rest) e))))) stuck
 
@@ -182,10 +183,10 @@ pub next_walked : (b : Bind) (es : List Expected) → walk (MoreBinds ∷ es) (m
 next_walked b es = comma_walked b [] es ∙ binds_walked b [] es
 
 -- where the first of binds can't stand, and no parenthesis closes them
-pub stuck_in_first_bind : (r : ReaderValue) (fault : GrammarFault) → IsNotNext (mark_word mark.Close) r.words → GetsStuck (AName ∷ bind_rest) r fault → GetsStuck (FirstBind ∷ []) r fault
+pub stuck_in_first_bind : (Known : List Token → Type 0) (r : ReaderValue) (fault : GrammarFault) → IsNotNext (mark_word mark.Close) r.words → GetsStuck Known (AName ∷ bind_rest) r fault → GetsStuck Known (FirstBind ∷ []) r fault
 unfolding step begun may_end
-stuck_in_first_bind r fault none stuck =
-    stuck_alike FirstBind (AName ∷ bind_rest) (MoreBinds ∷ []) r fault (λ behind t rest h.
+stuck_in_first_bind Known r fault none stuck =
+    stuck_alike Known FirstBind (AName ∷ bind_rest) (MoreBinds ∷ []) r fault (λ behind t rest h.
     one_way (is_name t) (bind_rest ++ MoreBinds ∷ []) behind
     ∙ sym (ap (λ b. or_skipped (where_so b [] (where_so (is_name t) (bind_rest ++ MoreBinds ∷ []) None)) behind None) (not_mark mark.Close r.words rest t none h))) stuck
 
@@ -195,25 +196,25 @@ unfolding walk step begun
 comma_steps es = refl
 
 -- where a further bind can't stand behind its comma
-pub stuck_in_next_bind : (bs : List Bind) (old now mid : ReaderValue) (fault : GrammarFault) → 0 < length bs → old.words ≡ with_commas bs ++ now.words → KeepsLines old now → now.words ≡ mark_word mark.Comma ∷ mid.words → KeepsLines now mid
-    → GetsStuck (AName ∷ bind_rest) mid fault → GetsStuck (FirstBind ∷ []) old fault
-stuck_in_next_bind bs old now mid fault some e keeps comma further stuck =
-    stuck_after (FirstBind ∷ []) (MoreBinds ∷ []) (with_commas bs) old now fault e keeps (λ behind. commas_walked bs behind some)
-    (stuck_after (MoreBinds ∷ []) (AName ∷ bind_rest ++ MoreBinds ∷ []) (mark_word mark.Comma ∷ []) now mid fault comma further comma_steps
-    (stuck_more (AName ∷ bind_rest) (MoreBinds ∷ []) mid fault stuck))
+pub stuck_in_next_bind : (Known : List Token → Type 0) (bs : List Bind) (old now mid : ReaderValue) (fault : GrammarFault) → 0 < length bs → old.words ≡ with_commas bs ++ now.words → KeepsLines old now → now.words ≡ mark_word mark.Comma ∷ mid.words → KeepsLines now mid
+    → GetsStuck (λ w. Known (with_commas bs ++ mark_word mark.Comma ∷ w)) (AName ∷ bind_rest) mid fault → GetsStuck Known (FirstBind ∷ []) old fault
+stuck_in_next_bind Known bs old now mid fault some e keeps comma further stuck =
+    stuck_after Known (FirstBind ∷ []) (MoreBinds ∷ []) (with_commas bs) old now fault e keeps (λ behind. commas_walked bs behind some)
+    (stuck_after (λ w. Known (with_commas bs ++ w)) (MoreBinds ∷ []) (AName ∷ bind_rest ++ MoreBinds ∷ []) (mark_word mark.Comma ∷ []) now mid fault comma further comma_steps
+    (stuck_more (λ w. Known (with_commas bs ++ mark_word mark.Comma ∷ w)) (AName ∷ bind_rest) (MoreBinds ∷ []) mid fault stuck))
 
 -- neither a comma nor the parenthesis that closes stands behind binds
-close_stuck : (r : ReaderValue) (fault : GrammarFault) → fault ≡ syntax_at r → IsNotNext (mark_word mark.Comma) r.words → IsNotNext (mark_word mark.Close) r.words → GetsStuck (MoreBinds ∷ []) r fault
+close_stuck : (Known : List Token → Type 0) → Known [] → (r : ReaderValue) (fault : GrammarFault) → fault ≡ syntax_at r → IsNotNext (mark_word mark.Comma) r.words → IsNotNext (mark_word mark.Close) r.words → GetsStuck Known (MoreBinds ∷ []) r fault
 unfolding begun may_end
-close_stuck r fault is no_comma no_close =
-    stuck_at MoreBinds [] r fault refl (λ known. is) (λ known t rest h.
+close_stuck Known nothing r fault is no_comma no_close =
+    stuck_at Known nothing MoreBinds [] r fault refl (λ known. is) (λ known t rest h.
     ap (λ b. where_so b (AName ∷ bind_rest ++ MoreBinds ∷ []) (where_so (is_mark mark.Close t) [] None)) (not_mark mark.Comma r.words rest t no_comma h)
     ∙ ap (λ b. where_so b [] None) (not_mark mark.Close r.words rest t no_close h))
 
-pub stuck_behind_binds : (bs : List Bind) (old now : ReaderValue) (fault : GrammarFault) → 0 < length bs → old.words ≡ with_commas bs ++ now.words → KeepsLines old now
-    → fault ≡ syntax_at now → IsNotNext (mark_word mark.Comma) now.words → IsNotNext (mark_word mark.Close) now.words → GetsStuck (FirstBind ∷ []) old fault
-stuck_behind_binds bs old now fault some e keeps is no_comma no_close =
-    stuck_after (FirstBind ∷ []) (MoreBinds ∷ []) (with_commas bs) old now fault e keeps (λ behind. commas_walked bs behind some) (close_stuck now fault is no_comma no_close)
+pub stuck_behind_binds : (Known : List Token → Type 0) (bs : List Bind) → Known (with_commas bs) → (old now : ReaderValue) (fault : GrammarFault) → 0 < length bs → old.words ≡ with_commas bs ++ now.words → KeepsLines old now
+    → fault ≡ syntax_at now → IsNotNext (mark_word mark.Comma) now.words → IsNotNext (mark_word mark.Close) now.words → GetsStuck Known (FirstBind ∷ []) old fault
+stuck_behind_binds Known bs known old now fault some e keeps is no_comma no_close =
+    stuck_after Known (FirstBind ∷ []) (MoreBinds ∷ []) (with_commas bs) old now fault e keeps (λ behind. commas_walked bs behind some) (close_stuck (λ w. Known (with_commas bs ++ w)) (subst Known (sym (append-nil (with_commas bs))) known) now fault is no_comma no_close)
 
 -- the parenthesis that opens binds
 open_steps : (es : List Expected) → walk (MayHaveBinds ∷ es) (mark_word mark.Open ∷ []) ≡ Some (FirstBind ∷ es)
@@ -221,8 +222,8 @@ unfolding walk step begun
 open_steps es = refl
 
 -- where binds can't stand behind it
-pub stuck_in_binds : (old new : ReaderValue) (fault : GrammarFault) → old.words ≡ mark_word mark.Open ∷ new.words → KeepsLines old new → GetsStuck (FirstBind ∷ []) new fault → GetsStuck (MayHaveBinds ∷ []) old fault
-stuck_in_binds old new fault e keeps stuck = stuck_after (MayHaveBinds ∷ []) (FirstBind ∷ []) (mark_word mark.Open ∷ []) old new fault e keeps open_steps stuck
+pub stuck_in_binds : (Known : List Token → Type 0) (old new : ReaderValue) (fault : GrammarFault) → old.words ≡ mark_word mark.Open ∷ new.words → KeepsLines old new → GetsStuck (λ w. Known (mark_word mark.Open ∷ w)) (FirstBind ∷ []) new fault → GetsStuck Known (MayHaveBinds ∷ []) old fault
+stuck_in_binds Known old new fault e keeps stuck = stuck_after Known (MayHaveBinds ∷ []) (FirstBind ∷ []) (mark_word mark.Open ∷ []) old new fault e keeps open_steps stuck
 
 -- binds in parentheses
 pub parentheses_walked : (bs : List Bind) (es : List Expected) → walk (MayHaveBinds ∷ es) (binds_words (Some bs)) ≡ Some es
@@ -239,22 +240,22 @@ listed_walked (Some bs) es =
     walk_append (MayHaveBinds ∷ end) end (binds_words (Some bs)) (mark_word mark.Semicolon ∷ []) (parentheses_walked bs end)
 
 -- neither binds nor the semicolon stand next
-no_binds_stuck : (r : ReaderValue) (fault : GrammarFault) → fault ≡ syntax_at r → IsNotNext (mark_word mark.Open) r.words → IsNotNext (mark_word mark.Semicolon) r.words → GetsStuck (MayHaveBinds ∷ Mark mark.Semicolon ∷ []) r fault
+no_binds_stuck : (Known : List Token → Type 0) → Known [] → (r : ReaderValue) (fault : GrammarFault) → fault ≡ syntax_at r → IsNotNext (mark_word mark.Open) r.words → IsNotNext (mark_word mark.Semicolon) r.words → GetsStuck Known (MayHaveBinds ∷ Mark mark.Semicolon ∷ []) r fault
 unfolding begun may_end
-no_binds_stuck r fault is no_open no_end = λ syntax behind.
+no_binds_stuck Known nothing r fault is no_open no_end = λ syntax behind.
     let end : List Expected = Mark mark.Semicolon ∷ behind in
-    stuck_as end (MayHaveBinds ∷ end) r fault.line (some_expected MayHaveBinds end)
+    stuck_as Known end (MayHaveBinds ∷ end) r fault.line (some_expected MayHaveBinds end)
     (λ t rest h. sym (left_out MayHaveBinds end t refl (ap (λ b. where_so b (FirstBind ∷ []) None) (not_mark mark.Open r.words rest t no_open h))))
-    (mark_stuck mark.Semicolon [] r fault is no_end syntax behind)
+    (mark_stuck Known nothing mark.Semicolon [] r fault is no_end syntax behind)
 
 -- no semicolon stands behind the binds of an instance
-pub semicolon_stuck : (bs : Option (List Bind)) (old new : ReaderValue) (fault : GrammarFault) → old.words ≡ binds_words bs ++ new.words → KeepsLines old new → (bs ≡ None → IsNotNext (mark_word mark.Open) new.words)
-    → fault ≡ syntax_at new → IsNotNext (mark_word mark.Semicolon) new.words → GetsStuck (MayHaveBinds ∷ Mark mark.Semicolon ∷ []) old fault
+pub semicolon_stuck : (Known : List Token → Type 0) (bs : Option (List Bind)) → Known (binds_words bs) → (old new : ReaderValue) (fault : GrammarFault) → old.words ≡ binds_words bs ++ new.words → KeepsLines old new → (bs ≡ None → IsNotNext (mark_word mark.Open) new.words)
+    → fault ≡ syntax_at new → IsNotNext (mark_word mark.Semicolon) new.words → GetsStuck Known (MayHaveBinds ∷ Mark mark.Semicolon ∷ []) old fault
 unfolding walk
-semicolon_stuck None old new fault e keeps whole is no_end =
-    stuck_after (MayHaveBinds ∷ Mark mark.Semicolon ∷ []) (MayHaveBinds ∷ Mark mark.Semicolon ∷ []) [] old new fault e keeps (λ behind. refl) (no_binds_stuck new fault is (whole refl) no_end)
-semicolon_stuck (Some bs) old new fault e keeps whole is no_end =
-    stuck_after (MayHaveBinds ∷ Mark mark.Semicolon ∷ []) (Mark mark.Semicolon ∷ []) (binds_words (Some bs)) old new fault e keeps (λ behind. parentheses_walked bs (Mark mark.Semicolon ∷ behind)) (mark_stuck mark.Semicolon [] new fault is no_end)
+semicolon_stuck Known None known old new fault e keeps whole is no_end =
+    stuck_after Known (MayHaveBinds ∷ Mark mark.Semicolon ∷ []) (MayHaveBinds ∷ Mark mark.Semicolon ∷ []) [] old new fault e keeps (λ behind. refl) (no_binds_stuck Known known new fault is (whole refl) no_end)
+semicolon_stuck Known (Some bs) known old new fault e keeps whole is no_end =
+    stuck_after Known (MayHaveBinds ∷ Mark mark.Semicolon ∷ []) (Mark mark.Semicolon ∷ []) (binds_words (Some bs)) old new fault e keeps (λ behind. parentheses_walked bs (Mark mark.Semicolon ∷ behind)) (mark_stuck (λ w. Known (binds_words (Some bs) ++ w)) (subst Known (sym (append-nil (binds_words (Some bs)))) known) mark.Semicolon [] new fault is no_end)
 
 -- an instance
 pub use_walked : (u : Use) (es : List Expected) → walk (Key key.Program ∷ instance_rest ++ es) (use_words u) ≡ Some es
@@ -281,14 +282,14 @@ item_walked (item.Task t) es positive = task_line_walked t es ∙ task_walked t 
 item_walked (item.Use u) es positive = use_line_walked u es ∙ use_walked u es
 
 -- where a line begins as a task, or as an instance
-pub stuck_in_task_line : (r : ReaderValue) (fault : GrammarFault) → IsWordNext (key_word key.Task) r.words → GetsStuck (Key key.Task ∷ task_rest) r fault → GetsStuck (AnItem ∷ []) r fault
+pub stuck_in_task_line : (Known : List Token → Type 0) (r : ReaderValue) (fault : GrammarFault) → IsWordNext (key_word key.Task) r.words → GetsStuck Known (Key key.Task ∷ task_rest) r fault → GetsStuck Known (AnItem ∷ []) r fault
 unfolding step begun
-stuck_in_task_line r fault next stuck = stuck_begun AnItem (Key key.Task ∷ task_rest) [] (key_word key.Task) r fault next (λ behind. refl) stuck
+stuck_in_task_line Known r fault next stuck = stuck_begun Known AnItem (Key key.Task ∷ task_rest) [] (key_word key.Task) r fault next (λ behind. refl) stuck
 
-pub stuck_in_use_line : (r : ReaderValue) (fault : GrammarFault) → IsNotNext (key_word key.Task) r.words → GetsStuck (Key key.Program ∷ instance_rest) r fault → GetsStuck (AnItem ∷ []) r fault
+pub stuck_in_use_line : (Known : List Token → Type 0) (r : ReaderValue) (fault : GrammarFault) → IsNotNext (key_word key.Task) r.words → GetsStuck Known (Key key.Program ∷ instance_rest) r fault → GetsStuck Known (AnItem ∷ []) r fault
 unfolding step begun may_end
-stuck_in_use_line r fault none stuck =
-    stuck_alike AnItem (Key key.Program ∷ instance_rest) [] r fault (λ behind t rest h.
+stuck_in_use_line Known r fault none stuck =
+    stuck_alike Known AnItem (Key key.Program ∷ instance_rest) [] r fault (λ behind t rest h.
     one_way (is_key key.Program t) instance_rest behind
     ∙ sym (ap (λ b. or_skipped (where_so b task_rest (where_so (is_key key.Program t) instance_rest None)) behind None) (not_key key.Task r.words rest t none h))) stuck
 
@@ -327,18 +328,18 @@ lines_walked (x ∷ xs) es positive =
     ap (walk (MoreItems ∷ es)) (flat_map-cons item_words x xs) ∙ line_first x (flat_map item_words xs) es parts.0 ∙ lines_walked xs es parts.1
 
 -- where a line can't stand among others, and the resource doesn't end
-line_stuck : (r : ReaderValue) (fault : GrammarFault) → IsNotNext (key_word key.EndResource) r.words → GetsStuck (AnItem ∷ []) r fault → GetsStuck (MoreItems ∷ []) r fault
+line_stuck : (Known : List Token → Type 0) (r : ReaderValue) (fault : GrammarFault) → IsNotNext (key_word key.EndResource) r.words → GetsStuck Known (AnItem ∷ []) r fault → GetsStuck Known (MoreItems ∷ []) r fault
 unfolding step begun may_end
-line_stuck r fault none stuck =
+line_stuck Known r fault none stuck =
     let more : List Expected = MoreItems ∷ [] in
-    stuck_alike MoreItems (AnItem ∷ []) more r fault (λ behind t rest h.
+    stuck_alike Known MoreItems (AnItem ∷ []) more r fault (λ behind t rest h.
     two_ways (is_key key.Task t) (is_key key.Program t) task_rest instance_rest more behind
     ∙ sym (ap (λ b. or_skipped (where_so b [] (where_so (is_key key.Task t) (task_rest ++ more) (where_so (is_key key.Program t) (instance_rest ++ more) None))) behind None) (not_key key.EndResource r.words rest t none h))) stuck
 
-pub stuck_in_line : (xs : List Item) (old now : ReaderValue) (fault : GrammarFault) → old.words ≡ flat_map item_words xs ++ now.words → KeepsLines old now → AreIntervalsPositive xs → IsNotNext (key_word key.EndResource) now.words
-    → GetsStuck (AnItem ∷ []) now fault → GetsStuck (MoreItems ∷ []) old fault
-stuck_in_line xs old now fault e keeps positive none stuck =
-    stuck_after (MoreItems ∷ []) (MoreItems ∷ []) (flat_map item_words xs) old now fault e keeps (λ behind. lines_walked xs behind positive) (line_stuck now fault none stuck)
+pub stuck_in_line : (Known : List Token → Type 0) (xs : List Item) (old now : ReaderValue) (fault : GrammarFault) → old.words ≡ flat_map item_words xs ++ now.words → KeepsLines old now → AreIntervalsPositive xs → IsNotNext (key_word key.EndResource) now.words
+    → GetsStuck (λ w. Known (flat_map item_words xs ++ w)) (AnItem ∷ []) now fault → GetsStuck Known (MoreItems ∷ []) old fault
+stuck_in_line Known xs old now fault e keeps positive none stuck =
+    stuck_after Known (MoreItems ∷ []) (MoreItems ∷ []) (flat_map item_words xs) old now fault e keeps (λ behind. lines_walked xs behind positive) (line_stuck (λ w. Known (flat_map item_words xs ++ w)) now fault none stuck)
 
 -- lines of a resource, and its end
 pub items_walked : (xs : List Item) (es : List Expected) → AreIntervalsPositive xs → walk (MoreItems ∷ es) (items_words xs) ≡ Some es
@@ -397,25 +398,25 @@ configured_walked [] es some formed = absurd (omega (arith, some))
 configured_walked (r ∷ rs) es some formed = resource_first r (resources_words rs) es (All-head IsResourceWellFormed r rs formed) ∙ rest_walked rs es (All-tail IsResourceWellFormed r rs formed)
 
 -- where a further resource can't stand, and the configuration doesn't end
-resource_stuck : (r : ReaderValue) (fault : GrammarFault) → IsNotNext (key_word key.EndConfiguration) r.words → GetsStuck (Key key.Resource ∷ resource_rest) r fault → GetsStuck (MoreResources ∷ []) r fault
+resource_stuck : (Known : List Token → Type 0) (r : ReaderValue) (fault : GrammarFault) → IsNotNext (key_word key.EndConfiguration) r.words → GetsStuck Known (Key key.Resource ∷ resource_rest) r fault → GetsStuck Known (MoreResources ∷ []) r fault
 unfolding step begun may_end
-resource_stuck r fault none stuck =
+resource_stuck Known r fault none stuck =
     let more : List Expected = MoreResources ∷ [] in
-    stuck_alike MoreResources (Key key.Resource ∷ resource_rest) more r fault (λ behind t rest h.
+    stuck_alike Known MoreResources (Key key.Resource ∷ resource_rest) more r fault (λ behind t rest h.
     one_way (is_key key.Resource t) (resource_rest ++ more) behind
     ∙ sym (ap (λ b. or_skipped (where_so b [] (where_so (is_key key.Resource t) (resource_rest ++ more) None)) behind None) (not_key key.EndConfiguration r.words rest t none h))) stuck
 
 -- so it is behind others
-pub stuck_in_resource : (rs : List Resource) (old now : ReaderValue) (fault : GrammarFault) → old.words ≡ flat_map resource_words rs ++ now.words → KeepsLines old now → All IsResourceWellFormed rs
-    → (0 < length rs → IsNotNext (key_word key.EndConfiguration) now.words) → GetsStuck (Key key.Resource ∷ resource_rest) now fault → GetsStuck (Key key.Resource ∷ resource_rest ++ MoreResources ∷ []) old fault
+pub stuck_in_resource : (Known : List Token → Type 0) (rs : List Resource) (old now : ReaderValue) (fault : GrammarFault) → old.words ≡ flat_map resource_words rs ++ now.words → KeepsLines old now → All IsResourceWellFormed rs
+    → (0 < length rs → IsNotNext (key_word key.EndConfiguration) now.words) → GetsStuck (λ w. Known (flat_map resource_words rs ++ w)) (Key key.Resource ∷ resource_rest) now fault → GetsStuck Known (Key key.Resource ∷ resource_rest ++ MoreResources ∷ []) old fault
 unfolding walk
-stuck_in_resource [] old now fault e keeps formed none stuck =
+stuck_in_resource Known [] old now fault e keeps formed none stuck =
     let first = Key key.Resource ∷ resource_rest ++ MoreResources ∷ [] in
-    stuck_after first first [] old now fault e keeps (λ behind. refl) (stuck_more (Key key.Resource ∷ resource_rest) (MoreResources ∷ []) now fault stuck)
-stuck_in_resource (r ∷ rs) old now fault e keeps formed none stuck =
+    stuck_after Known first first [] old now fault e keeps (λ behind. refl) (stuck_more Known (Key key.Resource ∷ resource_rest) (MoreResources ∷ []) now fault stuck)
+stuck_in_resource Known (r ∷ rs) old now fault e keeps formed none stuck =
     let some : 0 < length (r ∷ rs) = omega arith in
-    stuck_after (Key key.Resource ∷ resource_rest ++ MoreResources ∷ []) (MoreResources ∷ []) (flat_map resource_words (r ∷ rs)) old now fault e keeps
-    (λ behind. resources_walked (r ∷ rs) behind some formed) (resource_stuck now fault (none some) stuck)
+    stuck_after Known (Key key.Resource ∷ resource_rest ++ MoreResources ∷ []) (MoreResources ∷ []) (flat_map resource_words (r ∷ rs)) old now fault e keeps
+    (λ behind. resources_walked (r ∷ rs) behind some formed) (resource_stuck (λ w. Known (flat_map resource_words (r ∷ rs) ++ w)) now fault (none some) stuck)
 
 -- lawful resources are well-formed
 pub formed_resources : (tree : Tree) (rs : List Resource) → All (IsResourceLawful tree) rs → All IsResourceWellFormed rs

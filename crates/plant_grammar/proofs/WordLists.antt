@@ -47,21 +47,21 @@ ended : {A : Type 0} (f : A → List Token) (end : Token) (all : List A → List
 ended f end all law xs start now after h1 h2 =
     h1 ∙ ap (λ r. flat_map f xs ++ r) h2 ∙ sym (append_assoc (flat_map f xs) (end ∷ []) after) ∙ ap (λ ws. ws ++ after) (sym (law xs))
 
-items_end : (xs : List Item) → items_words xs ≡ flat_map item_words xs ++ key_word key.EndResource ∷ []
+pub items_end : (xs : List Item) → items_words xs ≡ flat_map item_words xs ++ key_word key.EndResource ∷ []
 items_end [] = refl
 items_end (x ∷ xs) = ap (λ ws. item_words x ++ ws) (items_end xs) ∙ sym (append_assoc (item_words x) (flat_map item_words xs) (key_word key.EndResource ∷ [])) ∙ ap (λ ws. ws ++ key_word key.EndResource ∷ []) (sym (flat_map-cons item_words x xs))
 
 pub items_done : (xs : List Item) (start now after : List Token) → start ≡ flat_map item_words xs ++ now → now ≡ key_word key.EndResource ∷ after → start ≡ items_words xs ++ after
 items_done xs start now after h1 h2 = ended item_words (key_word key.EndResource) items_words items_end xs start now after h1 h2
 
-resources_end : (xs : List Resource) → resources_words xs ≡ flat_map resource_words xs ++ key_word key.EndConfiguration ∷ []
+pub resources_end : (xs : List Resource) → resources_words xs ≡ flat_map resource_words xs ++ key_word key.EndConfiguration ∷ []
 resources_end [] = refl
 resources_end (x ∷ xs) = ap (λ ws. resource_words x ++ ws) (resources_end xs) ∙ sym (append_assoc (resource_words x) (flat_map resource_words xs) (key_word key.EndConfiguration ∷ [])) ∙ ap (λ ws. ws ++ key_word key.EndConfiguration ∷ []) (sym (flat_map-cons resource_words x xs))
 
 pub resources_done : (xs : List Resource) (start now after : List Token) → start ≡ flat_map resource_words xs ++ now → now ≡ key_word key.EndConfiguration ∷ after → start ≡ resources_words xs ++ after
 resources_done xs start now after h1 h2 = ended resource_words (key_word key.EndConfiguration) resources_words resources_end xs start now after h1 h2
 
-lists_end : (xs : List NameList) → lists_words xs ≡ flat_map list_words xs ++ key_word key.EndVar ∷ []
+pub lists_end : (xs : List NameList) → lists_words xs ≡ flat_map list_words xs ++ key_word key.EndVar ∷ []
 lists_end [] = refl
 lists_end (x ∷ xs) = ap (λ ws. list_words x ++ ws) (lists_end xs) ∙ sym (append_assoc (list_words x) (flat_map list_words xs) (key_word key.EndVar ∷ [])) ∙ ap (λ ws. ws ++ key_word key.EndVar ∷ []) (sym (flat_map-cons list_words x xs))
 

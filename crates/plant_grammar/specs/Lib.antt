@@ -8,5 +8,6 @@ pub mod WellFormed
 pub mod Retained
 pub mod Parts
 pub mod WordFaults
+pub mod JudgedWords
 pub mod NameFaults
 pub mod Steps

@@ -2,7 +2,9 @@
 pub mod Declaring
 pub mod Expected
 pub mod Lines
+pub mod NamesRead
 pub mod ReadParts
 pub mod Reading
 pub mod Refusing
 pub mod SameNames
+pub mod SoundWords

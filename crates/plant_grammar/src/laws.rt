@@ -4,6 +4,7 @@ ghost use Rattle.plant_text.specs.Steps.Lexing.{AreWordsInPlace};
 ghost use Rattle.plant_text.specs.declared.token.Token.{Token};
 ghost use Rattle.plant_grammar.specs.declared.grammar.tree.Program.{Program};
 ghost use Rattle.plant_grammar.specs.Grammar.{Tree, program_words, words_of};
+ghost use Rattle.plant_grammar.specs.NameFaults.{judged_of};
 ghost use Rattle.plant_grammar.specs.WellFormed.{is_plain};
 ghost use Rattle.plant_grammar.specs.Parts.{program_parts, IsSameTree};
 
@@ -25,4 +26,9 @@ pub fn words_have_one_tree()
 /// Programs that begin the words of a tree are its first ones.
 pub fn programs_are_the_first()
     ensures { (ps : List Program) (t : Tree) (rest more : List Token) → flat_map program_words ps ++ rest ≡ words_of t ++ more → (n : ℕ) × (map program_parts ps ≡ map program_parts (take n t.programs)) }
+{}
+
+/// Without their faults, the judged words of a tree are its words.
+pub fn words_are_judged()
+    ensures { (tree : Tree) → map (λ j. j.word) (judged_of tree) ≡ words_of tree }
 {}

@@ -17,6 +17,7 @@ pub use grammar::tree::{
 };
 pub use grammar_fault::{GrammarFault, GrammarFaultKind};
 pub use laws::{
-    programs_are_the_first, words_are_in_place, words_behind_are_in_place, words_have_one_tree,
+    programs_are_the_first, words_are_in_place, words_are_judged, words_behind_are_in_place,
+    words_have_one_tree,
 };
 pub use names::is_named;

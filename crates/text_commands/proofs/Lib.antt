@@ -19,3 +19,4 @@ pub mod TestReading
 pub mod TestAnswers
 pub mod TracedAnswers
 pub mod Joining
+pub mod SourceLadders

@@ -22,26 +22,27 @@ use Rattle.text_commands.specs.Trace.{SomeTrace}
 use Rattle.text_commands.specs.Lines.{line_of}
 use Rattle.text_commands.specs.Chart.{chart_of}
 use Rattle.text_commands.specs.Shown.{IsShown}
-use Rattle.text_commands.specs.EvalText.{IsLadderOfDrawing, StopsScans}
+use Rattle.text_commands.specs.EvalText.{StopsScans}
+use Rattle.text_commands.specs.Sources.{IsDrawingFrom, IsLadderFrom, SourceValue}
 use Rattle.text_commands.specs.TestText.{ExplainsTest, IsOutcome, IsTextOf, StopsTest, WritesTest, is_chart}
-use Rattle.text_commands.specs.Steps.Refusing.{RefusesLadder}
+use Rattle.text_commands.specs.Steps.Sources.{RefusesFrom}
 use Rattle.text_commands.specs.Steps.Testing.{IsFormTrace, IsTestTrace, IsTraceOf, RefusesTest, WritesRun, slots_of}
 use Rattle.text_commands.specs.Steps.Showing.{IsShownTrace, SomeShown, StopsShown, WritesShown}
 use Rattle.text_commands.proofs.Showing.{shown_traced}
 
-pub test_ladder_refused : (drawing : List ℕ) (words : List (List ℕ)) (dt : ℕ) (form : Form) (old : Option (List ℕ)) (fault : TextCommandFault) → RefusesLadder drawing fault
-    → ExplainsTest drawing words dt form old old fault
-test_ladder_refused drawing words dt form old (Text fault) refused = (refused, Keeps-refl old)
-test_ladder_refused drawing words dt form old (Word fault) refused = absurd refused
-test_ladder_refused drawing words dt form old Write refused = absurd refused
-test_ladder_refused drawing words dt form old Memory refused = inl (Keeps-refl old)
+pub test_ladder_refused : (source : SourceValue) (words : List (List ℕ)) (dt : ℕ) (form : Form) (old : Option (List ℕ)) (fault : TextCommandFault) → RefusesFrom source fault
+    → ExplainsTest source words dt form old old fault
+test_ladder_refused source words dt form old (Text fault) refused = (refused, Keeps-refl old)
+test_ladder_refused source words dt form old (Word fault) refused = (inl refused, Keeps-refl old)
+test_ladder_refused source words dt form old Write refused = absurd refused
+test_ladder_refused source words dt form old Memory refused = inl (Keeps-refl old)
 
-pub test_words_refused : (drawing : List ℕ) (words : List (List ℕ)) (dt : ℕ) (form : Form) (old : Option (List ℕ)) (ds : List Declaration) (networks : List Diagram) (fault : TextCommandFault)
-    → IsLadderOfDrawing drawing ds networks → RefusesTest ds words fault → ExplainsTest drawing words dt form old old fault
-test_words_refused drawing words dt form old ds networks (Text fault) ladder refused = absurd refused
-test_words_refused drawing words dt form old ds networks (Word fault) ladder refused = (record { declarations = ds; networks = networks; ladder = ladder; first = refused }, Keeps-refl old)
-test_words_refused drawing words dt form old ds networks Write ladder refused = absurd refused
-test_words_refused drawing words dt form old ds networks Memory ladder refused = inl (Keeps-refl old)
+pub test_words_refused : (source : SourceValue) (words : List (List ℕ)) (dt : ℕ) (form : Form) (old : Option (List ℕ)) (ds : List Declaration) (networks : List Diagram) (fault : TextCommandFault)
+    → IsLadderFrom source ds networks → RefusesTest ds words fault → ExplainsTest source words dt form old old fault
+test_words_refused source words dt form old ds networks (Text fault) ladder refused = absurd refused
+test_words_refused source words dt form old ds networks (Word fault) ladder refused = (inr (record { declarations = ds; networks = networks; ladder = ladder; first = refused }), Keeps-refl old)
+test_words_refused source words dt form old ds networks Write ladder refused = absurd refused
+test_words_refused source words dt form old ds networks Memory ladder refused = inl (Keeps-refl old)
 
 -- the parts of a trace
 pub test_traced : (drawing : List ℕ) (ds : List Declaration) (networks : List Diagram) (dt : ℕ) (form : Form) (rows expected : List SeriesValue) (scans : ℕ) (states : List StateValue) (text : List ℕ)
@@ -57,11 +58,11 @@ test_traced drawing ds networks dt form rows expected scans states text found ma
     }
 
 -- a test of which all was traced
-pub test_written : (drawing : List ℕ) (words : List (List ℕ)) (dt : ℕ) (form : Form) (old new : Option (List ℕ)) (ds : List Declaration) (networks : List Diagram) (rows expected : List SeriesValue)
-    (text : List ℕ) (found : Option Difference) → IsLadderOfDrawing drawing ds networks → SpellTest ds words rows expected → IsTestTrace drawing ds networks dt form rows expected text found
-    → Appends old new text → WritesTest drawing words dt form old new found
-test_written drawing words dt form old new ds networks rows expected text found ladder read traced appended = record {
-  asked = record { declarations = ds; networks = networks; ladder = ladder; rows = rows; expected = expected; read = read };
+pub test_written : (source : SourceValue) (drawing : List ℕ) (words : List (List ℕ)) (dt : ℕ) (form : Form) (old new : Option (List ℕ)) (ds : List Declaration) (networks : List Diagram) (rows expected : List SeriesValue)
+    (text : List ℕ) (found : Option Difference) → IsLadderFrom source ds networks × IsDrawingFrom source drawing → SpellTest ds words rows expected → IsTestTrace drawing ds networks dt form rows expected text found
+    → Appends old new text → WritesTest source words dt form old new found
+test_written source drawing words dt form old new ds networks rows expected text found ladder read traced appended = record {
+  asked = record { declarations = ds; networks = networks; ladder = ladder.0; drawing = drawing; drawn = ladder.1; rows = rows; expected = expected; read = read };
   made = traced.made;
   all = traced.all;
   text = text;
@@ -70,11 +71,11 @@ test_written drawing words dt form old new ds networks rows expected text found 
   outcome = traced.outcome;
 }
 
-pub test_cut : (drawing : List ℕ) (words : List (List ℕ)) (dt : ℕ) (form : Form) (old new : Option (List ℕ)) (ds : List Declaration) (networks : List Diagram) (rows expected : List SeriesValue)
-    (text : List ℕ) (found : Option Difference) → IsLadderOfDrawing drawing ds networks → SpellTest ds words rows expected → IsTestTrace drawing ds networks dt form rows expected text found
-    → SendsLess text old new → ExplainsTest drawing words dt form old new Write
-test_cut drawing words dt form old new ds networks rows expected text found ladder read traced less = record {
-  asked = record { declarations = ds; networks = networks; ladder = ladder; rows = rows; expected = expected; read = read };
+pub test_cut : (source : SourceValue) (drawing : List ℕ) (words : List (List ℕ)) (dt : ℕ) (form : Form) (old new : Option (List ℕ)) (ds : List Declaration) (networks : List Diagram) (rows expected : List SeriesValue)
+    (text : List ℕ) (found : Option Difference) → IsLadderFrom source ds networks × IsDrawingFrom source drawing → SpellTest ds words rows expected → IsTestTrace drawing ds networks dt form rows expected text found
+    → SendsLess text old new → ExplainsTest source words dt form old new Write
+test_cut source drawing words dt form old new ds networks rows expected text found ladder read traced less = record {
+  asked = record { declarations = ds; networks = networks; ladder = ladder.0; drawing = drawing; drawn = ladder.1; rows = rows; expected = expected; read = read };
   made = traced.made;
   all = λ yes. traced.all;
   text = text;
@@ -83,14 +84,14 @@ test_cut drawing words dt form old new ds networks rows expected text found ladd
 }
 
 -- what was cut off was the text of some scans
-stream_cut : (drawing : List ℕ) (words : List (List ℕ)) (dt : ℕ) (form : Form) (old new : Option (List ℕ)) (ds : List Declaration) (networks : List Diagram) (rows expected : List SeriesValue)
-    (made : SomeTrace ds networks dt rows (test_scans rows expected)) (text : List ℕ) (fault : SendFault) → is_chart form ≡ false → IsLadderOfDrawing drawing ds networks → SpellTest ds words rows expected
-    → IsTextOf form drawing made text → Stops fault text old new → ExplainsTest drawing words dt form old new (sending_fault fault)
-stream_cut drawing words dt form old new ds networks rows expected made text fault plain ladder read text_is stopped = told fault stopped
+stream_cut : (source : SourceValue) (drawing : List ℕ) (words : List (List ℕ)) (dt : ℕ) (form : Form) (old new : Option (List ℕ)) (ds : List Declaration) (networks : List Diagram) (rows expected : List SeriesValue)
+    (made : SomeTrace ds networks dt rows (test_scans rows expected)) (text : List ℕ) (fault : SendFault) → is_chart form ≡ false → IsLadderFrom source ds networks × IsDrawingFrom source drawing → SpellTest ds words rows expected
+    → IsTextOf form drawing made text → Stops fault text old new → ExplainsTest source words dt form old new (sending_fault fault)
+stream_cut source drawing words dt form old new ds networks rows expected made text fault plain ladder read text_is stopped = told fault stopped
   where
-    part : (fault : SendFault) → Stops fault text old new → StopsTest fault drawing words dt form old new
+    part : (fault : SendFault) → Stops fault text old new → StopsTest fault source words dt form old new
     part fault stopped = record {
-      asked = record { declarations = ds; networks = networks; ladder = ladder; rows = rows; expected = expected; read = read };
+      asked = record { declarations = ds; networks = networks; ladder = ladder.0; drawing = drawing; drawn = ladder.1; rows = rows; expected = expected; read = read };
       made = made;
       all = λ yes. absurd (let no : ⊥ = cc in no);
       text = text;
@@ -98,17 +99,17 @@ stream_cut drawing words dt form old new ds networks rows expected made text fau
       stopped = stopped;
     }
 
-    told : (fault : SendFault) → Stops fault text old new → ExplainsTest drawing words dt form old new (sending_fault fault)
+    told : (fault : SendFault) → Stops fault text old new → ExplainsTest source words dt form old new (sending_fault fault)
     told sending.Write stopped = part sending.Write stopped
     told sending.Memory stopped = inr (part sending.Memory stopped)
 
-pub rows_written : (drawing : List ℕ) (words : List (List ℕ)) (dt : ℕ) (form : Form) (old new : Option (List ℕ)) (ds : List Declaration) (networks : List Diagram) (rows expected : List SeriesValue)
-    (scans : ℕ) (found : Option Difference) → form ≡ Rows → scans ≡ test_scans rows expected → IsLadderOfDrawing drawing ds networks → SpellTest ds words rows expected
-    → WritesRun ds networks dt rows expected scans old new found → WritesTest drawing words dt form old new found
-rows_written drawing words dt form old new ds networks rows expected scans found plain many ladder read run =
+pub rows_written : (source : SourceValue) (drawing : List ℕ) (words : List (List ℕ)) (dt : ℕ) (form : Form) (old new : Option (List ℕ)) (ds : List Declaration) (networks : List Diagram) (rows expected : List SeriesValue)
+    (scans : ℕ) (found : Option Difference) → form ≡ Rows → scans ≡ test_scans rows expected → IsLadderFrom source ds networks × IsDrawingFrom source drawing → SpellTest ds words rows expected
+    → WritesRun ds networks dt rows expected scans old new found → WritesTest source words dt form old new found
+rows_written source drawing words dt form old new ds networks rows expected scans found plain many ladder read run =
     let written = subst (λ n. WritesRun ds networks dt rows expected n old new found) many run in
     rw plain (record {
-      asked = record { declarations = ds; networks = networks; ladder = ladder; rows = rows; expected = expected; read = read };
+      asked = record { declarations = ds; networks = networks; ladder = ladder.0; drawing = drawing; drawn = ladder.1; rows = rows; expected = expected; read = read };
       made = written.0.made;
       all = written.0.all;
       text = flat_map (line_of ds) written.0.made.states;
@@ -117,12 +118,12 @@ rows_written drawing words dt form old new ds networks rows expected scans found
       outcome = written.1;
     })
 
-pub rows_stopped : (drawing : List ℕ) (words : List (List ℕ)) (dt : ℕ) (form : Form) (old new : Option (List ℕ)) (ds : List Declaration) (networks : List Diagram) (rows expected : List SeriesValue)
-    (scans : ℕ) (fault : SendFault) → form ≡ Rows → scans ≡ test_scans rows expected → IsLadderOfDrawing drawing ds networks → SpellTest ds words rows expected
-    → StopsScans ds networks dt rows scans fault old new → ExplainsTest drawing words dt form old new (sending_fault fault)
-rows_stopped drawing words dt form old new ds networks rows expected scans fault plain many ladder read stops =
+pub rows_stopped : (source : SourceValue) (drawing : List ℕ) (words : List (List ℕ)) (dt : ℕ) (form : Form) (old new : Option (List ℕ)) (ds : List Declaration) (networks : List Diagram) (rows expected : List SeriesValue)
+    (scans : ℕ) (fault : SendFault) → form ≡ Rows → scans ≡ test_scans rows expected → IsLadderFrom source ds networks × IsDrawingFrom source drawing → SpellTest ds words rows expected
+    → StopsScans ds networks dt rows scans fault old new → ExplainsTest source words dt form old new (sending_fault fault)
+rows_stopped source drawing words dt form old new ds networks rows expected scans fault plain many ladder read stops =
     let stopped = subst (λ n. StopsScans ds networks dt rows n fault old new) many stops in
-    rw plain (stream_cut drawing words dt Rows old new ds networks rows expected stopped.made (flat_map (line_of ds) stopped.made.states) fault refl ladder read refl stopped.stopped)
+    rw plain (stream_cut source drawing words dt Rows old new ds networks rows expected stopped.made (flat_map (line_of ds) stopped.made.states) fault refl ladder read refl stopped.stopped)
 
 -- scans that were written with their drawings are some of a test
 drawings_traced : (drawing : List ℕ) (color : Bool) (ds : List Declaration) (networks : List Diagram) (dt : ℕ) (rows : List SeriesValue) (few most : ℕ) (made : SomeShown drawing color ds networks dt rows few) → few ≤ most
@@ -135,14 +136,14 @@ drawings_traced drawing color ds networks dt rows few most made less = record {
   few = let little = made.few in omega arith;
 }
 
-pub drawings_written : (drawing : List ℕ) (words : List (List ℕ)) (dt : ℕ) (form : Form) (color : Bool) (old new : Option (List ℕ)) (ds : List Declaration) (networks : List Diagram) (rows expected : List SeriesValue)
-    (scans : ℕ) (found : Option Difference) → form ≡ Drawings color → scans ≡ test_scans rows expected → IsLadderOfDrawing drawing ds networks → SpellTest ds words rows expected
-    → WritesShown drawing color ds networks dt rows expected scans old new found → WritesTest drawing words dt form old new found
+pub drawings_written : (source : SourceValue) (drawing : List ℕ) (words : List (List ℕ)) (dt : ℕ) (form : Form) (color : Bool) (old new : Option (List ℕ)) (ds : List Declaration) (networks : List Diagram) (rows expected : List SeriesValue)
+    (scans : ℕ) (found : Option Difference) → form ≡ Drawings color → scans ≡ test_scans rows expected → IsLadderFrom source ds networks × IsDrawingFrom source drawing → SpellTest ds words rows expected
+    → WritesShown drawing color ds networks dt rows expected scans old new found → WritesTest source words dt form old new found
 unfolding drawings_traced
-drawings_written drawing words dt form color old new ds networks rows expected scans found shows many ladder read shown =
+drawings_written source drawing words dt form color old new ds networks rows expected scans found shows many ladder read shown =
     let written = subst (λ n. WritesShown drawing color ds networks dt rows expected n old new found) many shown in
     rw shows (record {
-      asked = record { declarations = ds; networks = networks; ladder = ladder; rows = rows; expected = expected; read = read };
+      asked = record { declarations = ds; networks = networks; ladder = ladder.0; drawing = drawing; drawn = ladder.1; rows = rows; expected = expected; read = read };
       made = drawings_traced drawing color ds networks dt rows (test_scans rows expected) (test_scans rows expected) written.made (omega arith);
       all = written.all;
       text = written.made.text;
@@ -151,13 +152,13 @@ drawings_written drawing words dt form color old new ds networks rows expected s
       outcome = written.outcome;
     })
 
-pub drawings_stopped : (drawing : List ℕ) (words : List (List ℕ)) (dt : ℕ) (form : Form) (color : Bool) (old new : Option (List ℕ)) (ds : List Declaration) (networks : List Diagram) (rows expected : List SeriesValue)
-    (scans : ℕ) (fault : SendFault) → form ≡ Drawings color → scans ≡ test_scans rows expected → IsLadderOfDrawing drawing ds networks → SpellTest ds words rows expected
-    → StopsShown drawing color ds networks dt rows scans fault old new → ExplainsTest drawing words dt form old new (sending_fault fault)
+pub drawings_stopped : (source : SourceValue) (drawing : List ℕ) (words : List (List ℕ)) (dt : ℕ) (form : Form) (color : Bool) (old new : Option (List ℕ)) (ds : List Declaration) (networks : List Diagram) (rows expected : List SeriesValue)
+    (scans : ℕ) (fault : SendFault) → form ≡ Drawings color → scans ≡ test_scans rows expected → IsLadderFrom source ds networks × IsDrawingFrom source drawing → SpellTest ds words rows expected
+    → StopsShown drawing color ds networks dt rows scans fault old new → ExplainsTest source words dt form old new (sending_fault fault)
 unfolding drawings_traced
-drawings_stopped drawing words dt form color old new ds networks rows expected scans fault shows many ladder read stops =
+drawings_stopped source drawing words dt form color old new ds networks rows expected scans fault shows many ladder read stops =
     let stopped = subst (λ n. StopsShown drawing color ds networks dt rows n fault old new) many stops in
-    rw shows (stream_cut drawing words dt (Drawings color) old new ds networks rows expected
+    rw shows (stream_cut source drawing words dt (Drawings color) old new ds networks rows expected
     (drawings_traced drawing color ds networks dt rows (test_scans rows expected) (test_scans rows expected) stopped.made (omega arith)) stopped.made.text fault refl ladder read stopped.made.shown stopped.stopped)
 
 -- a trace, and its lines

@@ -18,7 +18,7 @@ use Rattle.traces.specs.Diagram.{diagram_of}
 use Rattle.traces.specs.Wanted.{AreTexts, is_nothing}
 use Rattle.text_commands.specs.Series.{SeriesValue}
 use Rattle.text_commands.specs.Expectations.{SpellTest, test_scans}
-use Rattle.text_commands.specs.EvalText.{IsLadderOfDrawing}
+use Rattle.text_commands.specs.Sources.{IsDrawingFrom, IsLadderFrom, SourceValue}
 use Rattle.text_commands.specs.TestText.{IsOutcome}
 use Rattle.text_commands.specs.declared.form.Form.{Form}
 use Rattle.text_commands.specs.declared.traced.Traced.{Traced}
@@ -61,12 +61,12 @@ traced_whole drawing ds networks dt form wanted rows expected scans states text 
     }
 
 -- a test of which all was traced and written
-pub traced_written : (drawing : List ℕ) (words : List (List ℕ)) (dt : ℕ) (form : Form) (wanted : Wanted) (old new : Option (List ℕ)) (ds : List Declaration) (networks : List Diagram) (rows expected : List SeriesValue)
-    (text : List ℕ) (traced : Traced) → IsLadderOfDrawing drawing ds networks → SpellTest ds words rows expected → IsTracedTest drawing ds networks dt form wanted rows expected text traced → Appends old new text
-    → WritesTraced drawing words dt form wanted old new traced
-traced_written drawing words dt form wanted old new ds networks rows expected text traced ladder read is appended = record {
+pub traced_written : (source : SourceValue) (drawing : List ℕ) (words : List (List ℕ)) (dt : ℕ) (form : Form) (wanted : Wanted) (old new : Option (List ℕ)) (ds : List Declaration) (networks : List Diagram) (rows expected : List SeriesValue)
+    (text : List ℕ) (traced : Traced) → IsLadderFrom source ds networks × IsDrawingFrom source drawing → SpellTest ds words rows expected → IsTracedTest drawing ds networks dt form wanted rows expected text traced → Appends old new text
+    → WritesTraced source words dt form wanted old new traced
+traced_written source drawing words dt form wanted old new ds networks rows expected text traced ladder read is appended = record {
   test = record {
-    asked = record { declarations = ds; networks = networks; ladder = ladder; rows = rows; expected = expected; read = read };
+    asked = record { declarations = ds; networks = networks; ladder = ladder.0; drawing = drawing; drawn = ladder.1; rows = rows; expected = expected; read = read };
     made = is.test.made;
     all = is.test.all;
     text = text;

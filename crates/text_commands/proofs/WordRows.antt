@@ -10,7 +10,7 @@ use Rattle.std.specs.List.{AllZip}
 use Rattle.lists.proofs.Zips.{zip_length, zip_push}
 use Rattle.declared_names.specs.declared.declarations.Declaration.{Declaration}
 use Rattle.text_commands.specs.declared.word_fault.WordFaultKind.{WordFaultKind}
-use Rattle.text_commands.specs.declared.word_fault.WordFaultKind.TheVariants.{NoVariable, BadDigits, BadNumbers, BadDurations, Twice}
+use Rattle.text_commands.specs.declared.word_fault.WordFaultKind.TheVariants.{NoVariable, BadDigits, BadNumbers, BadDurations, Twice, NoProgram}
 use Rattle.text_commands.specs.Rows.{RowValue, IsRow, SpellRows, AreOfDistinctVariables, IsRefusedFor, IsFirstRefused, texts}
 
 pub zip_at : {X Y : Type 0} (R : X → Y → Type 0) (xs : List X) (ys : List Y) (i : ℕ) (d : X) (e : Y) → AllZip R xs ys → i < length ys → R (get_or xs i d) (get_or ys i e)
@@ -60,6 +60,7 @@ refused_behind ds rows word BadDigits refused = refused
 refused_behind ds rows word BadNumbers refused = refused
 refused_behind ds rows word BadDurations refused = refused
 refused_behind ds rows word Twice (row, is, (j, other, within, at, same)) = absurd (omega arith)
+refused_behind ds rows word NoProgram refused = refused
 
 -- the words before are rows, and this one is refused
 pub first_refused : (ds : List Declaration) (words : List (Bor (List ℕ))) (n : ℕ) (d : Bor (List ℕ)) (before : List RowValue) (kind : WordFaultKind) → n < length words

@@ -25,7 +25,6 @@ use Rattle.text_commands.specs.declared.text_command_fault.TextCommandFault.{Tex
 use Rattle.text_commands.specs.declared.text_command_fault.TextCommandFault.TheVariants.{Text, Word, Write, Memory}
 use Rattle.text_commands.specs.declared.text_fault.TextFault.{TextFault}
 use Rattle.text_commands.specs.declared.text_fault.TextFault.TheVariants.{Draw, Graph, Bind, Plant, TooLong}
-use Rattle.text_commands.specs.Rows.{SpellNoRows, IsFirstRefused}
 use Rattle.text_commands.specs.Series.{SeriesValue, SpellSettings, SpellNoSettings, IsFirstRefusedSetting, scans_of}
 use Rattle.text_commands.specs.Trace.{SomeTrace}
 use Rattle.text_commands.specs.Lines.{line_of}
@@ -89,14 +88,6 @@ abbrev pub StopsSome : SendFault → List ℕ → List (List ℕ) → ℕ → Op
 StopsSome fault drawing words dt old new =
     (asked : Asked drawing words)
     × StopsScans asked.declarations asked.networks dt asked.rows (scans_of asked.rows) fault old new
-
--- the words are no rows of digits for the drawing's ladder, and this is the first fault
-pub record RefusesWords (drawing : List ℕ) (words : List (List ℕ)) (fault : WordFault) : Type 0 where
-  pub declarations : List Declaration
-  pub networks : List Diagram
-  pub ladder : IsLadderOfDrawing drawing declarations networks
-  pub refused : SpellNoRows declarations words
-  pub first : IsFirstRefused declarations words fault
 
 -- the words set nothing that the drawing's ladder has, and this is the first fault
 pub record RefusesSettings (drawing : List ℕ) (words : List (List ℕ)) (fault : WordFault) : Type 0 where

@@ -10,6 +10,7 @@ pub mod Trace
 pub mod Chart
 pub mod LiveDrawing
 pub mod Shown
+pub mod Sources
 pub mod TestText
 pub mod Traced
 pub mod Giving

@@ -10,7 +10,7 @@ use Rattle.declared_names.specs.declared.declarations.Kind.TheVariants as kind
 use Rattle.declared_names.specs.Names.{place_of}
 use Rattle.text_commands.specs.declared.word_fault.WordFault.{WordFault}
 use Rattle.text_commands.specs.declared.word_fault.WordFaultKind.{WordFaultKind}
-use Rattle.text_commands.specs.declared.word_fault.WordFaultKind.TheVariants.{NoVariable, BadDigits, BadNumbers, BadDurations, Twice}
+use Rattle.text_commands.specs.declared.word_fault.WordFaultKind.TheVariants.{NoVariable, BadDigits, BadNumbers, BadDurations, Twice, NoProgram}
 
 -- the place of a BOOL variable, and a digit for each of the first scans
 pub record RowValue : Type 0 where
@@ -88,6 +88,7 @@ IsRefusedFor ds rows word NoVariable = HasEquals word × (NamesBool ds word → 
 IsRefusedFor ds rows word BadDigits = (HasEquals word → ⊥) ⊎ (NamesBool ds word × (AreDigits (digits_in word) → ⊥))
 IsRefusedFor ds rows word BadNumbers = ⊥
 IsRefusedFor ds rows word BadDurations = ⊥
+IsRefusedFor ds rows word NoProgram = ⊥
 IsRefusedFor ds rows word Twice = (row : RowValue) × IsRow ds word row × Any (λ other. other.place ≡ row.place) rows
 
 -- the fault is of the first word that is refused: those before it are rows

@@ -16,7 +16,7 @@ use Rattle.declared_names.specs.Kinds.{kind_of}
 use Rattle.declared_names.specs.Names.{place_of}
 use Rattle.text_commands.specs.declared.word_fault.WordFault.{WordFault}
 use Rattle.text_commands.specs.declared.word_fault.WordFaultKind.{WordFaultKind}
-use Rattle.text_commands.specs.declared.word_fault.WordFaultKind.TheVariants.{NoVariable, BadDigits, BadNumbers, BadDurations, Twice}
+use Rattle.text_commands.specs.declared.word_fault.WordFaultKind.TheVariants.{NoVariable, BadDigits, BadNumbers, BadDurations, Twice, NoProgram}
 use Rattle.text_commands.specs.Rows.{AreDigits, HasEquals, name_in, digits_in}
 
 -- the place of a variable, and a value for each of the first scans
@@ -121,6 +121,7 @@ IsRefusedSeries ds before name text BadNumbers = IsBad kind.Int ds name text
 IsRefusedSeries ds before name text BadDurations = IsBad kind.Time ds name text
 IsRefusedSeries ds before name text Twice =
     (series : SeriesValue) × IsSeries ds name text series × Any (λ other. other.place ≡ series.place) before
+IsRefusedSeries ds before name text NoProgram = ⊥
 
 -- why a word NAME=VALUES is refused behind these: it has no `=`, or for what stands before and behind its first one
 abbrev pub IsRefusedSetting : List Declaration → List SeriesValue → List ℕ → WordFaultKind → Type 0

@@ -1,4 +1,4 @@
--- Steps of the proofs. Only contracts inside this crate cite them, and proofs of `verifying`, so no reader has to
+-- Steps of the proofs. Only contracts inside this crate cite them, and those of `verifying`, so no reader has to
 -- believe them.
 pub mod Refusing
 pub mod Joining
@@ -9,3 +9,4 @@ pub mod Showing
 pub mod Tracing
 pub mod Setting
 pub mod PlantRefusing
+pub mod Sources

@@ -22,7 +22,7 @@ use Rattle.text_commands.specs.Chart.{chart_of}
 use Rattle.text_commands.specs.Shown.{IsShown}
 use Rattle.text_commands.specs.Trace.{SomeTrace}
 use Rattle.text_commands.specs.Expectations.{SpellTest, IsFirstRefusedOf, test_scans}
-use Rattle.text_commands.specs.EvalText.{IsLadderOfDrawing, RefusesDrawing}
+use Rattle.text_commands.specs.Sources.{IsDrawingFrom, IsLadderFrom, RefusesName, RefusesSource, SourceValue}
 
 -- After scan k, counted from 0, a variable has this value, and another one is expected. Behind its last value nothing is
 -- expected of it.
@@ -89,47 +89,52 @@ IsTextOf (Drawings color) drawing {ds} {networks} {dt} {rows} made text =
     IsShown drawing color ds networks dt rows made.states made.slots made.memories text
 IsTextOf Chart drawing {ds} made text = text ≡ chart_of ds made.states
 
--- the ladder of the drawing, and what the words are for it
-pub record AskedTest (drawing : List ℕ) (words : List (List ℕ)) : Type 0 where
+-- the ladder of the source with its drawing, and what the words are for it
+pub record AskedTest (source : SourceValue) (words : List (List ℕ)) : Type 0 where
   pub declarations : List Declaration
   pub networks : List Diagram
-  pub ladder : IsLadderOfDrawing drawing declarations networks
+  pub ladder : IsLadderFrom source declarations networks
+  pub drawing : List ℕ
+  pub drawn : IsDrawingFrom source drawing
   pub rows : List SeriesValue
   pub expected : List SeriesValue
   pub read : SpellTest declarations words rows expected
 
 -- all scans were made, their text was written, and this is what came of what was expected
-pub record WritesTest (drawing : List ℕ) (words : List (List ℕ)) (dt : ℕ) (form : Form) (old new : Option (List ℕ))
+pub record WritesTest (source : SourceValue) (words : List (List ℕ)) (dt : ℕ) (form : Form) (old new : Option (List ℕ))
     (found : Option Difference) : Type 0 where
-  pub asked : AskedTest drawing words
+  pub asked : AskedTest source words
   pub made : SomeTrace asked.declarations asked.networks dt asked.rows (test_scans asked.rows asked.expected)
   pub all : length made.states ≡ test_scans asked.rows asked.expected
   pub text : List ℕ
-  pub text_is : IsTextOf form drawing made text
+  pub text_is : IsTextOf form asked.drawing made text
   pub appended : Appends old new text
   pub outcome : IsOutcome asked.declarations asked.expected made.states found
 
 -- the text of some of the scans, of a chart that of all, didn't go out whole
-pub record StopsTest (fault : SendFault) (drawing : List ℕ) (words : List (List ℕ)) (dt : ℕ) (form : Form)
+pub record StopsTest (fault : SendFault) (source : SourceValue) (words : List (List ℕ)) (dt : ℕ) (form : Form)
     (old new : Option (List ℕ)) : Type 0 where
-  pub asked : AskedTest drawing words
+  pub asked : AskedTest source words
   pub made : SomeTrace asked.declarations asked.networks dt asked.rows (test_scans asked.rows asked.expected)
   pub all : IsTrue (is_chart form) → length made.states ≡ test_scans asked.rows asked.expected
   pub text : List ℕ
-  pub text_is : IsTextOf form drawing made text
+  pub text_is : IsTextOf form asked.drawing made text
   pub stopped : Stops fault text old new
 
--- the words are no test of the drawing's ladder, and this is the first fault
-pub record RefusesTestWords (drawing : List ℕ) (words : List (List ℕ)) (fault : WordFault) : Type 0 where
+-- the words are no test of the source's ladder, and this is the first fault
+pub record RefusesTestWords (source : SourceValue) (words : List (List ℕ)) (fault : WordFault) : Type 0 where
   pub declarations : List Declaration
   pub networks : List Diagram
-  pub ladder : IsLadderOfDrawing drawing declarations networks
+  pub ladder : IsLadderFrom source declarations networks
   pub first : IsFirstRefusedOf declarations words fault
 
--- why there was a fault, and what was written before: nothing before a fault of the text or of the words
-abbrev pub ExplainsTest : List ℕ → List (List ℕ) → ℕ → Form → Option (List ℕ) → Option (List ℕ) → TextCommandFault → Type 0
-ExplainsTest drawing words dt form old new (Text fault) = RefusesDrawing drawing fault × Keeps old new
-ExplainsTest drawing words dt form old new (Word fault) = RefusesTestWords drawing words fault × Keeps old new
-ExplainsTest drawing words dt form old new Write = StopsTest sending.Write drawing words dt form old new
-ExplainsTest drawing words dt form old new Memory =
-    Keeps old new ⊎ StopsTest sending.Memory drawing words dt form old new
+-- why there was a fault, and what was written before: nothing before a fault of the text, of the name of a program type or
+-- of the words
+abbrev pub ExplainsTest : SourceValue → List (List ℕ) → ℕ → Form → Option (List ℕ) → Option (List ℕ) → TextCommandFault
+    → Type 0
+ExplainsTest source words dt form old new (Text fault) = RefusesSource source fault × Keeps old new
+ExplainsTest source words dt form old new (Word fault) =
+    (RefusesName source fault ⊎ RefusesTestWords source words fault) × Keeps old new
+ExplainsTest source words dt form old new Write = StopsTest sending.Write source words dt form old new
+ExplainsTest source words dt form old new Memory =
+    Keeps old new ⊎ StopsTest sending.Memory source words dt form old new

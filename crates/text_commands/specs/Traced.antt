@@ -1,4 +1,4 @@
--- What the files of a trace show of the scans of a drawing.
+-- What the files of a trace show of the scans of a ladder.
 use Rattle.std.specs.Prelude.{ℕ, zero, suc, ◌==◌, ◌++◌, if◌then◌else◌, List, [], ◌∷◌, Option, None, length, slice_get}
 use Rattle.std.specs.Option.{option_map_or}
 use Rattle.declared_names.specs.declared.declarations.Declaration.{Declaration}
@@ -10,6 +10,7 @@ use Rattle.traces.specs.Wanted.{AreTexts}
 use Rattle.text_commands.specs.Chart.{is_variable, values_at}
 use Rattle.text_commands.specs.declared.form.Form.{Form}
 use Rattle.text_commands.specs.declared.traced.Traced.{Traced}
+use Rattle.text_commands.specs.Sources.{SourceValue}
 use Rattle.text_commands.specs.TestText.{WritesTest}
 
 -- a variable with its value after each scan; of an instance nothing is shown
@@ -32,8 +33,8 @@ step_of dt = if dt == 0 then 1 else dt
 
 -- all scans were made, their text was written, what came of what was expected is this; and these are the texts that are
 -- wanted, over the scans and their variables
-pub record WritesTraced (drawing : List ℕ) (words : List (List ℕ)) (dt : ℕ) (form : Form) (wanted : Wanted)
+pub record WritesTraced (source : SourceValue) (words : List (List ℕ)) (dt : ℕ) (form : Form) (wanted : Wanted)
     (old new : Option (List ℕ)) (traced : Traced) : Type 0 where
-  pub test : WritesTest drawing words dt form old new traced.difference
+  pub test : WritesTest source words dt form old new traced.difference
   pub texts : AreTexts wanted (each (step_of dt)) (length test.made.states)
       (tracks_of test.asked.declarations test.made.states) traced.texts

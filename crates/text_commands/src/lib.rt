@@ -1,4 +1,4 @@
-//! The commands that need one text alone: `eval` a drawing, `check` a plant, tell its plan.
+//! The commands that need one text alone: `eval` a drawing or a program type, `check` a plant, tell its plan.
 #![tactic(auto)]
 
 mod chart;
@@ -10,6 +10,7 @@ mod expectations;
 mod form;
 mod item;
 mod items;
+mod ladder_source;
 mod line;
 mod live_drawing;
 mod once;
@@ -17,11 +18,13 @@ mod plan_command;
 mod plan_form;
 mod plan_lines;
 mod plant_counts;
+mod program_types;
 mod row;
 mod rows;
 mod series;
 mod settings;
 mod shown_scans;
+mod source_ladder;
 mod test_command;
 mod test_words;
 mod text_command_fault;
@@ -36,12 +39,15 @@ pub use comments::without_comments;
 pub use difference::Difference;
 pub use eval_command::{eval, read_ladder};
 pub use form::Form;
+pub use ladder_source::LadderSource;
 pub use line::state_line;
 pub use plan_command::{plan_of, plan_text};
 pub use plan_form::PlanForm;
 pub use plan_lines::interval_of;
+pub use program_types::read_program;
 pub use row::{Row, is_bool_variable};
 pub use rows::read_rows;
+pub use source_ladder::no_program;
 pub use test_command::eval_test;
 pub use text_command_fault::TextCommandFault;
 pub use text_fault::TextFault;

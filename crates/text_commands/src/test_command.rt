@@ -4,16 +4,19 @@ ghost use Rattle.text_commands.specs.Rows.{texts};
 ghost use Rattle.text_commands.specs.Series.{IsOfVariable};
 ghost use Rattle.text_commands.specs.Lines.{line_of};
 ghost use Rattle.text_commands.specs.Chart.{chart_of};
+ghost use Rattle.text_commands.specs.Sources.{source_of};
 ghost use Rattle.text_commands.specs.TestText.{WritesTest, ExplainsTest};
 ghost use Rattle.text_commands.specs.Steps.Testing.{IsFormTrace, IsTestTrace, IsTraceOf, slots_of};
 
 use crate::chart::{chart_text, rows_text};
 use crate::difference::Difference;
-use crate::eval_command::{read_ladder, set_rows, write_scans};
+use crate::eval_command::{set_rows, write_scans};
 use crate::expectations::first_difference;
 use crate::form::Form;
+use crate::ladder_source::LadderSource;
 use crate::series::Series;
 use crate::shown_scans::{trace_drawings, write_drawings};
+use crate::source_ladder::read_source;
 use crate::test_words::{TestWords, read_test_words, test_scan_count};
 use crate::text_command_fault::TextCommandFault;
 use power_flow::{Ladder, State};
@@ -120,7 +123,7 @@ fn trace_test(
     Ok((text, found))
 }
 
-/// Evaluates a drawing, and looks whether all is as the words expect; the first difference, if there is one.
+/// Evaluates the ladder of a source, and looks whether all is as the words expect; the first difference, if there is one.
 ///
 /// A word NAME=VALUES sets its variable before scan k to the k-th value, and a word NAME==VALUES tells what it is to be after
 /// it; behind the last value nothing is set, and nothing expected. There are as many scans as the longest of all words has
@@ -128,34 +131,36 @@ fn trace_test(
 /// milliseconds. The form says what is written of the scans, each as it comes. Where a chart is asked for, nothing is written
 /// before the last scan.
 ///
-/// `Text` and `Word` come before anything is written. After `Write` what went out is a prefix and not all, after `Memory`
+/// `Text` and `Word` come before anything is written; a plant that has no program type of the name is a `Word`. After `Write` what went out is a prefix and not all, after `Memory`
 /// a prefix.
 pub fn eval_test<W: Write>(
     alloc: Global,
-    drawing: &str,
+    source: LadderSource<'_>,
     words: &[&str],
     dt: u32,
     form: Form,
     writer: &mut W,
 ) -> Result<Option<Difference>, TextCommandFault>
     ensures ok { IfOk result
-        (WritesTest drawing.now (texts words.now) dt form (W.contents writer.old) (W.contents writer.new)) }
+        (WritesTest (source_of source.entry) (texts words.now) dt form (W.contents writer.old) (W.contents writer.new)) }
     ensures fault { IfErr result
-        (ExplainsTest drawing.now (texts words.now) dt form (W.contents writer.old) (W.contents writer.new)) }
+        (ExplainsTest (source_of source.entry) (texts words.now) dt form (W.contents writer.old) (W.contents writer.new)) }
 {
-    let ladder = read_ladder(alloc, drawing)?;
+    let drawn = read_source(alloc, source)?;
+    let ladder: &Ladder = &drawn.ladder;
+    let drawing = drawn.drawing.as_str();
     let test = read_test_words(alloc, ladder.declarations(), words)?;
     let scans = test_scan_count(&test);
     match form {
         Form::Rows => {
             let (rows, expected) = (&test.rows, &test.expected);
-            Ok(write_scans(alloc, &ladder, rows, expected, scans, dt, writer)?)
+            Ok(write_scans(alloc, ladder, rows, expected, scans, dt, writer)?)
         }
         Form::Drawings { color } => Ok(write_drawings(
-            alloc, &ladder, drawing, &test, scans, dt, color, writer,
+            alloc, ladder, drawing, &test, scans, dt, color, writer,
         )?),
         Form::Chart => {
-            let (text, found) = trace_test(alloc, &ladder, drawing, &test, dt, form)?;
+            let (text, found) = trace_test(alloc, ladder, drawing, &test, dt, form)?;
             write_text(writer, text.as_str())?;
             Ok(found)
         }

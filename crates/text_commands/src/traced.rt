@@ -1,7 +1,7 @@
 use crate::difference::Difference;
 use traces::TraceTexts;
 
-/// What came of the scans of a drawing: the first difference from what was expected, and the texts of their trace.
+/// What came of the scans of a ladder: the first difference from what was expected, and the texts of their trace.
 #[derive(Debug, Drop)]
 pub struct Traced {
     pub difference: Option<Difference>,

@@ -1,13 +1,15 @@
 ghost use Rattle.std.specs.Prelude.{IfOk, IfErr, All, string_bytes};
 ghost use Rattle.text_commands.specs.Rows.{texts};
 ghost use Rattle.text_commands.specs.Series.{IsOfVariable};
+ghost use Rattle.text_commands.specs.Sources.{source_of};
 ghost use Rattle.text_commands.specs.TestText.{ExplainsTest};
 ghost use Rattle.text_commands.specs.Traced.{WritesTraced};
 ghost use Rattle.text_commands.specs.Steps.Tracing.{IsTracedTest};
 
-use crate::eval_command::read_ladder;
 use crate::expectations::first_difference;
 use crate::form::Form;
+use crate::ladder_source::LadderSource;
+use crate::source_ladder::read_source;
 use crate::test_command::{eval_test, trace_form};
 use crate::test_words::{TestWords, read_test_words, test_scan_count};
 use crate::text_command_fault::TextCommandFault;
@@ -41,10 +43,10 @@ fn trace_whole(
     Ok((text, Traced { difference, texts }))
 }
 
-/// Evaluates a drawing as `eval_traced` does, where some text is wanted.
+/// Evaluates the ladder of a source as `eval_traced` does, where some text is wanted.
 fn eval_whole<W: Write>(
     alloc: Global,
-    drawing: &str,
+    source: LadderSource<'_>,
     words: &[&str],
     dt: u32,
     form: Form,
@@ -52,25 +54,27 @@ fn eval_whole<W: Write>(
     writer: &mut W,
 ) -> Result<Traced, TextCommandFault>
     ensures ok { IfOk result
-        (WritesTraced drawing.now (texts words.now) dt form wanted.entry (W.contents writer.old) (W.contents writer.new)) }
+        (WritesTraced (source_of source.entry) (texts words.now) dt form wanted.entry (W.contents writer.old) (W.contents writer.new)) }
     ensures fault { IfErr result
-        (ExplainsTest drawing.now (texts words.now) dt form (W.contents writer.old) (W.contents writer.new)) }
+        (ExplainsTest (source_of source.entry) (texts words.now) dt form (W.contents writer.old) (W.contents writer.new)) }
 {
-    let ladder = read_ladder(alloc, drawing)?;
+    let drawn = read_source(alloc, source)?;
+    let ladder: &Ladder = &drawn.ladder;
+    let drawing = drawn.drawing.as_str();
     let test = read_test_words(alloc, ladder.declarations(), words)?;
-    let (text, traced) = trace_whole(alloc, &ladder, drawing, &test, dt, form, wanted)?;
+    let (text, traced) = trace_whole(alloc, ladder, drawing, &test, dt, form, wanted)?;
     write_text(writer, text.as_str())?;
     Ok(traced)
 }
 
-/// Evaluates a drawing as `eval_test` does, and makes the texts of its trace that are wanted: of all its variables, with
+/// Evaluates the ladder of a source as `eval_test` does, and makes the texts of its trace that are wanted: of all its variables, with
 /// the value after each scan. A scan is shown for `dt` milliseconds, and for one where that is 0. The first one begins at 0.
 ///
 /// Where a text is wanted nothing is written before the last scan. After a fault there are no texts; `Text` and `Word` come
 /// before anything is written, after `Write` what went out is a prefix and not all, after `Memory` a prefix.
 pub fn eval_traced<W: Write>(
     alloc: Global,
-    drawing: &str,
+    source: LadderSource<'_>,
     words: &[&str],
     dt: u32,
     form: Form,
@@ -78,14 +82,14 @@ pub fn eval_traced<W: Write>(
     writer: &mut W,
 ) -> Result<Traced, TextCommandFault>
     ensures ok { IfOk result
-        (WritesTraced drawing.now (texts words.now) dt form wanted.entry (W.contents writer.old) (W.contents writer.new)) }
+        (WritesTraced (source_of source.entry) (texts words.now) dt form wanted.entry (W.contents writer.old) (W.contents writer.new)) }
     ensures fault { IfErr result
-        (ExplainsTest drawing.now (texts words.now) dt form (W.contents writer.old) (W.contents writer.new)) }
+        (ExplainsTest (source_of source.entry) (texts words.now) dt form (W.contents writer.old) (W.contents writer.new)) }
 {
     if !wanted.is_nothing() {
-        return eval_whole(alloc, drawing, words, dt, form, wanted, writer);
+        return eval_whole(alloc, source, words, dt, form, wanted, writer);
     }
-    match eval_test(alloc, drawing, words, dt, form, writer) {
+    match eval_test(alloc, source, words, dt, form, writer) {
         Ok(difference) => Ok(Traced {
             difference,
             texts: TraceTexts::none(),

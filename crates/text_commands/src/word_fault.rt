@@ -1,6 +1,6 @@
 use thiserror::Error;
 
-/// What is wrong with a word NAME=VALUES, NAME==VALUES or NAME=BIT.
+/// What is wrong with a word NAME=VALUES, NAME==VALUES or NAME=BIT, or with the name of a program type.
 #[derive(Clone, Copy, Debug, PartialEq, Eq, Error)]
 pub enum WordFaultKind {
     #[error("the drawing has no BOOL variable of this name")]
@@ -13,9 +13,11 @@ pub enum WordFaultKind {
     BadDurations,
     #[error("another word names the same variable")]
     Twice,
+    #[error("the plant has no program type of this name")]
+    NoProgram,
 }
 
-/// A word that is refused, by its number; words count from 0.
+/// A word that is refused, by its number; words count from 0. With the name of a program type it is 0.
 #[derive(Clone, Copy, Debug, PartialEq, Eq, Error)]
 #[error("{kind}")]
 pub struct WordFault {

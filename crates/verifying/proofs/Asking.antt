@@ -15,9 +15,10 @@ use Rattle.verifying.proofs.Premising.{constants_of}
 use Rattle.verifying.proofs.Slicing.{length-whole_row}
 use Rattle.network.specs.Links.{Diagram}
 use Rattle.declared_names.specs.declared.declarations.Declaration.{Declaration}
-use Rattle.text_commands.specs.EvalText.{IsLadderOfDrawing}
+use Rattle.text_commands.specs.Sources.{IsLadderFrom, SourceValue}
 use Rattle.text_commands.specs.Rows.{RowValue, IsRow, SpellRows, texts}
-use Rattle.text_commands.specs.Steps.Refusing.{RefusesLadder, RefusesRows}
+use Rattle.text_commands.specs.Steps.Sources.{RefusesFrom}
+use Rattle.text_commands.specs.Steps.Refusing.{RefusesRows}
 use Rattle.text_commands.specs.declared.text_command_fault.TextCommandFault.{TextCommandFault}
 use Rattle.text_commands.specs.declared.text_command_fault.TextCommandFault.TheVariants.{Text, Word, Write, Memory}
 use Rattle.needed_networks.specs.Needs.{IsIdle}
@@ -101,23 +102,23 @@ holds_none_of ds networks marks word row NotOneDigit are read is = is
 holds_none_of ds networks marks word row NoInput are read is = (are.each row.place (within_of ds row.place (row_bool ds word row read))).0 is
 
 -- why nothing was prepared
-pub text_refused : (drawing : List ℕ) (q : QuestionValue) (fault : TextCommandFault) → RefusesLadder drawing fault → RefusesPreparing drawing q (Command fault)
-text_refused drawing q (Text fault) refused = refused
-text_refused drawing q (Word fault) refused = absurd refused
-text_refused drawing q Write refused = absurd refused
-text_refused drawing q Memory refused = tt
+pub text_refused : (source : SourceValue) (q : QuestionValue) (fault : TextCommandFault) → RefusesFrom source fault → RefusesPreparing source q (Command fault)
+text_refused source q (Text fault) refused = refused
+text_refused source q (Word fault) refused = inl refused
+text_refused source q Write refused = absurd refused
+text_refused source q Memory refused = tt
 
-held_refused : (drawing : List ℕ) (q : QuestionValue) (ds : List Declaration) (networks : List Diagram) (marks : List Bool) (rows : List RowValue) (fault : VerifyFault) → IsLadderOfDrawing drawing ds networks
-    → AreLadderMarks ds networks marks → SpellRows ds q.words rows → HeldRefused marks rows fault → RefusesPreparing drawing q fault
-held_refused drawing q ds networks marks rows (Command (Text fault)) ladder are read refused = absurd refused
-held_refused drawing q ds networks marks rows (Command (Word fault)) ladder are read refused = absurd refused
-held_refused drawing q ds networks marks rows (Command Write) ladder are read refused = absurd refused
-held_refused drawing q ds networks marks rows (Command Memory) ladder are read refused = tt
-held_refused drawing q ds networks marks rows (Claim fault) ladder are read refused = absurd refused
-held_refused drawing q ds networks marks rows (Given fault) ladder are read refused = absurd refused
-held_refused drawing q ds networks marks rows (TooManyInputs count) ladder are read refused = absurd refused
-held_refused drawing q ds networks marks rows NoTime ladder are read refused = absurd refused
-held_refused drawing q ds networks marks rows (Held fault) ladder are read refused =
+held_refused : (source : SourceValue) (q : QuestionValue) (ds : List Declaration) (networks : List Diagram) (marks : List Bool) (rows : List RowValue) (fault : VerifyFault) → IsLadderFrom source ds networks
+    → AreLadderMarks ds networks marks → SpellRows ds q.words rows → HeldRefused marks rows fault → RefusesPreparing source q fault
+held_refused source q ds networks marks rows (Command (Text fault)) ladder are read refused = absurd refused
+held_refused source q ds networks marks rows (Command (Word fault)) ladder are read refused = absurd refused
+held_refused source q ds networks marks rows (Command Write) ladder are read refused = absurd refused
+held_refused source q ds networks marks rows (Command Memory) ladder are read refused = tt
+held_refused source q ds networks marks rows (Claim fault) ladder are read refused = absurd refused
+held_refused source q ds networks marks rows (Given fault) ladder are read refused = absurd refused
+held_refused source q ds networks marks rows (TooManyInputs count) ladder are read refused = absurd refused
+held_refused source q ds networks marks rows NoTime ladder are read refused = absurd refused
+held_refused source q ds networks marks rows (Held fault) ladder are read refused =
     let partner = zip_back (IsRow ds) q.words rows read.each fault.number refused.row refused.at in
     record {
       declarations = ds;
@@ -134,14 +135,14 @@ held_refused drawing q ds networks marks rows (Held fault) ladder are read refus
       };
     }
 
-claims_refused : (drawing : List ℕ) (q : QuestionValue) (ds : List Declaration) (networks : List Diagram) (marks : List Bool) (held : List Setting) (fault : VerifyFault) → IsLadderOfDrawing drawing ds networks
-    → AreLadderMarks ds networks marks → AreHeldBy ds marks q.words held → ClaimsRefused ds marks q.claims fault → RefusesPreparing drawing q fault
-claims_refused drawing q ds networks marks held (Command fault) ladder are by memory = subst (RefusesPreparing drawing q) (sym memory) tt
-claims_refused drawing q ds networks marks held (Given fault) ladder are by memory = subst (RefusesPreparing drawing q) (sym memory) tt
-claims_refused drawing q ds networks marks held (Held fault) ladder are by memory = subst (RefusesPreparing drawing q) (sym memory) tt
-claims_refused drawing q ds networks marks held (TooManyInputs count) ladder are by memory = subst (RefusesPreparing drawing q) (sym memory) tt
-claims_refused drawing q ds networks marks held NoTime ladder are by memory = subst (RefusesPreparing drawing q) (sym memory) tt
-claims_refused drawing q ds networks marks held (Claim fault) ladder are by refused = record {
+claims_refused : (source : SourceValue) (q : QuestionValue) (ds : List Declaration) (networks : List Diagram) (marks : List Bool) (held : List Setting) (fault : VerifyFault) → IsLadderFrom source ds networks
+    → AreLadderMarks ds networks marks → AreHeldBy ds marks q.words held → ClaimsRefused ds marks q.claims fault → RefusesPreparing source q fault
+claims_refused source q ds networks marks held (Command fault) ladder are by memory = subst (RefusesPreparing source q) (sym memory) tt
+claims_refused source q ds networks marks held (Given fault) ladder are by memory = subst (RefusesPreparing source q) (sym memory) tt
+claims_refused source q ds networks marks held (Held fault) ladder are by memory = subst (RefusesPreparing source q) (sym memory) tt
+claims_refused source q ds networks marks held (TooManyInputs count) ladder are by memory = subst (RefusesPreparing source q) (sym memory) tt
+claims_refused source q ds networks marks held NoTime ladder are by memory = subst (RefusesPreparing source q) (sym memory) tt
+claims_refused source q ds networks marks held (Claim fault) ladder are by refused = record {
   declarations = ds;
   networks = networks;
   ladder = ladder;
@@ -158,14 +159,14 @@ claims_refused drawing q ds networks marks held (Claim fault) ladder are by refu
   };
 }
 
-given_refused : (drawing : List ℕ) (q : QuestionValue) (ds : List Declaration) (networks : List Diagram) (marks : List Bool) (held : List Setting) (places : List ℕ) (fault : VerifyFault) → IsLadderOfDrawing drawing ds networks
-    → AreLadderMarks ds networks marks → AreHeldBy ds marks q.words held → ClaimsRead ds marks q.claims places → GivenRefused ds marks q.given fault → RefusesPreparing drawing q fault
-given_refused drawing q ds networks marks held places (Command fault) ladder are by claimed memory = subst (RefusesPreparing drawing q) (sym memory) tt
-given_refused drawing q ds networks marks held places (Claim fault) ladder are by claimed memory = subst (RefusesPreparing drawing q) (sym memory) tt
-given_refused drawing q ds networks marks held places (Held fault) ladder are by claimed memory = subst (RefusesPreparing drawing q) (sym memory) tt
-given_refused drawing q ds networks marks held places (TooManyInputs count) ladder are by claimed memory = subst (RefusesPreparing drawing q) (sym memory) tt
-given_refused drawing q ds networks marks held places NoTime ladder are by claimed memory = subst (RefusesPreparing drawing q) (sym memory) tt
-given_refused drawing q ds networks marks held places (Given fault) ladder are by claimed refused = record {
+given_refused : (source : SourceValue) (q : QuestionValue) (ds : List Declaration) (networks : List Diagram) (marks : List Bool) (held : List Setting) (places : List ℕ) (fault : VerifyFault) → IsLadderFrom source ds networks
+    → AreLadderMarks ds networks marks → AreHeldBy ds marks q.words held → ClaimsRead ds marks q.claims places → GivenRefused ds marks q.given fault → RefusesPreparing source q fault
+given_refused source q ds networks marks held places (Command fault) ladder are by claimed memory = subst (RefusesPreparing source q) (sym memory) tt
+given_refused source q ds networks marks held places (Claim fault) ladder are by claimed memory = subst (RefusesPreparing source q) (sym memory) tt
+given_refused source q ds networks marks held places (Held fault) ladder are by claimed memory = subst (RefusesPreparing source q) (sym memory) tt
+given_refused source q ds networks marks held places (TooManyInputs count) ladder are by claimed memory = subst (RefusesPreparing source q) (sym memory) tt
+given_refused source q ds networks marks held places NoTime ladder are by claimed memory = subst (RefusesPreparing source q) (sym memory) tt
+given_refused source q ds networks marks held places (Given fault) ladder are by claimed refused = record {
   declarations = ds;
   networks = networks;
   ladder = ladder;
@@ -221,24 +222,24 @@ rows_refused ds marks words (Word fault) refused = refused
 rows_refused ds marks words Write refused = absurd refused
 rows_refused ds marks words Memory refused = tt
 
-holding_refused : (drawing : List ℕ) (q : QuestionValue) (ds : List Declaration) (networks : List Diagram) (marks : List Bool) (fault : VerifyFault) → IsLadderOfDrawing drawing ds networks
-    → AreLadderMarks ds networks marks → RefusesHolding ds marks q.words fault → RefusesPreparing drawing q fault
-holding_refused drawing q ds networks marks (Command (Text fault)) ladder are refused = absurd refused
-holding_refused drawing q ds networks marks (Command (Word fault)) ladder are refused = record { declarations = ds; networks = networks; ladder = ladder; refused = refused.0; first = refused.1 }
-holding_refused drawing q ds networks marks (Command Write) ladder are refused = absurd refused
-holding_refused drawing q ds networks marks (Command Memory) ladder are refused = tt
-holding_refused drawing q ds networks marks (Claim fault) ladder are refused = absurd refused
-holding_refused drawing q ds networks marks (Given fault) ladder are refused = absurd refused
-holding_refused drawing q ds networks marks (Held fault) ladder are refused = held_refused drawing q ds networks marks refused.rows (Held fault) ladder are refused.read refused.first
-holding_refused drawing q ds networks marks (TooManyInputs count) ladder are refused = absurd refused
-holding_refused drawing q ds networks marks NoTime ladder are refused = absurd refused
+holding_refused : (source : SourceValue) (q : QuestionValue) (ds : List Declaration) (networks : List Diagram) (marks : List Bool) (fault : VerifyFault) → IsLadderFrom source ds networks
+    → AreLadderMarks ds networks marks → RefusesHolding ds marks q.words fault → RefusesPreparing source q fault
+holding_refused source q ds networks marks (Command (Text fault)) ladder are refused = absurd refused
+holding_refused source q ds networks marks (Command (Word fault)) ladder are refused = inr (record { declarations = ds; networks = networks; ladder = ladder; refused = refused.0; first = refused.1 })
+holding_refused source q ds networks marks (Command Write) ladder are refused = absurd refused
+holding_refused source q ds networks marks (Command Memory) ladder are refused = tt
+holding_refused source q ds networks marks (Claim fault) ladder are refused = absurd refused
+holding_refused source q ds networks marks (Given fault) ladder are refused = absurd refused
+holding_refused source q ds networks marks (Held fault) ladder are refused = held_refused source q ds networks marks refused.rows (Held fault) ladder are refused.read refused.first
+holding_refused source q ds networks marks (TooManyInputs count) ladder are refused = absurd refused
+holding_refused source q ds networks marks NoTime ladder are refused = absurd refused
 
-pub asking_refused : (drawing : List ℕ) (q : QuestionValue) (ds : List Declaration) (networks : List Diagram) (marks : List Bool) (fault : VerifyFault) → IsLadderOfDrawing drawing ds networks
-    → AreLadderMarks ds networks marks → RefusesAsking ds marks q fault → RefusesPreparing drawing q fault
-asking_refused drawing q ds networks marks fault ladder are (inl refused) = holding_refused drawing q ds networks marks fault ladder are refused
-asking_refused drawing q ds networks marks fault ladder are (inr (inl refused)) = claims_refused drawing q ds networks marks refused.held fault ladder are refused.by refused.refused
-asking_refused drawing q ds networks marks fault ladder are (inr (inr (inl refused))) = given_refused drawing q ds networks marks refused.held refused.claims fault ladder are refused.by refused.claimed refused.refused
-asking_refused drawing q ds networks marks fault ladder are (inr (inr (inr memory))) = subst (RefusesPreparing drawing q) (sym memory) tt
+pub asking_refused : (source : SourceValue) (q : QuestionValue) (ds : List Declaration) (networks : List Diagram) (marks : List Bool) (fault : VerifyFault) → IsLadderFrom source ds networks
+    → AreLadderMarks ds networks marks → RefusesAsking ds marks q fault → RefusesPreparing source q fault
+asking_refused source q ds networks marks fault ladder are (inl refused) = holding_refused source q ds networks marks fault ladder are refused
+asking_refused source q ds networks marks fault ladder are (inr (inl refused)) = claims_refused source q ds networks marks refused.held fault ladder are refused.by refused.refused
+asking_refused source q ds networks marks fault ladder are (inr (inr (inl refused))) = given_refused source q ds networks marks refused.held refused.claims fault ladder are refused.by refused.claimed refused.refused
+asking_refused source q ds networks marks fault ladder are (inr (inr (inr memory))) = subst (RefusesPreparing source q) (sym memory) tt
 
 inputs_of : (ds : List Declaration) (networks : List Diagram) (words : List (List ℕ)) (rows : List RowValue) (held : List Setting) (free : List ℕ) → AllZip (IsRow ds) words rows
     → AllZip (HoldsInput ds networks) rows held → AreFree ds networks held free → AreInputs ds networks free held
@@ -274,9 +275,9 @@ asked_has_inputs ds networks marks q a are asked = has_inputs ds networks a.free
 abbrev pub setup_of : LadderValue → ℕ → Asked → SetupValue
 setup_of l dt a = record { ladder = l; dt = dt; free = a.free.items; held = a.held.items; given = a.given.items }
 
-asked_setup : (drawing : List ℕ) (q : QuestionValue) (l : LadderValue) (marks : List Bool) (a : Asked) → IsLadderOfDrawing drawing l.declarations l.networks
-    → AreLadderMarks l.declarations l.networks marks → IsAsked l.declarations marks q a → IsSetup drawing q (setup_of l q.dt a)
-asked_setup drawing q l marks a ladder are asked = record {
+asked_setup : (source : SourceValue) (q : QuestionValue) (l : LadderValue) (marks : List Bool) (a : Asked) → IsLadderFrom source l.declarations l.networks
+    → AreLadderMarks l.declarations l.networks marks → IsAsked l.declarations marks q a → IsSetup source q (setup_of l q.dt a)
+asked_setup source q l marks a ladder are asked = record {
   ladder = ladder;
   dt = refl;
   rows = asked.by.rows;
@@ -346,13 +347,13 @@ needed_by : (l : LadderValue) (dt : ℕ) (a : Asked) (idle : List Bool) (slice :
 needed_by l dt a idle None needed networks is count = count
 needed_by l dt a idle (Some s) needed networks is count = is.count
 
-pub asked_prepared : (drawing : List ℕ) (q : QuestionValue) (m : Marked) (a : Asked) (s : Sliced) (needed constants : List ℕ) → IsLadderOfDrawing drawing m.ladder.declarations m.ladder.networks
+pub asked_prepared : (source : SourceValue) (q : QuestionValue) (m : Marked) (a : Asked) (s : Sliced) (needed constants : List ℕ) → IsLadderFrom source m.ladder.declarations m.ladder.networks
     → IsMarkedLadder m → IsAsked m.ladder.declarations m.marks.items q a → IsSliced m.ladder a.claims.items a.given.items s → needed ≡ needed_places s.idle.items a.free.items → length needed ≤ 20
     → IsTimed m.ladder.declarations q.dt → AreConstantsOf m.ladder.declarations m.marks.items (length m.ladder.declarations) constants
-    → IsPrepared drawing q (setup_of m.ladder q.dt a) s.idle.items (searched_of (option_map (slice_setup q.dt needed a.held.items a.given.items) s.slice) (setup_of m.ladder q.dt a)) a.claims.items constants
+    → IsPrepared source q (setup_of m.ladder q.dt a) s.idle.items (searched_of (option_map (slice_setup q.dt needed a.held.items a.given.items) s.slice) (setup_of m.ladder q.dt a)) a.claims.items constants
     (needed_count s.slice m.networks) m.networks
-asked_prepared drawing q m a s needed constants ladder marked asked sliced same few timed found = record {
-  is = asked_setup drawing q m.ladder m.marks.items a ladder marked.marks asked;
+asked_prepared source q m a s needed constants ladder marked asked sliced same few timed found = record {
+  is = asked_setup source q m.ladder m.marks.items a ladder marked.marks asked;
   claims = claims_of m.ladder.declarations m.ladder.networks m.marks.items q.claims a.claims.items marked.marks asked.claimed;
   searched = searched_by m.ladder q.dt a s.idle.items s.slice needed sliced same few;
   timed = timed;
@@ -362,14 +363,14 @@ asked_prepared drawing q m a s needed constants ladder marked asked sliced same 
 }
 
 -- too many free inputs matter
-pub few_refused : (drawing : List ℕ) (q : QuestionValue) (m : Marked) (a : Asked) (s : Sliced) (fault : VerifyFault) → IsLadderOfDrawing drawing m.ladder.declarations m.ladder.networks
-    → IsMarkedLadder m → IsAsked m.ladder.declarations m.marks.items q a → IsSliced m.ladder a.claims.items a.given.items s → RefusesFew s.idle.items a.free.items fault → RefusesPreparing drawing q fault
-few_refused drawing q m a s (Command fault) ladder marked asked sliced memory = subst (RefusesPreparing drawing q) (sym memory) tt
-few_refused drawing q m a s (Claim fault) ladder marked asked sliced memory = subst (RefusesPreparing drawing q) (sym memory) tt
-few_refused drawing q m a s (Given fault) ladder marked asked sliced memory = subst (RefusesPreparing drawing q) (sym memory) tt
-few_refused drawing q m a s (Held fault) ladder marked asked sliced memory = subst (RefusesPreparing drawing q) (sym memory) tt
-few_refused drawing q m a s NoTime ladder marked asked sliced memory = subst (RefusesPreparing drawing q) (sym memory) tt
-few_refused drawing q m a s (TooManyInputs count) ladder marked asked sliced refused = let l = m.ladder in record {
+pub few_refused : (source : SourceValue) (q : QuestionValue) (m : Marked) (a : Asked) (s : Sliced) (fault : VerifyFault) → IsLadderFrom source m.ladder.declarations m.ladder.networks
+    → IsMarkedLadder m → IsAsked m.ladder.declarations m.marks.items q a → IsSliced m.ladder a.claims.items a.given.items s → RefusesFew s.idle.items a.free.items fault → RefusesPreparing source q fault
+few_refused source q m a s (Command fault) ladder marked asked sliced memory = subst (RefusesPreparing source q) (sym memory) tt
+few_refused source q m a s (Claim fault) ladder marked asked sliced memory = subst (RefusesPreparing source q) (sym memory) tt
+few_refused source q m a s (Given fault) ladder marked asked sliced memory = subst (RefusesPreparing source q) (sym memory) tt
+few_refused source q m a s (Held fault) ladder marked asked sliced memory = subst (RefusesPreparing source q) (sym memory) tt
+few_refused source q m a s NoTime ladder marked asked sliced memory = subst (RefusesPreparing source q) (sym memory) tt
+few_refused source q m a s (TooManyInputs count) ladder marked asked sliced refused = let l = m.ladder in record {
   declarations = l.declarations;
   networks = l.networks;
   ladder = ladder;
@@ -390,14 +391,14 @@ few_refused drawing q m a s (TooManyInputs count) ladder marked asked sliced ref
 }
 
 -- a timer stands still where no time passes
-pub time_refused : (drawing : List ℕ) (q : QuestionValue) (m : Marked) (a : Asked) (s : Sliced) (needed : List ℕ) (fault : VerifyFault) → IsLadderOfDrawing drawing m.ladder.declarations m.ladder.networks
+pub time_refused : (source : SourceValue) (q : QuestionValue) (m : Marked) (a : Asked) (s : Sliced) (needed : List ℕ) (fault : VerifyFault) → IsLadderFrom source m.ladder.declarations m.ladder.networks
     → IsMarkedLadder m → IsAsked m.ladder.declarations m.marks.items q a → IsSliced m.ladder a.claims.items a.given.items s → needed ≡ needed_places s.idle.items a.free.items → length needed ≤ 20
-    → (fault ≡ NoTime) × (q.dt ≡ 0) × HasTimer m.ladder.declarations → RefusesPreparing drawing q fault
-time_refused drawing q m a s needed fault ladder marked asked sliced same few (none, still, timer) =
+    → (fault ≡ NoTime) × (q.dt ≡ 0) × HasTimer m.ladder.declarations → RefusesPreparing source q fault
+time_refused source q m a s needed fault ladder marked asked sliced same few (none, still, timer) =
     let long : length needed ≡ length (needed_places s.idle.items a.free.items) = ap length same in
-    subst (RefusesPreparing drawing q) (sym none) (record {
+    subst (RefusesPreparing source q) (sym none) (record {
       setup = setup_of m.ladder q.dt a;
-      is = asked_setup drawing q m.ladder m.marks.items a ladder marked.marks asked;
+      is = asked_setup source q m.ladder m.marks.items a ladder marked.marks asked;
       places = a.claims.items;
       claims = claims_of m.ladder.declarations m.ladder.networks m.marks.items q.claims a.claims.items marked.marks asked.claimed;
       idle = s.idle.items;
@@ -430,13 +431,13 @@ names_long u v most scans names places idle found told claims are whole =
     ∙ sym (zip_length (IsClaim u.ladder.declarations u.ladder.networks) (texts names) places claims) ∙ length-map names (λ w. w.now)
 
 -- before anything is written
-pub preparing_explained : (drawing : List ℕ) (q : QuestionValue) (old : Option (List ℕ)) (fault : VerifyFault) → RefusesPreparing drawing q fault → ExplainsAnswer drawing q old old fault
-preparing_explained drawing q old (Command (Text fault)) refused = (refused, Keeps-refl old)
-preparing_explained drawing q old (Command (Word fault)) refused = (refused, Keeps-refl old)
-preparing_explained drawing q old (Command Write) refused = absurd refused
-preparing_explained drawing q old (Command Memory) refused = Keeps-refl old
-preparing_explained drawing q old (Claim fault) refused = (refused, Keeps-refl old)
-preparing_explained drawing q old (Given fault) refused = (refused, Keeps-refl old)
-preparing_explained drawing q old (Held fault) refused = (refused, Keeps-refl old)
-preparing_explained drawing q old (TooManyInputs count) refused = (refused, Keeps-refl old)
-preparing_explained drawing q old NoTime refused = (refused, Keeps-refl old)
+pub preparing_explained : (source : SourceValue) (q : QuestionValue) (old : Option (List ℕ)) (fault : VerifyFault) → RefusesPreparing source q fault → ExplainsAnswer source q old old fault
+preparing_explained source q old (Command (Text fault)) refused = (refused, Keeps-refl old)
+preparing_explained source q old (Command (Word fault)) refused = (refused, Keeps-refl old)
+preparing_explained source q old (Command Write) refused = absurd refused
+preparing_explained source q old (Command Memory) refused = Keeps-refl old
+preparing_explained source q old (Claim fault) refused = (refused, Keeps-refl old)
+preparing_explained source q old (Given fault) refused = (refused, Keeps-refl old)
+preparing_explained source q old (Held fault) refused = (refused, Keeps-refl old)
+preparing_explained source q old (TooManyInputs count) refused = (refused, Keeps-refl old)
+preparing_explained source q old NoTime refused = (refused, Keeps-refl old)

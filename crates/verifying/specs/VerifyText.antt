@@ -1,11 +1,11 @@
 -- What `plc verify` writes.
-use Rattle.std.specs.Prelude.{◌≡◌, ◌↔◌, ℕ, ◌<◌, ◌≤◌, ◌++◌, List, Bool, All, IsTrue, Option, length}
+use Rattle.std.specs.Prelude.{◌≡◌, ◌↔◌, ◌⊎◌, ℕ, ◌<◌, ◌≤◌, ◌++◌, List, Bool, All, IsTrue, Option, length}
 use Rattle.std.specs.List.{AllZip}
 use Rattle.std.specs.Io.KnownBytes.{Appends, Keeps}
 use Rattle.network.specs.Links.{Diagram}
 use Rattle.declared_names.specs.declared.declarations.Declaration.{Declaration}
 use Rattle.text_lines.specs.Sending.{SendsLess}
-use Rattle.text_commands.specs.EvalText.{IsLadderOfDrawing, RefusesDrawing, RefusesWords}
+use Rattle.text_commands.specs.Sources.{IsLadderFrom, RefusesName, RefusesSource, RefusesWords, SourceValue}
 use Rattle.text_commands.specs.Rows.{RowValue, SpellRows}
 use Rattle.text_commands.specs.declared.text_command_fault.TextCommandFault.TheVariants.{Text, Word, Write, Memory}
 use Rattle.verifying.specs.declared.setup.Setting.{Setting}
@@ -25,9 +25,9 @@ use Rattle.verifying.specs.Summaries.{IsSummary}
 use Rattle.verifying.specs.declared.verify_fault.VerifyFault.{VerifyFault}
 use Rattle.verifying.specs.declared.verify_fault.VerifyFault.TheVariants.{Command, Claim, Given, Held, TooManyInputs, NoTime}
 
--- The ladder of the drawing with its inputs: those that the words hold, and all others free; and what is given.
-pub record IsSetup (drawing : List ℕ) (q : QuestionValue) (u : SetupValue) : Type 0 where
-  pub ladder : IsLadderOfDrawing drawing u.ladder.declarations u.ladder.networks
+-- The ladder of the source with its inputs: those that the words hold, and all others free; and what is given.
+pub record IsSetup (source : SourceValue) (q : QuestionValue) (u : SetupValue) : Type 0 where
+  pub ladder : IsLadderFrom source u.ladder.declarations u.ladder.networks
   pub dt : u.dt ≡ q.dt
   pub rows : List RowValue
   pub read : SpellRows u.ladder.declarations q.words rows
@@ -39,9 +39,9 @@ pub record IsSetup (drawing : List ℕ) (q : QuestionValue) (u : SetupValue) : T
 -- verdict for each claim that is proved of all runs of the whole ladder, with the numbers of states and scans, of networks
 -- that were needed and of all, and whether there is a run at all, and the text of all that; and behind it a line of what
 -- the answers depend on. Where there is a timer, time passes.
-pub record IsAnswer (drawing : List ℕ) (q : QuestionValue) (text : List ℕ) : Type 0 where
+pub record IsAnswer (source : SourceValue) (q : QuestionValue) (text : List ℕ) : Type 0 where
   pub setup : SetupValue
-  pub is : IsSetup drawing q setup
+  pub is : IsSetup source q setup
   pub places : List ℕ
   pub claims : AllZip (IsClaim setup.ladder.declarations setup.ladder.networks) q.claims places
   pub idle : List Bool
@@ -62,44 +62,44 @@ pub record IsAnswer (drawing : List ℕ) (q : QuestionValue) (text : List ℕ) :
   pub whole : text ≡ lines ++ premise_line (premises setup constants)
 
 -- such a text was written, and this is its summary
-pub record WritesAnswer (drawing : List ℕ) (q : QuestionValue) (old new : Option (List ℕ)) (summary : Summary) : Type 0 where
+pub record WritesAnswer (source : SourceValue) (q : QuestionValue) (old new : Option (List ℕ)) (summary : Summary) : Type 0 where
   pub text : List ℕ
-  pub answer : IsAnswer drawing q text
+  pub answer : IsAnswer source q text
   pub appended : Appends old new text
   pub summed : IsSummary answer.verdicts summary
 
 -- a beginning of such a text was written, and not all of it
-pub record WritesLess (drawing : List ℕ) (q : QuestionValue) (old new : Option (List ℕ)) : Type 0 where
+pub record WritesLess (source : SourceValue) (q : QuestionValue) (old new : Option (List ℕ)) : Type 0 where
   pub text : List ℕ
-  pub answer : IsAnswer drawing q text
+  pub answer : IsAnswer source q text
   pub sent : SendsLess text old new
 
--- the words hold inputs of the drawing's ladder, a name is no claim of it, and this is the first fault
-pub record RefusesClaims (drawing : List ℕ) (q : QuestionValue) (fault : ClaimFault) : Type 0 where
+-- the words hold inputs of the source's ladder, a name is no claim of it, and this is the first fault
+pub record RefusesClaims (source : SourceValue) (q : QuestionValue) (fault : ClaimFault) : Type 0 where
   pub declarations : List Declaration
   pub networks : List Diagram
-  pub ladder : IsLadderOfDrawing drawing declarations networks
+  pub ladder : IsLadderFrom source declarations networks
   pub rows : List RowValue
   pub read : SpellRows declarations q.words rows
   pub held : List Setting
   pub holds : AllZip (HoldsInput declarations networks) rows held
   pub first : IsFirstClaimFault declarations networks q.claims fault
 
--- a word holds no input of the drawing's ladder, and this is the first fault
-pub record RefusesHeld (drawing : List ℕ) (q : QuestionValue) (fault : HeldFault) : Type 0 where
+-- a word holds no input of the source's ladder, and this is the first fault
+pub record RefusesHeld (source : SourceValue) (q : QuestionValue) (fault : HeldFault) : Type 0 where
   pub declarations : List Declaration
   pub networks : List Diagram
-  pub ladder : IsLadderOfDrawing drawing declarations networks
+  pub ladder : IsLadderFrom source declarations networks
   pub rows : List RowValue
   pub read : SpellRows declarations q.words rows
   pub first : IsFirstHeldFault declarations networks rows fault
 
--- the words hold inputs of the drawing's ladder, the names are claims of it, a name that is given is none, and this is the
+-- the words hold inputs of the source's ladder, the names are claims of it, a name that is given is none, and this is the
 -- first fault
-pub record RefusesGiven (drawing : List ℕ) (q : QuestionValue) (fault : ClaimFault) : Type 0 where
+pub record RefusesGiven (source : SourceValue) (q : QuestionValue) (fault : ClaimFault) : Type 0 where
   pub declarations : List Declaration
   pub networks : List Diagram
-  pub ladder : IsLadderOfDrawing drawing declarations networks
+  pub ladder : IsLadderFrom source declarations networks
   pub rows : List RowValue
   pub read : SpellRows declarations q.words rows
   pub held : List Setting
@@ -108,11 +108,11 @@ pub record RefusesGiven (drawing : List ℕ) (q : QuestionValue) (fault : ClaimF
   pub claims : AllZip (IsClaim declarations networks) q.claims places
   pub first : IsFirstClaimFault declarations networks q.given fault
 
--- the words hold inputs of the drawing's ladder, the names are claims of it, and so many free inputs matter, more than 20
-pub record HasManyInputs (drawing : List ℕ) (q : QuestionValue) (count : ℕ) : Type 0 where
+-- the words hold inputs of the source's ladder, the names are claims of it, and so many free inputs matter, more than 20
+pub record HasManyInputs (source : SourceValue) (q : QuestionValue) (count : ℕ) : Type 0 where
   pub declarations : List Declaration
   pub networks : List Diagram
-  pub ladder : IsLadderOfDrawing drawing declarations networks
+  pub ladder : IsLadderFrom source declarations networks
   pub rows : List RowValue
   pub read : SpellRows declarations q.words rows
   pub held : List Setting
@@ -128,11 +128,11 @@ pub record HasManyInputs (drawing : List ℕ) (q : QuestionValue) (count : ℕ) 
   pub many : 20 < length (needed_places idle free)
   pub count_is : count ≡ length (needed_places idle free)
 
--- the words hold inputs of the drawing's ladder, the names are claims of it, few free inputs matter, and it has a timer, but
+-- the words hold inputs of the source's ladder, the names are claims of it, few free inputs matter, and it has a timer, but
 -- no time passes
-pub record LacksTime (drawing : List ℕ) (q : QuestionValue) : Type 0 where
+pub record LacksTime (source : SourceValue) (q : QuestionValue) : Type 0 where
   pub setup : SetupValue
-  pub is : IsSetup drawing q setup
+  pub is : IsSetup source q setup
   pub places : List ℕ
   pub claims : AllZip (IsClaim setup.ladder.declarations setup.ladder.networks) q.claims places
   pub idle : List Bool
@@ -143,13 +143,14 @@ pub record LacksTime (drawing : List ℕ) (q : QuestionValue) : Type 0 where
 
 -- Why there was a fault, and what was written before: nothing, but where the output failed. The words are read first, then
 -- the claims, then what is given.
-abbrev pub ExplainsAnswer : List ℕ → QuestionValue → Option (List ℕ) → Option (List ℕ) → VerifyFault → Type 0
-ExplainsAnswer drawing q old new (Command (Text fault)) = RefusesDrawing drawing fault × Keeps old new
-ExplainsAnswer drawing q old new (Command (Word fault)) = RefusesWords drawing q.words fault × Keeps old new
-ExplainsAnswer drawing q old new (Command Write) = WritesLess drawing q old new
-ExplainsAnswer drawing q old new (Command Memory) = Keeps old new
-ExplainsAnswer drawing q old new (Claim fault) = RefusesClaims drawing q fault × Keeps old new
-ExplainsAnswer drawing q old new (Given fault) = RefusesGiven drawing q fault × Keeps old new
-ExplainsAnswer drawing q old new (Held fault) = RefusesHeld drawing q fault × Keeps old new
-ExplainsAnswer drawing q old new (TooManyInputs count) = HasManyInputs drawing q count × Keeps old new
-ExplainsAnswer drawing q old new NoTime = LacksTime drawing q × Keeps old new
+abbrev pub ExplainsAnswer : SourceValue → QuestionValue → Option (List ℕ) → Option (List ℕ) → VerifyFault → Type 0
+ExplainsAnswer source q old new (Command (Text fault)) = RefusesSource source fault × Keeps old new
+ExplainsAnswer source q old new (Command (Word fault)) =
+    (RefusesName source fault ⊎ RefusesWords source q.words fault) × Keeps old new
+ExplainsAnswer source q old new (Command Write) = WritesLess source q old new
+ExplainsAnswer source q old new (Command Memory) = Keeps old new
+ExplainsAnswer source q old new (Claim fault) = RefusesClaims source q fault × Keeps old new
+ExplainsAnswer source q old new (Given fault) = RefusesGiven source q fault × Keeps old new
+ExplainsAnswer source q old new (Held fault) = RefusesHeld source q fault × Keeps old new
+ExplainsAnswer source q old new (TooManyInputs count) = HasManyInputs source q count × Keeps old new
+ExplainsAnswer source q old new NoTime = LacksTime source q × Keeps old new

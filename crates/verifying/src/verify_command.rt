@@ -2,12 +2,14 @@ ghost use Rattle.std.specs.Prelude.{◌≡◌, ◌↔◌, ℕ, List, IfOk, IfErr
 ghost use Rattle.std.specs.Option.{option_map};
 ghost use Rattle.needed_networks.specs.declared.slice.Slice.{Slice as SliceValue};
 ghost use Rattle.text_commands.specs.EvalText.{IsLadderOfDrawing, IsLadderOfText};
+ghost use Rattle.text_commands.specs.Sources.{IsLadderFrom, source_of};
+ghost use Rattle.text_commands.specs.Steps.Sources.{RefusesFrom};
 ghost use Rattle.text_commands.specs.Steps.Refusing.{RefusesLadder, RefusesLadderOfText};
 ghost use Rattle.verifying.specs.Questions.{question_of};
 ghost use Rattle.verifying.specs.VerifyText.{ExplainsAnswer, WritesAnswer};
 ghost use Rattle.verifying.specs.Needed.{IsSearched};
 ghost use Rattle.verifying.specs.Runs.{HasInputs, HasRun};
-ghost use Rattle.verifying.specs.Steps.Wholes.{IsMarkedLadder, needed_count, searched_of, slice_setup};
+ghost use Rattle.verifying.specs.Steps.Wholes.{AreGraphMarks, IsMarkedLadder, needed_count, searched_of, slice_setup};
 ghost use Rattle.text_commands.specs.Rows.{texts};
 ghost use Rattle.verifying.specs.Steps.Asking.{AreHeldBy, IsAsked, IsPrepared, IsToldAnswer, RefusesAsking, RefusesHolding, RefusesPreparing};
 
@@ -33,45 +35,77 @@ use ladder_text::ReadText;
 use name_faults::Guess;
 use needed_networks::{Slice, slices_follow};
 use network::Graph;
+use plant::{ProgramType, program_has_one_ladder};
 use power_flow::Ladder;
 use std::alloc::{AllocError, Global};
 use std::io::Write;
-use text_commands::{TextCommandFault, TextFault, read_rows, without_comments};
+use text_commands::{
+    LadderSource, TextCommandFault, TextFault, no_program, read_program, read_rows,
+    without_comments,
+};
 use text_lines::{Progress, write_text};
 
-/// A ladder, a mark for each name at which it stores, the places of its left rail, and how many networks it has.
+/// A ladder, a mark for each name at which it stores, the places of its left rail, how many networks it has, and the text of
+/// its drawing.
 #[derive(Drop)]
 struct Marked {
     ladder: Ladder,
     marks: Vec<bool>,
     rails: Vec<Place>,
     networks: usize,
+    drawing: String,
 }
 
-/// The ladder of a text as it stands, its names declared by their use.
-fn marked_of_text(alloc: Global, drawing: &str) -> Result<Marked, TextCommandFault>
-    ensures ladder { IfOk result (λ m. IsLadderOfText drawing.now m.ladder.declarations m.ladder.networks) }
-    ensures marked { IfOk result IsMarkedLadder }
-    ensures err { IfErr result (RefusesLadderOfText drawing.now) }
+/// What is known of a graph and the names that are declared for it: a mark for each at which it stores, the places of its
+/// left rail, and how many networks it has.
+#[derive(Drop)]
+struct GraphMarks {
+    marks: Vec<bool>,
+    rails: Vec<Place>,
+    networks: usize,
+}
+
+fn graph_marks(
+    alloc: Global,
+    declarations: &Declarations,
+    graph: &Graph,
+) -> Result<GraphMarks, AllocError>
+    ensures { IfOk result (AreGraphMarks declarations.now graph.now) }
 {
-    let drawing = Drawing::read(alloc, drawing, 1)?;
-    let graph = Graph::build(alloc, &drawing)?;
-    let declarations = Declarations::guess(alloc, &graph)?;
-    let places = stored_places(alloc, &declarations, &graph)?;
+    let places = stored_places(alloc, declarations, graph)?;
     let marks = marks_of(alloc, &places, declarations.len())?;
     let rails = Vec::from_slice(alloc, graph.rails())?;
     let networks = graph.networks().len();
-    let ladder = Ladder::bind(alloc, graph, declarations)?;
-    Ok(Marked {
-        ladder,
+    Ok(GraphMarks {
         marks,
         rails,
         networks,
     })
 }
 
+/// The ladder of a text as it stands, its names declared by their use.
+fn marked_of_text(alloc: Global, text: &str) -> Result<Marked, TextCommandFault>
+    ensures ladder { IfOk result (λ m. IsLadderOfText text.now m.ladder.declarations m.ladder.networks) }
+    ensures marked { IfOk result IsMarkedLadder }
+    ensures err { IfErr result (RefusesLadderOfText text.now) }
+{
+    let drawing = Drawing::read(alloc, text, 1)?;
+    let graph = Graph::build(alloc, &drawing)?;
+    let declarations = Declarations::guess(alloc, &graph)?;
+    let known = graph_marks(alloc, &declarations, &graph)?;
+    let ladder = Ladder::bind(alloc, graph, declarations)?;
+    let drawing = String::from_str(alloc, text)?;
+    Ok(Marked {
+        ladder,
+        marks: known.marks,
+        rails: known.rails,
+        networks: known.networks,
+        drawing,
+    })
+}
+
 /// The ladder of a drawing, its names declared by their use. A text that is ill drawn is read with its comments emptied.
-fn read_marked(alloc: Global, drawing: &str) -> Result<Marked, TextCommandFault>
+fn marked_of_drawing(alloc: Global, drawing: &str) -> Result<Marked, TextCommandFault>
     ensures ladder { IfOk result (λ m. IsLadderOfDrawing drawing.now m.ladder.declarations m.ladder.networks) }
     ensures marked { IfOk result IsMarkedLadder }
     ensures err { IfErr result (RefusesLadder drawing.now) }
@@ -82,6 +116,78 @@ fn read_marked(alloc: Global, drawing: &str) -> Result<Marked, TextCommandFault>
             marked_of_text(alloc, text.as_str())
         }
         read => read,
+    }
+}
+
+/// The same names once more. They are declared already, so they are refused only for want of memory.
+fn same_declarations(alloc: Global, declarations: &Declarations) -> Result<Declarations, AllocError>
+    ensures { IfOk result (λ copy. copy ≡ declarations.now) }
+{
+    let mut copy = Declarations::new(alloc);
+    for place in 0..declarations.len() {
+        if let Some((name, declared)) = declarations.entry(place) {
+            if copy.add(name, declared).is_err() {
+                return Err(AllocError);
+            }
+        }
+    }
+    if copy.same(declarations) {
+        Ok(copy)
+    } else {
+        Err(AllocError)
+    }
+}
+
+/// The ladder of a program type. Its body is drawn and bound already, so it is refused only for want of memory.
+fn marked_of_type(alloc: Global, found: &ProgramType) -> Result<Marked, AllocError>
+    ensures ladder { IfOk result (λ m. m.ladder ≡ found.now.ladder) }
+    ensures marked { IfOk result IsMarkedLadder }
+{
+    program_has_one_ladder();
+    let body = found.program().body.as_str();
+    let Ok(drawing) = Drawing::read(alloc, body, 1) else {
+        return Err(AllocError);
+    };
+    let Ok(graph) = Graph::build(alloc, &drawing) else {
+        return Err(AllocError);
+    };
+    let declarations = same_declarations(alloc, found.ladder().declarations())?;
+    let known = graph_marks(alloc, &declarations, &graph)?;
+    let Ok(ladder) = Ladder::bind(alloc, graph, declarations) else {
+        return Err(AllocError);
+    };
+    let drawing = String::from_str(alloc, body)?;
+    Ok(Marked {
+        ladder,
+        marks: known.marks,
+        rails: known.rails,
+        networks: known.networks,
+        drawing,
+    })
+}
+
+/// The ladder of the program type of a name in a plant.
+fn marked_of_program(alloc: Global, text: &str, name: &str) -> Result<Marked, TextCommandFault>
+    ensures ladder { IfOk result (λ m. IsLadderFrom (record { text = text.now; program = Some name.now })
+        m.ladder.declarations m.ladder.networks) }
+    ensures marked { IfOk result IsMarkedLadder }
+    ensures err { IfErr result (RefusesFrom (record { text = text.now; program = Some name.now })) }
+{
+    match read_program(alloc, text, name)? {
+        Some(found) => Ok(marked_of_type(alloc, &found)?),
+        None => Err(no_program()),
+    }
+}
+
+/// The ladder that is read from a source.
+fn read_marked(alloc: Global, source: LadderSource<'_>) -> Result<Marked, TextCommandFault>
+    ensures ladder { IfOk result (λ m. IsLadderFrom (source_of source.entry) m.ladder.declarations m.ladder.networks) }
+    ensures marked { IfOk result IsMarkedLadder }
+    ensures err { IfErr result (RefusesFrom (source_of source.entry)) }
+{
+    match source.program {
+        None => marked_of_drawing(alloc, source.text),
+        Some(name) => marked_of_program(alloc, source.text, name),
     }
 }
 
@@ -180,20 +286,32 @@ impl Prepared {
     }
 }
 
-/// Reads a drawing and what is asked of it.
-fn prepare(alloc: Global, drawing: &str, question: &Question<'_>) -> Result<Prepared, VerifyFault>
-    ensures ok { IfOk result (λ p. IsPrepared drawing.now (question_of question.now) p.whole p.idle.items
+/// Reads a source and what is asked of its ladder.
+fn prepare(
+    alloc: Global,
+    source: LadderSource<'_>,
+    question: &Question<'_>,
+) -> Result<Prepared, VerifyFault>
+    ensures ok { IfOk result (λ p. IsPrepared (source_of source.entry) (question_of question.now) p.whole p.idle.items
         (searched_of p.slice p.whole) p.claims.items p.constants.items p.needed p.networks) }
-    ensures err { IfErr result (RefusesPreparing drawing.now (question_of question.now)) }
+    ensures err { IfErr result (RefusesPreparing (source_of source.entry) (question_of question.now)) }
 {
     let Marked {
         ladder,
         marks,
         rails,
         networks,
-    } = read_marked(alloc, drawing)?;
+        drawing,
+    } = read_marked(alloc, source)?;
     let asked = read_question(alloc, ladder.declarations(), &marks, question)?;
-    let sliced = needed_slice(alloc, drawing, &ladder, &rails, &asked.claims, &asked.given)?;
+    let sliced = needed_slice(
+        alloc,
+        drawing.as_str(),
+        &ladder,
+        &rails,
+        &asked.claims,
+        &asked.given,
+    )?;
     let free = few_inputs(alloc, &sliced.idle, &asked.free)?;
     check_time(ladder.declarations(), question.dt)?;
     let constants = constant_places(alloc, ladder.declarations(), &marks)?;
@@ -240,17 +358,17 @@ fn tally_of(alloc: Global, prepared: &Prepared, found: &Found) -> Result<Tally, 
     })
 }
 
-/// The text of the verdicts on the claims about a drawing, and what comes of all.
+/// The text of the verdicts on the claims about a ladder, and what comes of all.
 fn answer_text<P: Progress>(
     alloc: Global,
-    drawing: &str,
+    source: LadderSource<'_>,
     question: &Question<'_>,
     progress: &mut P,
 ) -> Result<(String, Summary), VerifyFault>
-    ensures ok { IfOk result (λ r. IsToldAnswer drawing.now (question_of question.now) (string_bytes r.0) r.1) }
-    ensures err { IfErr result (RefusesPreparing drawing.now (question_of question.now)) }
+    ensures ok { IfOk result (λ r. IsToldAnswer (source_of source.entry) (question_of question.now) (string_bytes r.0) r.1) }
+    ensures err { IfErr result (RefusesPreparing (source_of source.entry) (question_of question.now)) }
 {
-    let prepared = prepare(alloc, drawing, question)?;
+    let prepared = prepare(alloc, source, question)?;
     let searched = prepared.searched();
     let found = verify(
         alloc,
@@ -276,24 +394,24 @@ fn answer_text<P: Progress>(
     Ok((text, summary_of(&verdicts)))
 }
 
-/// Tells of each claim about a drawing whether it holds, whatever the free inputs do, and what comes of all. How far the
+/// Tells of each claim about the ladder of a source whether it holds, whatever the free inputs do, and what comes of all. How far the
 /// search is is told meanwhile.
 ///
 /// `Command(Text)`, `Command(Word)`, `Command(Memory)`, `Claim`, `Given`, `Held`, `TooManyInputs` and `NoTime` come before
 /// anything is written. After `Command(Write)` what went out is a prefix, and not all.
 pub fn verify_text<W: Write, P: Progress>(
     alloc: Global,
-    drawing: &str,
+    source: LadderSource<'_>,
     question: &Question<'_>,
     writer: &mut W,
     progress: &mut P,
 ) -> Result<Summary, VerifyFault>
     ensures ok { IfOk result
-        (WritesAnswer drawing.now (question_of question.now) (W.contents writer.old) (W.contents writer.new)) }
+        (WritesAnswer (source_of source.entry) (question_of question.now) (W.contents writer.old) (W.contents writer.new)) }
     ensures fault { IfErr result
-        (ExplainsAnswer drawing.now (question_of question.now) (W.contents writer.old) (W.contents writer.new)) }
+        (ExplainsAnswer (source_of source.entry) (question_of question.now) (W.contents writer.old) (W.contents writer.new)) }
 {
-    let (text, summary) = answer_text(alloc, drawing, question, progress)?;
+    let (text, summary) = answer_text(alloc, source, question, progress)?;
     write_text(writer, text.as_str())?;
     Ok(summary)
 }

@@ -11,5 +11,3 @@ pub mod Simulating
 pub mod Ending
 pub mod OneReading
 pub mod LinesRead
-pub mod LiveEnding
-pub mod LiveSteps

@@ -12,6 +12,5 @@ pub mod RunLines
 pub mod RunText
 pub mod ScheduleText
 pub mod Simulated
-pub mod LiveRun
 pub mod ScheduleLaws
 pub mod Steps

@@ -7,4 +7,3 @@ pub mod Tables
 pub mod ReadingLines
 pub mod Telling
 pub mod Simulating
-pub mod Live

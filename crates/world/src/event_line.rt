@@ -96,7 +96,7 @@ fn push_hearing(
 }
 
 /// Writes `REFUSED e Kind` behind a line.
-fn push_refused(line: &mut String, number: u64, cause: WorldFault) -> Result<(), AllocError>
+pub fn push_refused(line: &mut String, number: u64, cause: WorldFault) -> Result<(), AllocError>
     ensures { OnOk result (GrowsBy line.old line.new (refused_line number cause)) }
 {
     write!(line, "REFUSED {number} ")?;
@@ -120,7 +120,7 @@ fn push_made(
 }
 
 /// Writes what an event did behind a line; `log` are the evaluations made up to now.
-fn push_done(
+pub fn push_done(
     line: &mut String,
     plant: &Plant,
     log: &[Frame],

@@ -1,5 +1,5 @@
 //! All resources of a plant in one thread, by a list of events: the `World`, the events that make a book's entries
-//! again, and schedules, read and done line by line.
+//! again, and schedules, done line by line.
 #![tactic(auto)]
 
 mod done;
@@ -10,8 +10,6 @@ mod laws;
 mod line_fault;
 mod line_source;
 mod lines;
-mod live;
-mod live_fault;
 mod log_laws;
 mod names;
 mod openings;
@@ -27,13 +25,11 @@ pub use book::{Book, Misfit};
 pub use done::Done;
 pub use evaluation_line::push_evaluation;
 pub use event::Event;
-pub use event_line::push_accepted;
+pub use event_line::{push_accepted, push_done, push_refused};
 pub use laws::{keeping_the_greatest_keeps_the_latest, one_reading, one_run, pairs_rise};
 pub use line_fault::LineFault;
 pub use line_source::LineSource;
 pub use lines::{is_idle, without_last};
-pub use live::{simulate_in_turns, simulate_lines, simulate_world_in_turns};
-pub use live_fault::LiveFault;
 pub use log_laws::{
     books_are_consistent, consistency_theorem, holders_agree, runs_are_consistent,
     runs_are_entered, runs_fit,

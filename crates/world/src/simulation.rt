@@ -29,7 +29,7 @@ fn ones(alloc: Global, resources: usize) -> Result<Vec<u32>, AllocError>
 }
 
 /// A plant before its first event, all first incarnations 1, of which nothing was kept.
-pub(crate) fn open(alloc: Global, plant: Arc<Plant>, max_number: u32) -> Result<World, AllocError>
+fn open(alloc: Global, plant: Arc<Plant>, max_number: u32) -> Result<World, AllocError>
     ensures { IfOk result (λ w. w ≡ record { setting = from_one plant.value max_number; events = []; log = [] }) }
 {
     let first = ones(alloc, plant.resources())?;
@@ -69,15 +69,15 @@ pub struct Simulated {
 
 /// What stands while a schedule is done: the world, how many events there were, and room for the line of one.
 #[derive(Drop)]
-pub(crate) struct Simulation {
-    pub(crate) world: World,
-    pub(crate) events: u64,
-    pub(crate) line: String,
+struct Simulation {
+    world: World,
+    events: u64,
+    line: String,
 }
 
 impl Simulation {
     /// What stands at the end.
-    pub(crate) fn ended(self) -> Simulated
+    fn ended(self) -> Simulated
         ensures world { result.world ≡ self.world }
         ensures events { result.events ≡ self.events }
     {
@@ -88,7 +88,7 @@ impl Simulation {
     }
 
     /// Does the event that the words of a line spell, and writes its line.
-    pub(crate) fn do_words<W: Write>(
+    fn do_words<W: Write>(
         &mut self,
         alloc: Global,
         words: &[&[u8]],

@@ -105,18 +105,19 @@ class PlantMaker:
 
     def source(self, kind):
         """An address, an output of some program, or none."""
-        outputs = [
-            f"{resource}.{name}.{output}"
-            for resource, name, _, type_name in self.programs
-            for output, it in self.types[type_name].all_outputs().items()
-            if it == kind
-        ]
+        outputs = [name for name, it in self.outputs() if it == kind]
         choice = self.chance.random()
         if choice < 0.12:
             return None
         if kind != "TIME" and (choice < 0.3 or not outputs):
             return self.address(kind)
         return cased(self.chance, self.chance.choice(outputs)) if outputs else None
+
+    def outputs(self):
+        """The names of all outputs, each with its kind."""
+        for resource, name, _, type_name in self.programs:
+            for output, kind in self.types[type_name].all_outputs().items():
+                yield f"{resource}.{name}.{output}", kind
 
     def address(self, kind):
         return f"{cased(self.chance, '%IX' if kind == 'BOOL' else '%IW')}{self.chance.randint(0, 3)}"

@@ -1,4 +1,5 @@
-"""Schedules for plants: evaluations, deliveries in any order, losses, repeats, restarts, hearings, and lines that aren't lawful."""
+"""Schedules for plants: evaluations, deliveries in any order, losses, repeats, restarts, hearings, what is expected, and lines that
+aren't lawful."""
 from .drawings import cased
 from .plants import PlantMaker, inputs
 from .traces import trace_words
@@ -17,6 +18,7 @@ class ScheduleMaker:
             self.hearing: chance.choice([0, 1, 4]),
             self.unlawful: chance.choice([0, 0, 1]),
             self.empty: chance.choice([0, 1]),
+            self.expectation: chance.choice([0, 0, 4]),
         }
 
     def lines(self, count):
@@ -75,11 +77,29 @@ class ScheduleMaker:
     def empty(self):
         yield self.chance.choice(["", " \t", "# a comment", "\t# EVAL"])
 
+    def expectation(self):
+        """Mostly of values that outputs have; now and then a word is none."""
+        words = [self.expected() for _ in range(self.chance.choice([1, 1, 2, 3]))]
+        if self.chance.random() < 0.03:
+            words.insert(self.chance.randint(0, len(words)), self.chance.choice(NO_EXPECTATIONS))
+        yield " ".join([self.keyword("EXPECT"), *words])
+
+    def expected(self):
+        name, kind = self.chance.choice(list(self.plant.outputs()))
+        return f"{cased(self.chance, name)}={self.chance.choice(EXPECTED[kind])}"
+
     def keyword(self, word):
         return cased(self.chance, word)
 
 
-NO_EVENTS = ["EVAL R1.T1", "DELIVER R1 1", "RESTART R1 R1", "EVAL R1 10", "EVAL R1.T1 10 %IX0=2", "EVAL R1.T1 10 %IX0=1 %ix00=0", "HEAR", "HEAR R1 R2", "HEAR R1 R2 4294967296", "HEAR R1 R2 1 1", "HEAR R1.T1 R2 1", "RESTART ON", "x"]
+NO_EVENTS = ["EVAL R1.T1", "DELIVER R1 1", "RESTART R1 R1", "EVAL R1 10", "EVAL R1.T1 10 %IX0=2", "EVAL R1.T1 10 %IX0=1 %ix00=0", "HEAR", "HEAR R1 R2", "HEAR R1 R2 4294967296", "HEAR R1 R2 1 1", "HEAR R1.T1 R2 1", "RESTART ON", "EXPECT", "x"]
+
+NO_EXPECTATIONS = ["R1", "R1.I0.Q", "R9.I0.Q=1", "R1.I0.Q=", "R1.I0=1", "R1.I0.Q=2", "=1", "R1.I0.Q=T#1ms", "R1.I0.Q=-1", "R1.I0.U1=0", "I0.Q=0"]
+EXPECTED = {
+    "BOOL": ["0", "1", "0", "1", "01"],
+    "INT": ["0", "1", "2", "-1", "007", "32767", "-32768"],
+    "TIME": ["T#0ms", "t#10ms", "T#1s", "TIME#0s_5ms", "T#4294967295ms"],
+}
 
 
 def schedule(chance):

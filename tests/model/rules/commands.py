@@ -15,9 +15,9 @@ from .node import Node, NoFiles
 from .plan import plan_of, schedule_of
 from .plant_text import find, read_plant
 from .refusal import Refusal
-from .run import Run, do_in_turns, lines_of_run
+from .run import Run, do_in_turns, lines_of_steps
 from .scan import Ladder, State
-from .schedule import MOST_U32, events_of
+from .schedule import MOST_U32, steps_of
 from .test_words import BadWord, tests_of
 from .traces import Track, diagram, dump
 from .warnings import warnings_of, warnings_of_plant
@@ -65,8 +65,8 @@ COLORS = ("always", "auto", "never")
 WARNING_FLAGS = ("--strict", "--no-warnings")
 
 SHAPES = {
-    "eval": Shape(1, ("--dt",), {"--color": COLORS}, ("--vcd", "--svg"), ("--show", "--chart", *WARNING_FLAGS), has_more=True),
-    "verify": Shape(1, ("--dt", "--most-states", "--most-waiting"), flags=("--no-restarts", *WARNING_FLAGS), lists=("--never", "--given"), needed=("--never",), has_more=True),
+    "eval": Shape(1, ("--dt",), {"--color": COLORS}, ("--vcd", "--svg", "--program"), ("--show", "--chart", *WARNING_FLAGS), has_more=True),
+    "verify": Shape(1, ("--dt", "--most-states", "--most-waiting"), names=("--program",), flags=("--no-restarts", *WARNING_FLAGS), lists=("--never", "--given"), needed=("--never",), has_more=True),
     "check": Shape(1, flags=WARNING_FLAGS),
     "plan": Shape(1, numbers=("--until",), flags=("--schedule",), needed=("--until",)),
     "sim": Shape(2, numbers=("--max-number",), names=("--vcd", "--svg")),
@@ -198,11 +198,37 @@ class Files:
             within = f"{refusal.within} " if refusal.within else ""
             raise Refused(REFUSED_TEXT, f"{path}:{refusal.line}: {within}{refusal.kind}") from None
 
+    def tried(self, path, options):
+        """What is tried: a drawing, or a program type of a plant."""
+        if "--program" in options:
+            return self.program_type(path, options["--program"])
+        ladder = self.ladder(path)
+        return Tried(ladder, self.text(path), path, lambda elapsed=0: warnings_of(ladder.drawing, ladder.networks, elapsed))
+
+    def program_type(self, path, name):
+        """A program type as its plant has it, with its own lines of the text that was read, and the warnings of the plant."""
+        plant = self.plant(path)
+        found = find(plant.types, name)
+        if not found:
+            raise Refused(REFUSED_WORDS)
+        rows = plant.text.split("\n")[found.first_line - 1 :][: len(found.lines)]
+        return Tried(found.ladder, "\n".join(rows) + "\n", f"{path} --program {name}", lambda elapsed=0: warnings_of_plant(plant))
+
     def ladder(self, path):
         try:
             return ladder_of(self.text(path))
         except Refusal as refusal:
             raise Refused(REFUSED_TEXT, f"{path}:{refusal.line}:{refusal.column}: {refusal.kind}") from None
+
+
+@dataclass
+class Tried:
+    """A ladder, the text of its drawing, the words that stand for it behind `plc eval`, and what is warned of."""
+
+    ladder: Ladder
+    text: str
+    eval_words: str
+    warnings: object
 
 
 def ladder_of(text):
@@ -223,17 +249,21 @@ def drawing_of(text):
 
 
 def plant_of(text):
-    """The plant of a text; of one that is refused, with its comments emptied."""
+    """The plant of a text; of one that is refused, with its comments emptied. It knows the text that was read."""
     try:
-        return read_plant(text)
+        plant = read_plant(text)
     except Refusal:
-        return read_plant(without_comments(text))
+        text = without_comments(text)
+        plant = read_plant(text)
+    plant.text = text
+    return plant
 
 
 def evaluate(write, files, paths, options, more):
     if {"--show", "--chart"} <= set(options) or set(WARNING_FLAGS) <= set(options):
         raise Refused(REFUSED_WORDS)
-    ladder = files.ladder(paths[0])
+    tried = files.tried(paths[0], options)
+    ladder = tried.ladder
     variables = [it for it in ladder.declarations if it.role != "Instance"]
     try:
         given, expected = tests_of(more, variables)
@@ -250,7 +280,7 @@ def evaluate(write, files, paths, options, more):
     if "--chart" in options:
         lines = chart_of(variables, traced)
     elif "--show" in options:
-        lines = shown_scans(lines_of_scans(variables, traced), files.text(paths[0]), live, options.get("--color") == "always")
+        lines = shown_scans(lines_of_scans(variables, traced), tried.text, live, options.get("--color") == "always")
     else:
         lines = lines_of_scans(variables, traced)
     for line in lines:
@@ -259,8 +289,7 @@ def evaluate(write, files, paths, options, more):
     step = options.get("--dt", 0) or 1
     files.write_traces(options, paths[0], [k * step for k in range(len(traced) + 1)], tracks)
     difference = first_difference(variables, expected, traced)
-    warnings = warnings_of(ladder.drawing, ladder.networks)
-    end_with_warnings(paths[0], warnings, options, DIFFERS if difference else 0, difference and f"{paths[0]}: {difference}")
+    end_with_warnings(paths[0], tried.warnings(), options, DIFFERS if difference else 0, difference and f"{paths[0]}: {difference}")
 
 
 def end_with_warnings(path, warnings, options, status, told=None):
@@ -320,7 +349,7 @@ def verify(write, files, paths, options, more):
         raise Refused(REFUSED_WORDS)
     names = [name for claim in options["--never"] for name in claim.split(",")]
     dots = {it.count(".") for it in [*names, *options.get("--given", ())]}
-    if dots == {2}:
+    if dots == {2} and "--program" not in options:
         verify_plants(write, files.plant(paths[0]), options, more)
     elif dots == {0} and "" not in names and not OF_PLANTS & set(options):
         verify_drawing(write, files, paths, options, more)
@@ -352,14 +381,15 @@ def question_of(plant, options, more):
 
 
 def verify_drawing(write, files, paths, options, more):
-    question = question_of_drawing(files.ladder(paths[0]), options, more)
+    tried = files.tried(paths[0], options)
+    question = question_of_drawing(tried.ladder, options, more)
     found = Search(question, question.part(), options.get("--most-states", MOST_STATES)).search()
     for name in options["--never"]:
-        for line in verdict_lines(found, name, paths[0]):
+        for line in verdict_lines(found, name, tried.eval_words):
             write(line)
     if told := premises(question):
         write("given " + ", ".join(told))
-    warnings = warnings_of(question.ladder.drawing, question.ladder.networks, question.elapsed)
+    warnings = tried.warnings(question.elapsed)
     end_with_warnings(paths[0], warnings, options, CLAIM_FAILS if found.runs else UNDECIDED if found.depth is not None else 0)
 
 
@@ -423,14 +453,19 @@ def plan(write, files, paths, options, _more):
 
 
 def simulate(write, files, paths, options, _more):
-    run, made = Run(files.plant(paths[0]), options.get("--max-number", MOST_U32)), []
+    run, made, is_unmet = Run(files.plant(paths[0]), options.get("--max-number", MOST_U32)), [], False
     try:
-        for line in lines_of_run(run, events_of(lines_of(files.text(paths[1])))):
+        for event, line in lines_of_steps(run, steps_of(lines_of(files.text(paths[1])))):
             write(line)
-            made.append(run.log[-1] if line.startswith("EVAL") else None)
+            if event:
+                made.append(run.log[-1] if line.startswith("EVAL") else None)
+            else:
+                is_unmet |= not line.endswith(" met")
     except Refusal as refusal:
         raise Refused(REFUSED_TEXT, f"{paths[1]}:{refusal.line}: {refusal.kind}") from None
     files.write_traces(options, paths[0], range(len(made) + 2), tracks_of(run.plant, made))
+    if is_unmet:
+        raise Refused(DIFFERS)
 
 
 def run_paced(write, files, paths, options, more):

@@ -15,7 +15,7 @@ class ProgramType:
 
     def draw(self, lines, first_line):
         """Reads, builds and binds the body."""
-        self.first_line = first_line
+        self.first_line, self.lines = first_line, lines
         drawing = read_drawing(lines, first_line)
         networks = networks_of(drawing, first_line)
         refuse_names(drawing, self.declarations, first_line)
@@ -92,8 +92,11 @@ class Resource:
 
 @dataclass(eq=False)
 class Plant:
+    """Its parts, and the text that they were read from."""
+
     types: list = field(default_factory=list)
     resources: list = field(default_factory=list)
+    text: str = ""
 
     def tasks(self):
         return [task for resource in self.resources for task in resource.tasks]

@@ -5,7 +5,9 @@ from . import words
 from .plant import Field
 from .plant_text import find
 from .scan import State
-from .schedule import MOST_U32, Deliver, Evaluate, Hear, Restart
+from .inputs import BadInput, bit_of, word_of
+from .refusal import Refusal
+from .schedule import MOST_U32, Deliver, Evaluate, Expect, Hear, NoExpectation, Restart
 
 
 class Refused(Exception):
@@ -184,13 +186,56 @@ def value_of(source, takes, inputs, kind):
     return taken.image[source.program, source.output] if taken else words.first_value(kind)
 
 
-def lines_of_run(run, events):
-    """The line of each event, refused ones counted."""
-    for number, event in enumerate(events, 1):
+def lines_of_steps(run, steps):
+    """The line of each event, refused ones counted, and the lines of what is expected: each with the event, if it is one's."""
+    events = 0
+    for number, step in steps:
         try:
-            yield run.happen(event)
-        except Refused as cause:
-            yield f"REFUSED {number} {cause}"
+            if isinstance(step, Expect):
+                yield from ((None, line) for line in [answer_to(run, word) for word in step.listed])
+            elif step:
+                events += 1
+                yield step, line_of_event(run, events, step)
+            else:
+                raise NoExpectation
+        except NoExpectation:
+            raise Refusal("Syntax", number) from None
+
+
+def line_of_event(run, number, event):
+    try:
+        return run.happen(event)
+    except Refused as cause:
+        return f"REFUSED {number} {cause}"
+
+
+def answer_to(run, word):
+    """Whether an output is what a word R.P.V=VALUE expects: by the last evaluation in its resource's present incarnation."""
+    name, _, text = word.partition("=")
+    for task in run.plant.tasks():
+        for program, it in task.outputs():
+            named = f"{task.resource.name}.{program.name}.{it.name}"
+            if words.fold(name) == words.fold(named):
+                made = run.nodes[task.resource.place].own.get(task)
+                found = made.image[program, words.fold(it.name)] if made else words.first_value(it.kind)
+                value = value_expected(it.kind, text)
+                verdict = "met" if value == found else f"unmet {words.shown(found)}"
+                return f"EXPECT {named}={words.shown(value)} {verdict}"
+    raise NoExpectation
+
+
+def value_expected(kind, text):
+    try:
+        if kind == "BOOL":
+            return bit_of(text)
+        if kind == "INT":
+            return word_of(text)
+    except BadInput:
+        raise NoExpectation from None
+    milliseconds = words.duration_of(text)
+    if milliseconds is None or milliseconds > MOST_U32:
+        raise NoExpectation
+    return words.Duration(milliseconds)
 
 
 def do_in_turns(run, due, inputs):

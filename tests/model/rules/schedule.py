@@ -34,15 +34,35 @@ class Hear:
     incarnation: int
 
 
+@dataclass
+class Expect:
+    """The words of an EXPECT line, which is no event."""
+
+    listed: list
+
+
+class NoExpectation(Exception):
+    """A word that names no output, or has no value of its kind."""
+
+
 def events_of(lines):
     """The events one after the other; the first line that is none, nor blank nor a comment, is refused when it is met."""
+    for number, event in steps_of(lines):
+        if event is None or isinstance(event, Expect):
+            raise Refusal("Syntax", number)
+        yield event
+
+
+def steps_of(lines):
+    """The number of each line but blank ones and comments, and its event or what it expects; None where it is neither."""
     for number, line in enumerate(lines, 1):
         parts = parts_of(line)
         if parts and not parts[0].startswith("#"):
-            event = event_of(parts)
-            if event is None:
-                raise Refusal("Syntax", number)
-            yield event
+            yield number, expected_of(parts) if words.fold(parts[0]) == "EXPECT" else event_of(parts)
+
+
+def expected_of(parts):
+    return Expect(parts[1:]) if len(parts) > 1 else None
 
 
 def event_of(parts):

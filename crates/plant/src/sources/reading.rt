@@ -34,6 +34,13 @@ impl Reading {
         self.types.as_slice()
     }
 
+    /// The program types alone.
+    pub fn into_types(self) -> Vec<ProgramType>
+        ensures { result.items ≡ self.types }
+    {
+        self.types
+    }
+
     /// The resources in order of declaration.
     pub fn resources(&self) -> &[Resource]
         ensures { result.now ≡ self.now.resources }

@@ -23,10 +23,12 @@ use Rattle.plant_grammar.specs.Grammar.{mark_word, program_words, TextValue}
 use Rattle.plant_grammar.specs.Kinds.{input_kind_of}
 use Rattle.declared_names.specs.Kinds.{kind_of_space}
 use Rattle.plant_grammar.specs.Lawful.{IsTypeLawful, task_of, use_of}
-use Rattle.plant_grammar.specs.NameFaults.{IsOfName, Tells, TellsOfName, TellsOfSoughtName, IsNameTaken, IsAfter, IsAfterAll, RefusesProgram, RefusesTask, RefusesBind, RefusesInstance, RefusesItems, RefusesResource, RefusesResources, RefusesBehind}
+use Rattle.plant_grammar.specs.Steps.NamesRead.{IsOfName, Tells, TellsOfName, TellsOfSoughtName, IsNameTaken, IsAfter, IsAfterAll, RefusesProgram, RefusesTask, RefusesBind, RefusesInstance, RefusesItems, RefusesResource, RefusesResources, RefusesBehind}
 use Rattle.plant_grammar.specs.Steps.Lines.{ReaderValue, HasLinesOf, next_line}
 use Rattle.plant_grammar.specs.Steps.ReadParts.{TallyValue}
-use Rattle.plant_grammar.specs.Steps.Reading.{programs_of}
+use Rattle.plant_grammar.specs.NameFaults.{IsLastRefused}
+use Rattle.plant_grammar.specs.Steps.Reading.{programs_of, AreAllPrograms}
+use Rattle.plant_grammar.specs.Steps.SoundWords.{Fits}
 
 -- the next word is a name, and one of these has the same
 abbrev pub RepeatsName : {A : Type 0} → (A → List ℕ) → List A → List Token → Type 0
@@ -180,3 +182,7 @@ RefusesFurtherProgram programs k words = IsAfterAll (flat_map program_words prog
 -- these programs, and words of a plant behind them up to a word refused
 abbrev pub RefusesPlantWords : List Program → GrammarFaultKind → List Token → Type 0
 RefusesPlantWords programs k words = IsAfterAll (flat_map program_words programs) (RefusesBehind k programs) words
+
+-- If these words fit into memory, the last is the first refused, and the programs that begin them are the first of these.
+abbrev pub RefusesFirst : List Program → GrammarFaultKind → List Token → Type 0
+RefusesFirst programs k words = Fits words → IsLastRefused k words × AreAllPrograms words programs

@@ -8,7 +8,8 @@ use Rattle.plant_text.specs.declared.token.Punctuation.{Punctuation}
 use Rattle.plant_text.specs.declared.token.Punctuation.TheVariants as mark
 use Rattle.plant_grammar.specs.declared.grammar_fault.GrammarFault.{GrammarFault}
 use Rattle.plant_grammar.specs.declared.grammar_fault.GrammarFaultKind.TheVariants.{Syntax}
-use Rattle.plant_grammar.specs.GoesOn.{GoesOn, IsLastMisplaced}
+use Rattle.plant_grammar.specs.GoesOn.{IsLastMisplaced}
+use Rattle.plant_grammar.specs.NameFaults.{GoesOnSound}
 use Rattle.plant_grammar.specs.Steps.Lines.{ReaderValue, HasLinesOf}
 use Rattle.plant_grammar.specs.Steps.Declaring.{BeginWith, IsLineBefore}
 
@@ -202,8 +203,9 @@ walk es (t ∷ more) = and_then (step es t) (λ new. walk new more)
 abbrev pub whole_plant : List Expected
 whole_plant = MorePrograms ∷ Key key.Configuration ∷ AName ∷ Key key.Resource ∷ resource_rest ++ MoreResources ∷ []
 
--- Words of which each but the last can stand where it does, and something is expected in the place of that.
-pub record EndsUnexpected (es : List Expected) (words : List Token) : Type 0 where
+-- Words of which each but the last can stand where it does, and something is expected in the place of that. Of those before
+-- it this is known.
+pub record EndsUnexpected (Known : List Token → Type 0) (es : List Expected) (words : List Token) : Type 0 where
   pub before : List Token
   pub word : Token
   pub parts : words ≡ before ++ word ∷ []
@@ -211,10 +213,14 @@ pub record EndsUnexpected (es : List Expected) (words : List Token) : Type 0 whe
   pub walked : walk es before ≡ Some expected
   pub more : expected ≢ []
   pub unexpected : step expected word ≡ None
+  pub known : Known before
 
--- all of these words can stand where they do, and more is expected
-abbrev pub IsUnended : List Expected → List Token → Type 0
-IsUnended es words = (expected : List Expected) × (walk es words ≡ Some expected) × (expected ≢ [])
+-- All of these words can stand where they do, and more is expected. This is known of them.
+pub record IsUnended (Known : List Token → Type 0) (es : List Expected) (words : List Token) : Type 0 where
+  pub expected : List Expected
+  pub walked : walk es words ≡ Some expected
+  pub more : expected ≢ []
+  pub known : Known words
 
 -- this is the line of the word before the rest
 abbrev pub IsOnLine : ReaderValue → ℕ → List Token → Type 0
@@ -225,17 +231,19 @@ abbrev pub IsOnLast : ReaderValue → ℕ → Type 0
 IsOnLast left line = (all : List ℕ) → HasLinesOf all left → line ≡ left.last
 
 -- The words that are left lead to one that can't stand there, and this is its line; or they end too early, and this is
--- the line on which the text ends.
-abbrev pub IsStuck : List Expected → ReaderValue → ℕ → Type 0
-IsStuck es left line =
-    (IsUnended es left.words × IsOnLast left line) ⊎ BeginWith (IsOnLine left line) (EndsUnexpected es) left.words
+-- the line on which the text ends. Of the words before it this is known.
+abbrev pub IsStuck : (List Token → Type 0) → List Expected → ReaderValue → ℕ → Type 0
+IsStuck Known es left line =
+    (IsUnended Known es left.words × IsOnLast left line)
+    ⊎ BeginWith (IsOnLine left line) (EndsUnexpected Known es) left.words
 
 -- where the fault is Syntax, so it is, whatever is expected behind these
-abbrev pub GetsStuck : List Expected → ReaderValue → GrammarFault → Type 0
-GetsStuck es left fault = fault.kind ≡ Syntax → (behind : List Expected) → IsStuck (es ++ behind) left fault.line
+abbrev pub GetsStuck : (List Token → Type 0) → List Expected → ReaderValue → GrammarFault → Type 0
+GetsStuck Known es left fault =
+    fault.kind ≡ Syntax → (behind : List Expected) → IsStuck Known (es ++ behind) left fault.line
 
 -- A plant goes on from all words that are left, and this is the line on which the text ends; or they lead to the first
--- from which none does, and this is its line.
+-- from which none does, and this is its line. None of the words before it has a fault.
 abbrev pub MeetsMisplaced : ReaderValue → ℕ → Type 0
 MeetsMisplaced left line =
-    (GoesOn left.words × IsOnLast left line) ⊎ BeginWith (IsOnLine left line) IsLastMisplaced left.words
+    (GoesOnSound left.words × IsOnLast left line) ⊎ BeginWith (IsOnLine left line) IsLastMisplaced left.words

@@ -19,7 +19,7 @@ use Rattle.plant_grammar.specs.declared.grammar.tree.Section.{Section}
 use Rattle.plant_grammar.specs.declared.grammar.tree.Section.TheVariants as section
 use Rattle.plant_grammar.specs.Grammar.{Tree, TextValue, key_word, mark_word, with_commas, binds_listed}
 use Rattle.plant_grammar.specs.Names.{is_named}
-use Rattle.plant_grammar.specs.NameFaults.{IsNew}
+use Rattle.plant_grammar.specs.Steps.NamesRead.{IsNew}
 use Rattle.plant_grammar.specs.Lawful.{task_of, use_of, binds_of, programs_alone, IsUseLawful}
 use Rattle.plant_grammar.specs.declared.grammar.tree.SourceName.{SourceName}
 use Rattle.plant_grammar.specs.declared.grammar.tree.SourceLines.{SourceLines}

@@ -5,7 +5,7 @@ ghost use Rattle.plant_grammar.specs.WordFaults.{IsGrammarFault};
 ghost use Rattle.plant_grammar.specs.declared.grammar_fault.GrammarFaultKind.TheVariants.{NameTwice, Syntax, TooMany};
 ghost use Rattle.std.specs.List.{flat_map, find};
 ghost use Rattle.std.specs.Option.{option_map};
-ghost use Rattle.plant_grammar.specs.NameFaults.{TellsOfName};
+ghost use Rattle.plant_grammar.specs.Steps.NamesRead.{TellsOfName};
 ghost use Rattle.plant_grammar.specs.Kinds.{input_kind_of};
 ghost use Rattle.plant_grammar.specs.Steps.ReadParts.{is_task_line, NamesInstance};
 ghost use Rattle.plant_grammar.specs.Steps.Reading.{programs_of};

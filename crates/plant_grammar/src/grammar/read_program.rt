@@ -16,11 +16,14 @@ ghost use Rattle.plant_text.specs.declared.token.Keyword.TheVariants as key;
 ghost use Rattle.plant_text.specs.declared.token.Punctuation.TheVariants.{Colon, Semicolon, Comma};
 ghost use Rattle.plant_grammar.specs.Grammar.{key_word, mark_word, section_words, kind_word, type_word, name_words, list_words, lists_words, block_words, program_words};
 ghost use Rattle.plant_grammar.specs.Lawful.{list_variables, lists_variables, block_variables, IsTypeLawful, IsListLawful, IsBlockLawful, IsProgramLawful, AreProgramsDeclared, MayBeDeclared, AreVariables};
-ghost use Rattle.plant_grammar.specs.NameFaults.{IsOfName, TellsOfName, RefusesVariable, RefusesOneList, RefusesList, RefusesBlock, RefusesBlocks, RefusesProgram, IsNew};
+ghost use Rattle.plant_grammar.specs.Steps.NamesRead.{IsOfName, TellsOfName, RefusesVariable, RefusesOneList, RefusesList, RefusesBlock, RefusesBlocks, RefusesProgram, IsNew};
 ghost use Rattle.plant_grammar.specs.Steps.Declaring.{TellsOfType, TellsOfVariable, TellsOfBlock, BeginRefused, BeginRefusedBehind, IsAtNext, RefusesFurtherProgram};
 ghost use Rattle.plant_grammar.specs.Steps.Lines.{next_line, syntax_at, KeepsLines, IsNotNext, IsOneNext, IsNoneNext};
 ghost use Rattle.plant_grammar.specs.Steps.ReadParts.{section_start, IsSectionWhole};
 ghost use Rattle.plant_grammar.specs.Steps.Expected.{Key, AName, ABody, AType, ASection, MorePrograms, MoreBlocks, MoreLists, MoreNames, program_rest, list_rest, GetsStuck};
+ghost use Rattle.plant_grammar.specs.NameFaults.{judged_list, judged_block, judged_program, judged_of};
+ghost use Rattle.plant_grammar.specs.WellFormed.{HasNames, IsBlockWellFormed, IsProgramWellFormed, IsTreeWellFormed};
+ghost use Rattle.plant_grammar.specs.Steps.SoundWords.{BeginsSound, BeginsWords, IsNothing, end_words, judged_names, AreNamesFormed, judged_lists, AreListsFormed, judged_blocks, AreBlocksFormed};
 ghost use Rattle.plant_grammar.specs.Steps.Reading.{programs_of, all_words, AreAllPrograms, AreSameWords, AreSameLines, BeginWithWordsOf, BeginWithLinesOf};
 
 use crate::grammar::known_names::{check_new, is_program};
@@ -56,7 +59,7 @@ impl<'a> Reader<'a> {
         ensures new { IfOk result (λ name. (IsDeclared variables.now name → ⊥) × IsNew (λ n. n) before.now name × (length variables.now + length before.now < 1000)) }
         ensures tells { IfErr result (TellsOfVariable variables.now before.now self.old.words) }
         ensures line { IfErr result (IsAtNext self.old) }
-        ensures stuck { IfErr result (GetsStuck (AName ∷ []) self.old) }
+        ensures stuck { IfErr result (GetsStuck IsNothing (AName ∷ []) self.old) }
         ensures value { IfErr result IsGrammarFault }
     {
         let line = self.line();
@@ -77,7 +80,7 @@ impl<'a> Reader<'a> {
         ensures other { IfErr result (λ e. e.kind ≢ Memory → (ns : List (List ℕ)) (rest : List Token) → self.old.words ≡ name_words ns ++ mark_word Colon ∷ rest → 0 < length ns → MayBeDeclared variables.now ns → ⊥) }
         ensures only { IfOk result (λ names. (ns : List (List ℕ)) (rest : List Token) → self.old.words ≡ name_words ns ++ mark_word Colon ∷ rest → 0 < length ns → (names.items ≡ ns) × (self.new.words ≡ mark_word Colon ∷ rest)) }
         ensures names { IfErr result (BeginRefused (λ k. RefusesVariable k variables.now) self.old) }
-        ensures stuck { IfErr result (GetsStuck (AName ∷ MoreNames ∷ []) self.old) }
+        ensures stuck { IfErr result (GetsStuck (BeginsSound (judged_names variables.now) AreNamesFormed) (AName ∷ MoreNames ∷ []) self.old) }
         ensures value { IfErr result IsGrammarFault }
     {
         let mut names = Vec::new(alloc);
@@ -122,7 +125,7 @@ impl<'a> Reader<'a> {
         ensures only { OnOk result ((t : TypeName) (rest : List Token) → self.old.words ≡ type_word t ∷ rest → rest ≡ self.new.words) }
         ensures tells { IfErr result (TellsOfBlock section self.old.words) }
         ensures line { IfErr result (IsAtNext self.old) }
-        ensures stuck { IfErr result (GetsStuck (AType ∷ []) self.old) }
+        ensures stuck { IfErr result (GetsStuck IsNothing (AType ∷ []) self.old) }
         ensures value { IfErr result IsGrammarFault }
     {
         if !self.sees_block_type() {
@@ -149,7 +152,7 @@ impl<'a> Reader<'a> {
         ensures lawful { IfOk result (λ l. IsListLawful section l) }
         ensures other { IfErr result (λ e. e.kind ≢ Memory → (ns : List (List ℕ)) (t : TypeName) (rest : List Token) → self.old.words ≡ name_words ns ++ mark_word Colon ∷ type_word t ∷ mark_word Semicolon ∷ rest → 0 < length ns → IsTypeLawful section t → MayBeDeclared variables.old ns → ⊥) }
         ensures names { IfErr result (BeginRefused (RefusesOneList section variables.old) self.old) }
-        ensures stuck { IfErr result (GetsStuck (AName ∷ list_rest) self.old) }
+        ensures stuck { IfErr result (GetsStuck (BeginsSound (judged_list section variables.old) HasNames) (AName ∷ list_rest) self.old) }
         ensures value { IfErr result IsGrammarFault }
     {
         let names = self.names(alloc, variables)?;
@@ -176,11 +179,13 @@ impl<'a> Reader<'a> {
         ensures lawful { IfOk result (λ ls. All (IsListLawful section) ls.items) }
         ensures other { IfErr result (λ e. e.kind ≢ Memory → (ls : List NameList) (rest : List Token) → self.old.words ≡ lists_words ls ++ rest → All (IsListLawful section) ls → AreVariables (variables.old ++ lists_variables section ls) → ⊥) }
         ensures names { IfErr result (BeginRefused (λ k. RefusesList k section variables.old) self.old) }
-        ensures stuck { IfErr result (GetsStuck (MoreLists ∷ []) self.old) }
+        ensures stuck { IfErr result (GetsStuck (BeginsSound (judged_lists section variables.old) AreListsFormed) (MoreLists ∷ []) self.old) }
         ensures value { IfErr result IsGrammarFault }
     {
         let mut lists = Vec::new(alloc);
         'lists: while !self.sees_keyword(Keyword::EndVar) {
+            // The getter hands out that the variables so far have names of their own, and are 1,000 at most.
+            let _declared = variables.len();
             let list = self.list(alloc, section, variables)?;
             lists.push(list)?;
         }
@@ -206,7 +211,7 @@ impl<'a> Reader<'a> {
         ensures bodies { OnOk result (self.new.bodies ≡ self.old.bodies) }
         ensures other { OnErr result (IsNoneNext section_start self.old.words) }
         ensures tells { IfErr result (λ e. TellsOfName e.kind ⊥ ⊥) }
-        ensures stuck { IfErr result (GetsStuck (ASection ∷ []) self.old) }
+        ensures stuck { IfErr result (GetsStuck IsNothing (ASection ∷ []) self.old) }
         ensures value { IfErr result IsGrammarFault }
     {
         if self.sees_keyword(Keyword::VarInput) {
@@ -235,7 +240,7 @@ impl<'a> Reader<'a> {
         ensures lawful { IfOk result (λ b. IsBlockLawful b) }
         ensures other { IfErr result (λ e. e.kind ≢ Memory → (s : Section) (ls : List NameList) (rest : List Token) → self.old.words ≡ section_words s ++ (lists_words ls ++ rest) → All (IsListLawful s) ls → AreVariables (variables.old ++ lists_variables s ls) → ⊥) }
         ensures names { IfErr result (BeginRefused (λ k. RefusesBlock k variables.old) self.old) }
-        ensures stuck { IfErr result (GetsStuck (ASection ∷ MoreLists ∷ []) self.old) }
+        ensures stuck { IfErr result (GetsStuck (BeginsSound (judged_block variables.old) IsBlockWellFormed) (ASection ∷ MoreLists ∷ []) self.old) }
         ensures value { IfErr result IsGrammarFault }
     {
         let section = self.section()?;
@@ -258,11 +263,13 @@ impl<'a> Reader<'a> {
         ensures none { OnOk result (IsNoneNext section_start self.new.words) }
         ensures other { IfErr result (λ e. e.kind ≢ Memory → (bs : List VarBlock) (rest : List Token) → self.old.words ≡ flat_map block_words bs ++ rest → IsNoneNext section_start rest → All IsBlockLawful bs → AreVariables (variables.old ++ flat_map block_variables bs) → ⊥) }
         ensures names { IfErr result (BeginRefused (λ k. RefusesBlocks k variables.old) self.old) }
-        ensures stuck { IfErr result (GetsStuck (MoreBlocks ∷ []) self.old) }
+        ensures stuck { IfErr result (GetsStuck (BeginsSound (judged_blocks variables.old) AreBlocksFormed) (MoreBlocks ∷ []) self.old) }
         ensures value { IfErr result IsGrammarFault }
     {
         let mut blocks = Vec::new(alloc);
         'sections: while self.sees_section() {
+            // So it does here.
+            let _declared = variables.len();
             let block = self.block(alloc, variables)?;
             blocks.push(block)?;
         }
@@ -280,7 +287,7 @@ impl<'a> Reader<'a> {
         ensures other { IfErr result (λ e. e.kind ≢ Memory → (name : List ℕ) (rest : List Token) → self.old.words ≡ token.Name name ∷ rest → IsNew (λ p. p.name) (programs_of before.now) name → length before.now < 64 → ⊥) }
         ensures tells { IfErr result (TellsOfType before.now self.old.words) }
         ensures line { IfErr result (IsAtNext self.old) }
-        ensures stuck { IfErr result (GetsStuck (AName ∷ []) self.old) }
+        ensures stuck { IfErr result (GetsStuck IsNothing (AName ∷ []) self.old) }
         ensures value { IfErr result IsGrammarFault }
     {
         let line = self.line();
@@ -299,7 +306,7 @@ impl<'a> Reader<'a> {
         ensures few { OnOk result (length before.now < 64) }
         ensures other { IfErr result (λ e. e.kind ≢ Memory → (name : List ℕ) (rest : List Token) → self.old.words ≡ key_word key.Program ∷ token.Name name ∷ rest → IsNew (λ p. p.name) (programs_of before.now) name → length before.now < 64 → ⊥) }
         ensures names { IfErr result (BeginRefused (λ k. RefusesProgram k (programs_of before.now)) self.old) }
-        ensures stuck { IfErr result (GetsStuck (Key key.Program ∷ AName ∷ []) self.old) }
+        ensures stuck { IfErr result (GetsStuck (BeginsSound (judged_program (programs_of before.now)) IsProgramWellFormed) (Key key.Program ∷ AName ∷ []) self.old) }
         ensures value { IfErr result IsGrammarFault }
     {
         self.keyword(Keyword::Program)?;
@@ -313,7 +320,7 @@ impl<'a> Reader<'a> {
         ensures bodies { OnOk result (self.old.bodies ≡ next_line self.old ∷ self.new.bodies) }
         ensures other { IfErr result (λ e. e.kind ≢ Memory → (body : List ℕ) (rest : List Token) → self.old.words ≡ token.Body body ∷ key_word key.EndProgram ∷ rest → ⊥) }
         ensures tells { IfErr result (λ e. TellsOfName e.kind ⊥ ⊥) }
-        ensures stuck { IfErr result (GetsStuck (ABody ∷ Key key.EndProgram ∷ []) self.old) }
+        ensures stuck { IfErr result (GetsStuck (BeginsWords end_words (λ b. Unit {0})) (ABody ∷ Key key.EndProgram ∷ []) self.old) }
         ensures value { IfErr result IsGrammarFault }
     {
         let body = self.body(alloc)?;
@@ -336,12 +343,14 @@ impl<'a> Reader<'a> {
         ensures declared { IfOk result (λ p. IsProgramLawful p.program) }
         ensures other { IfErr result (λ e. e.kind ≢ Memory → (p : Program) (rest : List Token) → self.old.words ≡ program_words p ++ rest → IsNew (λ p. p.name) (programs_of before.now) p.name → length before.now < 64 → IsProgramLawful p → ⊥) }
         ensures names { IfErr result (BeginRefused (λ k. RefusesProgram k (programs_of before.now)) self.old) }
-        ensures stuck { IfErr result (GetsStuck (Key key.Program ∷ program_rest) self.old) }
+        ensures stuck { IfErr result (GetsStuck (BeginsSound (judged_program (programs_of before.now)) IsProgramWellFormed) (Key key.Program ∷ program_rest) self.old) }
         ensures value { IfErr result IsGrammarFault }
     {
         let name = self.program_start(alloc, before)?;
         let mut variables = Variables::new(alloc);
         let blocks = self.blocks(alloc, &mut variables)?;
+        // The getter hands out that the variables have names of their own, and are 1,000 at most.
+        let _declared = variables.len();
         let first_line = self.line();
         let body = self.program_end(alloc)?;
         let program = Program { name, blocks, body };
@@ -365,7 +374,7 @@ impl<'a> Reader<'a> {
         ensures none { OnOk result (IsNotNext (key_word key.Program) self.new.words) }
         ensures other { IfErr result (λ e. e.kind ≢ Memory → (ps : List Program) (rest : List Token) → all_words texts.old.items self.old.words ≡ flat_map program_words ps ++ rest → IsNotNext (key_word key.Program) rest → AreProgramsDeclared ps → ⊥) }
         ensures names { IfErr result (BeginRefusedBehind (RefusesFurtherProgram (programs_of texts.new.items)) self.old (all_words texts.old.items self.old.words)) }
-        ensures stuck { IfErr result (GetsStuck (MorePrograms ∷ []) self.old) }
+        ensures stuck { IfErr result (GetsStuck (λ words. BeginsSound judged_of IsTreeWellFormed (all_words texts.old.items words)) (MorePrograms ∷ []) self.old) }
         ensures whole { IfErr result (λ e. e.kind ≡ Syntax → AreAllPrograms (all_words texts.old.items self.old.words) (programs_of texts.new.items)) }
         ensures value { IfErr result IsGrammarFault }
     {

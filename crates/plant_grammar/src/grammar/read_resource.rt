@@ -23,10 +23,14 @@ ghost use Rattle.plant_grammar.specs.Names.{is_named, AreNamesApart};
 ghost use Rattle.plant_grammar.specs.Lawful.{variables, task_of, use_of, uses_of, IsUseLawful, IsResourceLawful, AreItemsLawful, AreResourcesLawful};
 ghost use Rattle.plant_grammar.specs.SourceLines.{IsUseOn, IsItemOn, EachBefore, IsResourceOn, AreSourcesOn};
 ghost use Rattle.plant_grammar.specs.Steps.Lines.{HasLinesOf, KeepsLines, IsNotNext, IsNoneNext};
-ghost use Rattle.plant_grammar.specs.NameFaults.{TellsOfName, IsUnknown, IsAfter, RefusesTask, RefusesOneBind, RefusesBind, IsNew};
+ghost use Rattle.plant_grammar.specs.Steps.NamesRead.{TellsOfName, IsUnknown, IsAfter, RefusesTask, RefusesOneBind, RefusesBind, IsNew};
 ghost use Rattle.plant_grammar.specs.Steps.Declaring.{TellsOfTask, TellsOfInstance, TellsOfMissing, TellsOfInput, TellsOfAddress, TellsOfResource, BeginRefused, IsAtNext, RefusesFurtherInstance, RefusesItem, RefusesFurtherItems, RefusesFurtherResource, RefusesFurtherResources, RefusesInParentheses};
 ghost use Rattle.plant_grammar.specs.Steps.ReadParts.{types_alone, with_instance, with_binds, tally_with, EndWithBinds, bound_in, MayFollow, KeepsLinesOf, AreKeptLines};
 ghost use Rattle.plant_grammar.specs.Steps.Expected.{Key, Mark, AName, ASource, AnItem, MayHaveBinds, TheSettings, FirstBind, MoreItems, MoreResources, interval_rest, priority_rest, task_rest, bind_rest, instance_rest, resource_rest, GetsStuck};
+ghost use Rattle.plant_grammar.specs.NameFaults.{judged_task, judged_bind, judged_binds, judged_use, judged_item, judged_resource};
+ghost use Rattle.plant_grammar.specs.JudgedWords.{judged_source};
+ghost use Rattle.plant_grammar.specs.WellFormed.{IsResourceWellFormed};
+ghost use Rattle.plant_grammar.specs.Steps.SoundWords.{Fits, BeginsSound, BeginsWords, BeginWords, BeginsSettings, BeginsOutput, IsNothing, ListedFit, judged_in_parentheses, IsItemFormed, judged_items, AreItemsFormed, judged_resources_behind, AreResourcesFormed};
 ghost use Rattle.plant_grammar.specs.Steps.Reading.{programs_of};
 ghost use Rattle.plant_grammar.specs.Steps.Refusing.{HasRoomFor, AreTypesApart};
 ghost use Rattle.plant_grammar.specs.Kinds.{input_kind_of, HasFieldKind, IsOfInputKind};
@@ -62,7 +66,7 @@ impl<'a> Reader<'a> {
         ensures positive { IfOk result (λ n. 0 < n) }
         ensures other { OnErr result ((n : ℕ) (rest : List Token) → self.old.words ≡ interval_words n ++ rest → 0 < n → ⊥) }
         ensures tells { IfErr result (λ e. TellsOfName e.kind ⊥ ⊥) }
-        ensures stuck { IfErr result (GetsStuck (Key key.Interval ∷ interval_rest) self.old) }
+        ensures stuck { IfErr result (GetsStuck (BeginsWords interval_words (λ n. 0 < n)) (Key key.Interval ∷ interval_rest) self.old) }
         ensures value { IfErr result IsGrammarFault }
     {
         self.keyword(Keyword::Interval)?;
@@ -82,7 +86,7 @@ impl<'a> Reader<'a> {
         ensures left { OnOk result (KeepsLines self.old self.new) }
         ensures other { OnErr result ((n : ℕ) (rest : List Token) → self.old.words ≡ priority_words n ++ rest → ⊥) }
         ensures tells { IfErr result (λ e. TellsOfName e.kind ⊥ ⊥) }
-        ensures stuck { IfErr result (GetsStuck (Key key.Priority ∷ priority_rest) self.old) }
+        ensures stuck { IfErr result (GetsStuck (BeginsWords priority_words (λ n. Unit {0})) (Key key.Priority ∷ priority_rest) self.old) }
         ensures value { IfErr result IsGrammarFault }
     {
         self.keyword(Keyword::Priority)?;
@@ -98,7 +102,7 @@ impl<'a> Reader<'a> {
         ensures other { OnErr result ((o : Order) (i n : ℕ) (rest : List Token) → self.old.words ≡ settings o i n ++ rest → 0 < i → ⊥) }
         ensures only { OnOk result ((o : Order) (i n : ℕ) (rest : List Token) → self.old.words ≡ settings o i n ++ rest → rest ≡ self.new.words) }
         ensures tells { IfErr result (λ e. TellsOfName e.kind ⊥ ⊥) }
-        ensures stuck { IfErr result (GetsStuck (TheSettings ∷ []) self.old) }
+        ensures stuck { IfErr result (GetsStuck BeginsSettings (TheSettings ∷ []) self.old) }
         ensures value { IfErr result IsGrammarFault }
     {
         if self.sees_keyword(Keyword::Interval) {
@@ -124,7 +128,7 @@ impl<'a> Reader<'a> {
         ensures other { IfErr result (λ e. e.kind ≢ Memory → (name : List ℕ) (rest : List Token) → self.old.words ≡ token.Name name ∷ rest → IsNew (λ t. t.name) (flat_map task_of before.now) name → length (flat_map task_of before.now) < 16 → ⊥) }
         ensures tells { IfErr result (TellsOfTask before.now self.old.words) }
         ensures line { IfErr result (IsAtNext self.old) }
-        ensures stuck { IfErr result (GetsStuck (AName ∷ []) self.old) }
+        ensures stuck { IfErr result (GetsStuck IsNothing (AName ∷ []) self.old) }
         ensures value { IfErr result IsGrammarFault }
     {
         let line = self.line();
@@ -147,7 +151,7 @@ impl<'a> Reader<'a> {
         ensures positive { IfOk result (λ t. 0 < t.interval) }
         ensures other { IfErr result (λ e. e.kind ≢ Memory → (t : TaskLine) (rest : List Token) → self.old.words ≡ task_words t ++ rest → IsNew (λ t. t.name) (flat_map task_of before.now) t.name → length (flat_map task_of before.now) < 16 → 0 < t.interval → ⊥) }
         ensures names { IfErr result (BeginRefused (λ k. RefusesTask k before.now) self.old) }
-        ensures stuck { IfErr result (GetsStuck (Key key.Task ∷ task_rest) self.old) }
+        ensures stuck { IfErr result (GetsStuck (BeginsSound (judged_task (flat_map task_of before.now)) (λ t. 0 < t.interval)) (Key key.Task ∷ task_rest) self.old) }
         ensures value { IfErr result IsGrammarFault }
     {
         self.keyword(Keyword::Task)?;
@@ -192,7 +196,7 @@ impl<'a> Reader<'a> {
         ensures kind { (kind : Kind) → IfOk result (HasFieldKind kind) }
         ensures other { IfErr result (λ e. e.kind ≢ Memory → (r i o : List ℕ) (rest : List Token) → self.old.words ≡ source_words (source.Output r i o) ++ rest → ⊥) }
         ensures tells { IfErr result (λ e. TellsOfName e.kind ⊥ ⊥) }
-        ensures stuck { IfErr result (GetsStuck (AName ∷ Mark mark.Dot ∷ AName ∷ Mark mark.Dot ∷ AName ∷ []) self.old) }
+        ensures stuck { IfErr result (GetsStuck BeginsOutput (AName ∷ Mark mark.Dot ∷ AName ∷ Mark mark.Dot ∷ AName ∷ []) self.old) }
         ensures value { IfErr result IsGrammarFault }
     {
         let resource = self.name(alloc)?;
@@ -216,7 +220,7 @@ impl<'a> Reader<'a> {
         ensures other { IfErr result (λ e. e.kind ≢ Memory → (s : SourceName) (rest : List Token) → self.old.words ≡ source_words s ++ rest → HasFieldKind kind s → ⊥) }
         ensures tells { IfErr result (TellsOfAddress kind self.old.words) }
         ensures line { IfErr result (IsAtNext self.old) }
-        ensures stuck { IfErr result (GetsStuck (ASource ∷ []) self.old) }
+        ensures stuck { IfErr result (GetsStuck (BeginsSound (judged_source (Some kind)) (λ s. Unit {0})) (ASource ∷ []) self.old) }
         ensures value { IfErr result IsGrammarFault }
     {
         if self.sees_address() {
@@ -244,7 +248,7 @@ impl<'a> Reader<'a> {
         ensures other { IfErr result (λ e. e.kind ≢ Memory → (name : List ℕ) (k : Kind) (rest : List Token) → self.old.words ≡ token.Name name ∷ rest → input_kind_of (variables program.now.program) name ≡ Some k → IsNew (λ b. b.input) before.now name → tally.old.binds < 4096 → ⊥) }
         ensures tells { IfErr result (TellsOfInput tally.old.binds (variables program.now.program) before.now self.old.words) }
         ensures line { IfErr result (IsAtNext self.old) }
-        ensures stuck { IfErr result (GetsStuck (AName ∷ []) self.old) }
+        ensures stuck { IfErr result (GetsStuck IsNothing (AName ∷ []) self.old) }
         ensures value { IfErr result IsGrammarFault }
     {
         let line = self.line();
@@ -277,7 +281,7 @@ impl<'a> Reader<'a> {
         ensures tally { OnOk result (tally.new ≡ with_binds tally.old 1) }
         ensures other { IfErr result (λ e. e.kind ≢ Memory → (b : Bind) (rest : List Token) → self.old.words ≡ bind_words b ++ rest → IsOfInputKind (variables program.now.program) b → IsNew (λ b. b.input) before.now b.input → tally.old.binds < 4096 → ⊥) }
         ensures names { IfErr result (BeginRefused (RefusesOneBind tally.old.binds (variables program.now.program) before.now) self.old) }
-        ensures stuck { IfErr result (GetsStuck (AName ∷ bind_rest) self.old) }
+        ensures stuck { IfErr result (GetsStuck (BeginsSound (judged_bind (variables program.now.program) tally.old.binds before.now) (λ b. Unit {0})) (AName ∷ bind_rest) self.old) }
         ensures value { IfErr result IsGrammarFault }
     {
         let (input, kind) = self.bound_input(alloc, program, before, tally)?;
@@ -306,7 +310,7 @@ impl<'a> Reader<'a> {
         ensures tally { IfOk result (λ binds. tally.new ≡ with_binds tally.old (length binds.items)) }
         ensures other { IfErr result (λ e. e.kind ≢ Memory → (bs : List Bind) (rest : List Token) → EndWithBinds bs self.old.words rest → AreNamesApart (map (λ b. b.input) bs) → All (IsOfInputKind (variables program.now.program)) bs → tally.old.binds + length bs ≤ 4096 → ⊥) }
         ensures names { IfErr result (BeginRefused (λ k. RefusesBind k tally.old.binds (variables program.now.program)) self.old) }
-        ensures stuck { IfErr result (GetsStuck (FirstBind ∷ []) self.old) }
+        ensures stuck { IfErr result (GetsStuck (BeginsSound (judged_in_parentheses (variables program.now.program) tally.old.binds) Fits) (FirstBind ∷ []) self.old) }
         ensures value { IfErr result IsGrammarFault }
     {
         let mut binds = Vec::new(alloc);
@@ -321,6 +325,8 @@ impl<'a> Reader<'a> {
                 binds.push(self.bind(alloc, program, &binds, tally, lines)?)?;
             }
         }
+        // And with all of them.
+        let _all = tally.binds();
         self.punctuation(Punctuation::Close)?;
         Ok(binds)
     }
@@ -345,7 +351,7 @@ impl<'a> Reader<'a> {
         ensures other { IfErr result (λ e. e.kind ≢ Memory → (bs : Option (List Bind)) (rest : List Token) → self.old.words ≡ binds_words bs ++ mark_word mark.Semicolon ∷ rest → AreNamesApart (map (λ b. b.input) (items_or_none bs)) → All (IsOfInputKind (variables program.now.program)) (items_or_none bs) → tally.old.binds + length (items_or_none bs) ≤ 4096 → ⊥) }
         ensures only { OnOk result ((bs : Option (List Bind)) (rest : List Token) → self.old.words ≡ binds_words bs ++ mark_word mark.Semicolon ∷ rest → self.new.words ≡ mark_word mark.Semicolon ∷ rest) }
         ensures names { IfErr result (BeginRefused (RefusesInParentheses tally.old.binds (variables program.now.program)) self.old) }
-        ensures stuck { IfErr result (GetsStuck (MayHaveBinds ∷ []) self.old) }
+        ensures stuck { IfErr result (GetsStuck (BeginsSound (judged_binds (variables program.now.program) tally.old.binds) ListedFit) (MayHaveBinds ∷ []) self.old) }
         ensures value { IfErr result IsGrammarFault }
     {
         if self.sees_punctuation(Punctuation::Open) {
@@ -372,7 +378,7 @@ impl<'a> Reader<'a> {
         ensures other { IfErr result (λ e. e.kind ≢ Memory → (name : List ℕ) (rest : List Token) → self.old.words ≡ token.Name name ∷ rest → IsNew (λ u. u.instance) (flat_map use_of before.now) name → tally.old.instances < 64 → ⊥) }
         ensures tells { IfErr result (TellsOfInstance before.now tally.old.instances self.old.words) }
         ensures line { IfErr result (IsAtNext self.old) }
-        ensures stuck { IfErr result (GetsStuck (AName ∷ []) self.old) }
+        ensures stuck { IfErr result (GetsStuck IsNothing (AName ∷ []) self.old) }
         ensures value { IfErr result IsGrammarFault }
     {
         let line = self.line();
@@ -391,7 +397,7 @@ impl<'a> Reader<'a> {
         ensures other { IfErr result (λ e. e.kind ≢ Memory → (name : List ℕ) (rest : List Token) → self.old.words ≡ token.Name name ∷ rest → Any (λ t. IsTrue (is_named name t.name)) (flat_map task_of before.now) → ⊥) }
         ensures tells { IfErr result (TellsOfMissing (λ t. t.name) (flat_map task_of before.now) self.old.words) }
         ensures line { IfErr result (IsAtNext self.old) }
-        ensures stuck { IfErr result (GetsStuck (AName ∷ []) self.old) }
+        ensures stuck { IfErr result (GetsStuck IsNothing (AName ∷ []) self.old) }
         ensures value { IfErr result IsGrammarFault }
     {
         let line = self.line();
@@ -418,7 +424,7 @@ impl<'a> Reader<'a> {
         ensures few { OnOk result (tally.old.instances < 64) }
         ensures other { IfErr result (λ e. e.kind ≢ Memory → (name : List ℕ) (rest : List Token) → self.old.words ≡ key_word key.Program ∷ token.Name name ∷ rest → IsNew (λ u. u.instance) (flat_map use_of before.now) name → tally.old.instances < 64 → ⊥) }
         ensures names { (programs : List ProgramTree) → IfErr result (BeginRefused (RefusesFurtherInstance tally.old programs before.now) self.old) }
-        ensures stuck { IfErr result (GetsStuck (Key key.Program ∷ AName ∷ []) self.old) }
+        ensures stuck { IfErr result (GetsStuck (BeginWords (key_word key.Program ∷ [])) (Key key.Program ∷ AName ∷ []) self.old) }
         ensures value { IfErr result IsGrammarFault }
     {
         self.keyword(Keyword::Program)?;
@@ -433,7 +439,7 @@ impl<'a> Reader<'a> {
         ensures known { IfOk result (λ name. Any (λ t. IsTrue (is_named name t.name)) (flat_map task_of before.now)) }
         ensures other { IfErr result (λ e. e.kind ≢ Memory → (name : List ℕ) (rest : List Token) → self.old.words ≡ key_word key.With ∷ token.Name name ∷ rest → Any (λ t. IsTrue (is_named name t.name)) (flat_map task_of before.now) → ⊥) }
         ensures names { IfErr result (BeginRefused (λ k. IsAfter (key_word key.With) (IsUnknown k (λ t. t.name) (flat_map task_of before.now))) self.old) }
-        ensures stuck { IfErr result (GetsStuck (Key key.With ∷ AName ∷ []) self.old) }
+        ensures stuck { IfErr result (GetsStuck (BeginWords (key_word key.With ∷ [])) (Key key.With ∷ AName ∷ []) self.old) }
         ensures value { IfErr result IsGrammarFault }
     {
         self.keyword(Keyword::With)?;
@@ -452,7 +458,7 @@ impl<'a> Reader<'a> {
         ensures found { IfOk result (λ p. find (λ t. is_named p.0 t.program.name) types.now ≡ Some p.1.now) }
         ensures other { IfErr result (λ e. e.kind ≢ Memory → (name : List ℕ) (rest : List Token) → self.old.words ≡ mark_word mark.Colon ∷ token.Name name ∷ rest → find (λ t. is_named name t.program.name) types.now ≢ None → ⊥) }
         ensures names { IfErr result (BeginRefused (λ k. IsAfter (mark_word mark.Colon) (IsUnknown k (λ p. p.name) (programs_of types.now))) self.old) }
-        ensures stuck { IfErr result (GetsStuck (Mark mark.Colon ∷ AName ∷ []) self.old) }
+        ensures stuck { IfErr result (GetsStuck (BeginWords (mark_word mark.Colon ∷ [])) (Mark mark.Colon ∷ AName ∷ []) self.old) }
         ensures value { IfErr result IsGrammarFault }
     {
         self.punctuation(Punctuation::Colon)?;
@@ -481,7 +487,7 @@ impl<'a> Reader<'a> {
         ensures tally { IfOk result (λ u. tally.new ≡ tally_with tally.old (u ∷ [])) }
         ensures other { IfErr result (λ e. e.kind ≢ Memory → (u : Use) (rest : List Token) → self.old.words ≡ use_words u ++ rest → AreTypesApart types.now → IsNew (λ u. u.instance) (flat_map use_of before.now) u.instance → IsUseLawful (types_alone types.now) before.now u → HasRoomFor tally.old (u ∷ []) → ⊥) }
         ensures names { IfErr result (BeginRefused (RefusesFurtherInstance tally.old (programs_of types.now) before.now) self.old) }
-        ensures stuck { IfErr result (GetsStuck (Key key.Program ∷ instance_rest) self.old) }
+        ensures stuck { IfErr result (GetsStuck (BeginsSound (judged_use (programs_of types.now) tally.old.instances tally.old.binds before.now) (λ u. Unit {0})) (Key key.Program ∷ instance_rest) self.old) }
         ensures value { IfErr result IsGrammarFault }
     {
         let instance = self.instance_start(alloc, before, tally)?;
@@ -489,6 +495,8 @@ impl<'a> Reader<'a> {
         let (program, text) = self.type_of_instance(alloc, types)?;
         let mut lines = Vec::new(alloc);
         let binds = self.some_binds(alloc, text, tally, &mut lines)?;
+        // The getter hands out that the plant has at most 4,096 binds so far.
+        let _bound = tally.binds();
         self.punctuation(Punctuation::Semicolon)?;
         Ok(Use {
             instance,
@@ -515,7 +523,7 @@ impl<'a> Reader<'a> {
         ensures tally { IfOk result (λ x. tally.new ≡ tally_with tally.old (use_of x)) }
         ensures other { IfErr result (λ e. e.kind ≢ Memory → (x : Item) (rest : List Token) → self.old.words ≡ item_words x ++ rest → AreTypesApart types.now → MayFollow (types_alone types.now) before.now x → HasRoomFor tally.old (use_of x) → ⊥) }
         ensures names { IfErr result (BeginRefused (RefusesItem tally.old (programs_of types.now) before.now) self.old) }
-        ensures stuck { IfErr result (GetsStuck (AnItem ∷ []) self.old) }
+        ensures stuck { IfErr result (GetsStuck (BeginsSound (judged_item (programs_of types.now) tally.old.instances tally.old.binds before.now) IsItemFormed) (AnItem ∷ []) self.old) }
         ensures value { IfErr result IsGrammarFault }
     {
         if self.sees_keyword(Keyword::Task) {
@@ -540,7 +548,7 @@ impl<'a> Reader<'a> {
         ensures tally { IfOk result (λ xs. tally.new ≡ tally_with tally.old (flat_map use_of xs.items)) }
         ensures other { IfErr result (λ e. e.kind ≢ Memory → (xs : List Item) (rest : List Token) → self.old.words ≡ items_words xs ++ rest → AreTypesApart types.now → AreItemsLawful (types_alone types.now) xs → HasRoomFor tally.old (flat_map use_of xs) → ⊥) }
         ensures names { IfErr result (BeginRefused (RefusesFurtherItems tally.old (programs_of types.now)) self.old) }
-        ensures stuck { IfErr result (GetsStuck (MoreItems ∷ []) self.old) }
+        ensures stuck { IfErr result (GetsStuck (λ words. AreTypesApart types.now → BeginsSound (judged_items (programs_of types.now) tally.old.instances tally.old.binds) AreItemsFormed words) (MoreItems ∷ []) self.old) }
         ensures value { IfErr result IsGrammarFault }
     {
         let mut items = Vec::new(alloc);
@@ -565,7 +573,7 @@ impl<'a> Reader<'a> {
         ensures other { IfErr result (λ e. e.kind ≢ Memory → (name : List ℕ) (rest : List Token) → self.old.words ≡ token.Name name ∷ rest → IsNew (λ r. r.name) before.now name → length before.now < 16 → ⊥) }
         ensures tells { IfErr result (TellsOfResource before.now self.old.words) }
         ensures line { IfErr result (IsAtNext self.old) }
-        ensures stuck { IfErr result (GetsStuck (AName ∷ []) self.old) }
+        ensures stuck { IfErr result (GetsStuck IsNothing (AName ∷ []) self.old) }
         ensures value { IfErr result IsGrammarFault }
     {
         let line = self.line();
@@ -596,7 +604,7 @@ impl<'a> Reader<'a> {
         ensures tally { IfOk result (λ r. tally.new ≡ tally_with tally.old (uses_of r)) }
         ensures other { IfErr result (λ e. e.kind ≢ Memory → (r : Resource) (rest : List Token) → self.old.words ≡ resource_words r ++ rest → AreTypesApart types.now → IsNew (λ r. r.name) before.now r.name → length before.now < 16 → IsResourceLawful (types_alone types.now) r → HasRoomFor tally.old (uses_of r) → ⊥) }
         ensures names { IfErr result (BeginRefused (RefusesFurtherResource tally.old (programs_of types.now) before.now) self.old) }
-        ensures stuck { IfErr result (GetsStuck (Key key.Resource ∷ resource_rest) self.old) }
+        ensures stuck { IfErr result (GetsStuck (λ words. AreTypesApart types.now → BeginsSound (judged_resource (programs_of types.now) tally.old.instances tally.old.binds before.now) IsResourceWellFormed words) (Key key.Resource ∷ resource_rest) self.old) }
         ensures value { IfErr result IsGrammarFault }
     {
         self.keyword(Keyword::Resource)?;
@@ -623,7 +631,7 @@ impl<'a> Reader<'a> {
         ensures tally { IfOk result (λ rs. tally.new ≡ tally_with tally.old (flat_map uses_of rs.items)) }
         ensures other { IfErr result (λ e. e.kind ≢ Memory → (rs : List Resource) (rest : List Token) → self.old.words ≡ resources_words rs ++ rest → 0 < length rs → AreTypesApart types.now → AreResourcesLawful (types_alone types.now) rs → HasRoomFor tally.old (flat_map uses_of rs) → ⊥) }
         ensures names { IfErr result (BeginRefused (RefusesFurtherResources tally.old (programs_of types.now)) self.old) }
-        ensures stuck { IfErr result (GetsStuck (Key key.Resource ∷ resource_rest ++ MoreResources ∷ []) self.old) }
+        ensures stuck { IfErr result (GetsStuck (λ words. AreTypesApart types.now → BeginsSound (judged_resources_behind (programs_of types.now) tally.old.instances tally.old.binds) AreResourcesFormed words) (Key key.Resource ∷ resource_rest ++ MoreResources ∷ []) self.old) }
         ensures value { IfErr result IsGrammarFault }
     {
         let mut resources = Vec::new(alloc);

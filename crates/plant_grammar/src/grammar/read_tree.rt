@@ -11,7 +11,7 @@ ghost use Rattle.plant_grammar.specs.Steps.Lines.{HasLinesOf, next_line};
 ghost use Rattle.plant_grammar.specs.Steps.Expected.{MeetsMisplaced};
 ghost use Rattle.plant_grammar.specs.WellFormed.{IsTreeWellFormed};
 ghost use Rattle.plant_grammar.specs.WordFaults.{IsGrammarFault};
-ghost use Rattle.plant_grammar.specs.Steps.Declaring.{BeginRefused, RefusesPlantWords};
+ghost use Rattle.plant_grammar.specs.Steps.Declaring.{BeginRefused, RefusesFirst};
 ghost use Rattle.plant_grammar.specs.Steps.Reading.{programs_of, AreAllPrograms, IsTreeOf, BeginWithTexts, tree_written};
 
 use crate::grammar::program_text::ProgramText;
@@ -43,7 +43,7 @@ pub fn read_tree<'a>(
     ensures misplaced { IfErr result (λ e. e.kind ≡ Syntax → length reader.old.words < 2 ^ 63 → MeetsMisplaced reader.old e.line) }
     ensures whole { IfErr result (λ e. e.kind ≡ Syntax → AreAllPrograms reader.old.words (programs_of texts.new.items)) }
     ensures value { IfErr result IsGrammarFault }
-    ensures name { IfErr result (BeginRefused (RefusesPlantWords (programs_of texts.new.items)) reader.old) }
+    ensures name { IfErr result (BeginRefused (RefusesFirst (programs_of texts.new.items)) reader.old) }
 {
     reader.programs(alloc, texts)?;
     reader.keyword(Keyword::Configuration)?;

@@ -2,7 +2,7 @@ ghost use Rattle.std.specs.Prelude.{◌≡◌, ◌≢◌, ◌↔◌, ◌+◌, �
 ghost use Rattle.plant_grammar.specs.WordFaults.{IsGrammarFault};
 ghost use Rattle.declared_names.specs.Names.{IsDeclared};
 ghost use Rattle.plant_grammar.specs.Lawful.{declared_as, list_variables, AreVariables, MayBeDeclared};
-ghost use Rattle.plant_grammar.specs.NameFaults.{IsNameTaken, IsNew};
+ghost use Rattle.plant_grammar.specs.Steps.NamesRead.{IsNameTaken, IsNew};
 ghost use Rattle.plant_grammar.specs.Steps.Declaring.{TellsOfChecked, TellsOfAdded};
 ghost use Rattle.plant_grammar.specs.declared.grammar_fault.GrammarFaultKind.TheVariants.{Memory, Syntax};
 
@@ -67,7 +67,7 @@ impl Variables {
     }
 
     /// How many there are.
-    fn len(&self) -> usize
+    pub fn len(&self) -> usize
         ensures count { result ≡ length self.now }
         ensures few { result ≤ 1000 }
         ensures lawful { AreVariables self.now }

@@ -2,7 +2,7 @@
 use Rattle.std.specs.Prelude.{◌≡◌, ◌⊎◌, ℕ, List, Bool, length}
 use Rattle.std.specs.List.{AllZip}
 use Rattle.declared_names.specs.declared.declarations.Declaration.{Declaration}
-use Rattle.text_commands.specs.EvalText.{RefusesDrawing, RefusesWords}
+use Rattle.text_commands.specs.Sources.{RefusesName, RefusesSource, RefusesWords, SourceValue}
 use Rattle.text_commands.specs.Rows.{IsFirstRefused, RowValue, SpellNoRows, SpellRows}
 use Rattle.text_commands.specs.declared.text_command_fault.TextCommandFault.TheVariants.{Text, Word, Write, Memory}
 use Rattle.verifying.specs.declared.setup.Setting.{Setting}
@@ -70,9 +70,9 @@ RefusesAsking ds marks q fault = RefusesHolding ds marks q.words fault
 
 -- the ladder with its inputs, what is searched in its place, the places of the claims, the constants, and how many networks
 -- are needed and how many there are
-pub record IsPrepared (drawing : List ℕ) (q : QuestionValue) (u : SetupValue) (idle : List Bool) (v : SetupValue) (places constants : List ℕ)
+pub record IsPrepared (source : SourceValue) (q : QuestionValue) (u : SetupValue) (idle : List Bool) (v : SetupValue) (places constants : List ℕ)
     (needed networks : ℕ) : Type 0 where
-  pub is : IsSetup drawing q u
+  pub is : IsSetup source q u
   pub claims : AllZip (IsClaim u.ladder.declarations u.ladder.networks) q.claims places
   pub searched : IsSearched u places idle v
   pub timed : IsTimed u.ladder.declarations q.dt
@@ -81,18 +81,18 @@ pub record IsPrepared (drawing : List ℕ) (q : QuestionValue) (u : SetupValue) 
   pub networks_is : networks ≡ length u.ladder.networks
 
 -- why there is none
-abbrev pub RefusesPreparing : List ℕ → QuestionValue → VerifyFault → Type 0
-RefusesPreparing drawing q (Command (Text fault)) = RefusesDrawing drawing fault
-RefusesPreparing drawing q (Command (Word fault)) = RefusesWords drawing q.words fault
-RefusesPreparing drawing q (Command Write) = ⊥
-RefusesPreparing drawing q (Command Memory) = Unit {0}
-RefusesPreparing drawing q (Claim fault) = RefusesClaims drawing q fault
-RefusesPreparing drawing q (Given fault) = RefusesGiven drawing q fault
-RefusesPreparing drawing q (Held fault) = RefusesHeld drawing q fault
-RefusesPreparing drawing q (TooManyInputs count) = HasManyInputs drawing q count
-RefusesPreparing drawing q NoTime = LacksTime drawing q
+abbrev pub RefusesPreparing : SourceValue → QuestionValue → VerifyFault → Type 0
+RefusesPreparing source q (Command (Text fault)) = RefusesSource source fault
+RefusesPreparing source q (Command (Word fault)) = RefusesName source fault ⊎ RefusesWords source q.words fault
+RefusesPreparing source q (Command Write) = ⊥
+RefusesPreparing source q (Command Memory) = Unit {0}
+RefusesPreparing source q (Claim fault) = RefusesClaims source q fault
+RefusesPreparing source q (Given fault) = RefusesGiven source q fault
+RefusesPreparing source q (Held fault) = RefusesHeld source q fault
+RefusesPreparing source q (TooManyInputs count) = HasManyInputs source q count
+RefusesPreparing source q NoTime = LacksTime source q
 
 -- the text of an answer, and its summary
-pub record IsToldAnswer (drawing : List ℕ) (q : QuestionValue) (text : List ℕ) (summary : Summary) : Type 0 where
-  pub answer : IsAnswer drawing q text
+pub record IsToldAnswer (source : SourceValue) (q : QuestionValue) (text : List ℕ) (summary : Summary) : Type 0 where
+  pub answer : IsAnswer source q text
   pub summed : IsSummary answer.verdicts summary

@@ -7,5 +7,6 @@ use Rattle.console.proofs.commands.verify_command.Goals as goal
 
 pub returns : goal.returns
 returns c =
-    let flags = c.in_ok-warned_command.ensures ∙ ap warned c.in_ok-claimed_command.ensures in
-    IfOk-weaker c.arg.result _ _ (λ new added. added.shape c.words_arg.ensures.local ∙ ap₂ with_rule flags c.words_arg.ensures.rule) c.arg.ensures
+    let program = c.in_ok-command.ensures.shape c.program_arg.ensures.local ∙ ap₂ with_rule c.in_ok-claimed_command.ensures c.program_arg.ensures.rule in
+    let flags = c.in_ok-warned_command.ensures ∙ ap warned program in
+    IfOk-weaker c.arg-2.result _ _ (λ new added. added.shape c.words_arg.ensures.local ∙ ap₂ with_rule flags c.words_arg.ensures.rule) c.arg-2.ensures

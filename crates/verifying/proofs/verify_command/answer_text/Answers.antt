@@ -1,6 +1,7 @@
 use Rattle.std.proofs.Common.{◌≤◌, List, All, length, string_bytes, sym, ap, ◌∙◌, subst}
 use Rattle.lists.proofs.Results.{kept_fault}
 use Rattle.verifying.specs.Giving.{no_memory}
+use Rattle.text_commands.specs.Sources.{source_of}
 use Rattle.verifying.specs.Questions.{question_of}
 use Rattle.verifying.specs.declared.verdict.Verdict.{Verdict}
 use Rattle.verifying.specs.Steps.Adding.{FitsSetup}
@@ -16,27 +17,27 @@ use Rattle.verifying.proofs.verify_command.answer_text.Goals as goal
 
 pub returns-in_err-prepared-clause-err : goal.returns-in_err-prepared-clause-err
 returns-in_err-prepared-clause-err g c =
-    kept_fault c.in_err-prepared.field-0.0 (RefusesPreparing c.args.drawing.now (question_of c.args.question.now)) _ c.from_residual.ensures.1 c.in_err-prepared.ensures.err
+    kept_fault c.in_err-prepared.field-0.0 (RefusesPreparing (source_of c.args.source) (question_of c.args.question.now)) _ c.from_residual.ensures.1 c.in_err-prepared.ensures.err
 
 pub returns-in_err-found-clause-err : goal.returns-in_err-found-clause-err
 returns-in_err-found-clause-err g c =
-    kept_fault no_memory (RefusesPreparing c.args.drawing.now (question_of c.args.question.now)) _ c.from_residual-in_err-found.ensures.1 tt
+    kept_fault no_memory (RefusesPreparing (source_of c.args.source) (question_of c.args.question.now)) _ c.from_residual-in_err-found.ensures.1 tt
 
 pub returns-in_err-text-clause-err : goal.returns-in_err-text-clause-err
 returns-in_err-text-clause-err g c =
-    kept_fault no_memory (RefusesPreparing c.args.drawing.now (question_of c.args.question.now)) _ c.from_residual-in_err-text.ensures.1 tt
+    kept_fault no_memory (RefusesPreparing (source_of c.args.source) (question_of c.args.question.now)) _ c.from_residual-in_err-text.ensures.1 tt
 
 pub returns-in_err-push_premise_line-clause-err : goal.returns-in_err-push_premise_line-clause-err
 returns-in_err-push_premise_line-clause-err g c =
-    kept_fault no_memory (RefusesPreparing c.args.drawing.now (question_of c.args.question.now)) _ c.from_residual-in_err-push_premise_line.ensures.1 tt
+    kept_fault no_memory (RefusesPreparing (source_of c.args.source) (question_of c.args.question.now)) _ c.from_residual-in_err-push_premise_line.ensures.1 tt
 
 pub returns-in_err-tally-clause-err : goal.returns-in_err-tally-clause-err
 returns-in_err-tally-clause-err g c =
-    kept_fault no_memory (RefusesPreparing c.args.drawing.now (question_of c.args.question.now)) _ c.from_residual-in_err-tally.ensures.1 tt
+    kept_fault no_memory (RefusesPreparing (source_of c.args.source) (question_of c.args.question.now)) _ c.from_residual-in_err-tally.ensures.1 tt
 
 pub returns-in_err-verdicts-clause-err : goal.returns-in_err-verdicts-clause-err
 returns-in_err-verdicts-clause-err g c =
-    kept_fault no_memory (RefusesPreparing c.args.drawing.now (question_of c.args.question.now)) _ c.from_residual-in_err-verdicts.ensures.1 tt
+    kept_fault no_memory (RefusesPreparing (source_of c.args.source) (question_of c.args.question.now)) _ c.from_residual-in_err-verdicts.ensures.1 tt
 
 pub verify-requires : goal.verify-requires
 verify-requires g c = subst (λ (v : SetupValue). length v.free ≤ 20) (sym c.searched-searched.ensures) c.in_ok-prepared.ensures.ok.searched.few
@@ -71,7 +72,7 @@ returns-clause-ok g c =
     let counts = subst (λ v. All (AreCounts v q.most_states found.states found.scans) found.verdicts.items) c.searched-searched.ensures c.in_ok-found.ensures.counts in
     let one = subst HasOneScan c.searched-searched.ensures c.has_one_scan.ensures in
     let whole = rw c.deref-3.ensures.value at (rw c.free.ensures.list at (rw c.deref-2.ensures.value at c.in_ok-verdicts.ensures)) in
-    told_answer c.slices_follow.ensures c.args.drawing.now q p.whole (searched_of p.slice p.whole) p.idle.items p.claims.items p.constants.items p.needed p.networks
+    told_answer c.slices_follow.ensures (source_of c.args.source) q p.whole (searched_of p.slice p.whole) p.idle.items p.claims.items p.constants.items p.needed p.networks
     found.states found.scans found.verdicts.items c.in_ok-verdicts.verdicts.items c.in_ok-tally.tally (string_bytes c.in_ok-text.text) _ c.summary_of.result
     c.in_ok-prepared.ensures.ok one are counts whole c.in_ok-tally.ensures.rest c.in_ok-tally.ensures.met
     (rw c.deref-4.ensures.value at c.in_ok-text.ensures) (rw c.deref-5.ensures.value at c.in_ok-push_premise_line.ensures) (rw c.deref-6.ensures.value at c.summary_of.ensures)

@@ -1,12 +1,11 @@
-use Rattle.std.proofs.Common.{length, ap, ◌∙◌, subst}
-use Rattle.verifying.specs.Steps.Marks.{AreMarksOf}
+use Rattle.std.proofs.Common.{refl}
 use Rattle.verifying.proofs.Wholes.{marked_ladder}
 use Rattle.text_commands.specs.Steps.Refusing.{names_refused, networks_refused, drawing_refused}
 use Rattle.verifying.proofs.verify_command.marked_of_text.Goals as goal
 
 pub returns-in_err-ladder-clause-err : goal.returns-in_err-ladder-clause-err
 returns-in_err-ladder-clause-err c =
-    names_refused c.args.drawing.now c.in_err-ladder.field-0.0 c.from_residual-in_err-ladder.result c.from_residual-in_err-ladder.ensures.1
+    names_refused c.args.text.now c.in_err-ladder.field-0.0 c.from_residual-in_err-ladder.result c.from_residual-in_err-ladder.ensures.1
     (λ other. record {
       picture = c.in_ok-drawing.drawing;
       graph = c.in_ok-graph.graph;
@@ -21,7 +20,7 @@ returns-in_err-ladder-clause-err c =
 
 pub returns-in_err-graph-clause-err : goal.returns-in_err-graph-clause-err
 returns-in_err-graph-clause-err c =
-    networks_refused c.args.drawing.now c.in_err-graph.field-0.0 c.from_residual-in_err-graph.result c.from_residual-in_err-graph.ensures.1
+    networks_refused c.args.text.now c.in_err-graph.field-0.0 c.from_residual-in_err-graph.result c.from_residual-in_err-graph.ensures.1
     (λ other. let fault = c.in_err-graph.ensures.fault other in record {
       picture = c.in_ok-drawing.drawing;
       drawn = record { well_drawn = c.in_ok-drawing.ensures.well_drawn; picture = c.in_ok-drawing.ensures.drawing };
@@ -32,14 +31,10 @@ returns-in_err-graph-clause-err c =
 
 pub returns-in_err-drawing-clause-err : goal.returns-in_err-drawing-clause-err
 returns-in_err-drawing-clause-err c =
-    drawing_refused c.args.drawing.now c.in_err-drawing.field-0.0 c.from_residual.result c.from_residual.ensures.1
+    drawing_refused c.args.text.now c.in_err-drawing.field-0.0 c.from_residual.result c.from_residual.ensures.1
     (λ other. (c.in_err-drawing.ensures.refused other, other, c.in_err-drawing.ensures.first))
 
 pub returns-clause-marked : goal.returns-clause-marked
 returns-clause-marked c =
-    let places = c.in_ok-places.places.items in
-    let marks = c.in_ok-marks.marks.items in
-    let marked =
-    subst (λ n. AreMarksOf places n marks) c.len.ensures (subst (λ ps. AreMarksOf ps c.len.result marks) c.deref.ensures.value c.in_ok-marks.ensures) in
-    marked_ladder c.in_ok-declarations.declarations c.in_ok-graph.graph _ places c.in_ok-ladder.ensures.ok c.in_ok-places.ensures marked
-    (c.in_ok-rails.ensures.items ∙ c.rails.ensures) (ap length c.networks-networks.ensures.networks)
+    let known = c.in_ok-known.ensures in
+    marked_ladder c.in_ok-declarations.declarations c.in_ok-graph.graph _ _ c.in_ok-ladder.ensures.ok refl known.marks known.rails known.count

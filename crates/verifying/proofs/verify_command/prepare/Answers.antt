@@ -7,6 +7,7 @@ use Rattle.verifying.specs.declared.setup.Setting.{Setting}
 use Rattle.verifying.specs.declared.verify_fault.VerifyFault.TheVariants.{Command}
 use Rattle.verifying.specs.Giving.{no_memory}
 use Rattle.verifying.specs.Runs.{HasInputs, SetupValue}
+use Rattle.text_commands.specs.Sources.{source_of}
 use Rattle.verifying.specs.Questions.{question_of}
 use Rattle.verifying.specs.Steps.Asking.{IsPrepared, RefusesPreparing}
 use Rattle.verifying.specs.Steps.Wholes.{searched_of, slice_setup}
@@ -17,16 +18,16 @@ use Rattle.verifying.proofs.verify_command.prepare.Goals as goal
 pub returns-in_err-ladder-clause-err : goal.returns-in_err-ladder-clause-err
 returns-in_err-ladder-clause-err c =
     let q = question_of c.args.question.now in
-    kept_fault (Command c.in_err-ladder.field-0.0) (RefusesPreparing c.args.drawing.now q) _ c.from_residual.ensures.1
-    (text_refused c.args.drawing.now q c.in_err-ladder.field-0.0 c.in_err-ladder.ensures.err)
+    kept_fault (Command c.in_err-ladder.field-0.0) (RefusesPreparing (source_of c.args.source) q) _ c.from_residual.ensures.1
+    (text_refused (source_of c.args.source) q c.in_err-ladder.field-0.0 c.in_err-ladder.ensures.err)
 
 pub returns-in_err-asked-clause-err : goal.returns-in_err-asked-clause-err
 returns-in_err-asked-clause-err c =
     let q = question_of c.args.question.now in
     let m = c.in_ok-ladder.field-0 in
     let refused = rw c.declarations.ensures.list at (rw c.deref.ensures.value at c.in_err-asked.ensures.err) in
-    kept_fault c.in_err-asked.field-0.0 (RefusesPreparing c.args.drawing.now q) _ c.from_residual-in_err-asked.ensures.1
-    (asking_refused c.args.drawing.now q m.ladder.declarations m.ladder.networks m.marks.items c.in_err-asked.field-0.0 c.in_ok-ladder.ensures.ladder c.in_ok-ladder.ensures.marked.marks refused)
+    kept_fault c.in_err-asked.field-0.0 (RefusesPreparing (source_of c.args.source) q) _ c.from_residual-in_err-asked.ensures.1
+    (asking_refused (source_of c.args.source) q m.ladder.declarations m.ladder.networks m.marks.items c.in_err-asked.field-0.0 c.in_ok-ladder.ensures.ladder c.in_ok-ladder.ensures.marked.marks refused)
 
 pub needed_slice-requires : goal.needed_slice-requires
 needed_slice-requires c =
@@ -35,7 +36,7 @@ needed_slice-requires c =
 
 pub returns-in_err-sliced-clause-err : goal.returns-in_err-sliced-clause-err
 returns-in_err-sliced-clause-err c =
-    kept_fault no_memory (RefusesPreparing c.args.drawing.now (question_of c.args.question.now)) _ c.from_residual-in_err-sliced.ensures.1 tt
+    kept_fault no_memory (RefusesPreparing (source_of c.args.source) (question_of c.args.question.now)) _ c.from_residual-in_err-sliced.ensures.1 tt
 
 pub returns-in_err-free-clause-err : goal.returns-in_err-free-clause-err
 returns-in_err-free-clause-err c =
@@ -43,8 +44,8 @@ returns-in_err-free-clause-err c =
     let asked = rw c.declarations.ensures.list at (rw c.deref.ensures.value at c.in_ok-asked.ensures.ok) in
     let sliced = rw c.deref-4.ensures.value at (rw c.deref-3.ensures.value at c.in_ok-sliced.ensures) in
     let refused = rw c.deref-6.ensures.value at (rw c.deref-5.ensures.value at c.in_err-free.ensures.err) in
-    kept_fault c.in_err-free.field-0.0 (RefusesPreparing c.args.drawing.now q) _ c.from_residual-in_err-free.ensures.1
-    (few_refused c.args.drawing.now q c.in_ok-ladder.field-0 c.in_ok-asked.asked c.in_ok-sliced.sliced c.in_err-free.field-0.0 c.in_ok-ladder.ensures.ladder c.in_ok-ladder.ensures.marked asked sliced refused)
+    kept_fault c.in_err-free.field-0.0 (RefusesPreparing (source_of c.args.source) q) _ c.from_residual-in_err-free.ensures.1
+    (few_refused (source_of c.args.source) q c.in_ok-ladder.field-0 c.in_ok-asked.asked c.in_ok-sliced.sliced c.in_err-free.field-0.0 c.in_ok-ladder.ensures.ladder c.in_ok-ladder.ensures.marked asked sliced refused)
 
 pub returns-in_err-check_time-clause-err : goal.returns-in_err-check_time-clause-err
 returns-in_err-check_time-clause-err c =
@@ -53,13 +54,13 @@ returns-in_err-check_time-clause-err c =
     let sliced = rw c.deref-4.ensures.value at (rw c.deref-3.ensures.value at c.in_ok-sliced.ensures) in
     let same = rw c.deref-6.ensures.value at (rw c.deref-5.ensures.value at c.in_ok-free.ensures.ok) in
     let refused = rw c.declarations-2.ensures.list at c.in_err-check_time.ensures.err in
-    kept_fault c.in_err-check_time.field-0.0 (RefusesPreparing c.args.drawing.now q) _ c.from_residual-in_err-check_time.ensures.1
-    (time_refused c.args.drawing.now q c.in_ok-ladder.field-0 c.in_ok-asked.asked c.in_ok-sliced.sliced c.in_ok-free.free.items
+    kept_fault c.in_err-check_time.field-0.0 (RefusesPreparing (source_of c.args.source) q) _ c.from_residual-in_err-check_time.ensures.1
+    (time_refused (source_of c.args.source) q c.in_ok-ladder.field-0 c.in_ok-asked.asked c.in_ok-sliced.sliced c.in_ok-free.free.items
     c.in_err-check_time.field-0.0 c.in_ok-ladder.ensures.ladder c.in_ok-ladder.ensures.marked asked sliced same c.in_ok-free.ensures.few refused)
 
 pub returns-in_err-constants-clause-err : goal.returns-in_err-constants-clause-err
 returns-in_err-constants-clause-err c =
-    kept_fault no_memory (RefusesPreparing c.args.drawing.now (question_of c.args.question.now)) _ c.from_residual-in_err-constants.ensures.1 tt
+    kept_fault no_memory (RefusesPreparing (source_of c.args.source) (question_of c.args.question.now)) _ c.from_residual-in_err-constants.ensures.1 tt
 
 pub slice_setup-requires : goal.slice_setup-requires
 slice_setup-requires c = λ slice is.
@@ -71,7 +72,7 @@ slice_setup-requires c = λ slice is.
 
 pub returns-in_err-slice-clause-err : goal.returns-in_err-slice-clause-err
 returns-in_err-slice-clause-err c =
-    kept_fault no_memory (RefusesPreparing c.args.drawing.now (question_of c.args.question.now)) _ c.from_residual-in_err-slice.ensures.1 tt
+    kept_fault no_memory (RefusesPreparing (source_of c.args.source) (question_of c.args.question.now)) _ c.from_residual-in_err-slice.ensures.1 tt
 
 pub new-whole-requires : goal.new-whole-requires
 new-whole-requires c =
@@ -95,7 +96,7 @@ returns-clause-ok c =
     let timed = rw c.declarations-2.ensures.list at c.in_ok-check_time.ensures.ok in
     let found = rw c.declarations-3.ensures.list at (rw c.deref-7.ensures.value at c.in_ok-constants.ensures) in
     let made = rw c.deref-9.ensures.value at (rw c.deref-8.ensures.value at c.in_ok-slice.ensures) in
-    subst (λ (w : SetupValue). IsPrepared c.args.drawing.now q w s.idle.items (searched_of c.in_ok-slice.slice w) a.claims.items constants count m.networks) (sym c.new-whole.ensures)
-    (subst (λ (o : Option SetupValue). IsPrepared c.args.drawing.now q u s.idle.items (searched_of o u) a.claims.items constants count m.networks) (sym made)
-    (subst (λ (n : ℕ). IsPrepared c.args.drawing.now q u s.idle.items (searched_of (option_map (slice_setup q.dt needed a.held.items a.given.items) s.slice) u) a.claims.items constants n m.networks) (sym c.needed_count-needed.ensures)
-    (asked_prepared c.args.drawing.now q m a s needed constants c.in_ok-ladder.ensures.ladder c.in_ok-ladder.ensures.marked asked sliced same c.in_ok-free.ensures.few timed found)))
+    subst (λ (w : SetupValue). IsPrepared (source_of c.args.source) q w s.idle.items (searched_of c.in_ok-slice.slice w) a.claims.items constants count m.networks) (sym c.new-whole.ensures)
+    (subst (λ (o : Option SetupValue). IsPrepared (source_of c.args.source) q u s.idle.items (searched_of o u) a.claims.items constants count m.networks) (sym made)
+    (subst (λ (n : ℕ). IsPrepared (source_of c.args.source) q u s.idle.items (searched_of (option_map (slice_setup q.dt needed a.held.items a.given.items) s.slice) u) a.claims.items constants n m.networks) (sym c.needed_count-needed.ensures)
+    (asked_prepared (source_of c.args.source) q m a s needed constants c.in_ok-ladder.ensures.ladder c.in_ok-ladder.ensures.marked asked sliced same c.in_ok-free.ensures.few timed found)))

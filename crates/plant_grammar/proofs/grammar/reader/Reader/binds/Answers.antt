@@ -1,4 +1,4 @@
-use Rattle.std.proofs.Common.{◌≢◌, ◌+◌, ◌≤◌, List, length, map, refl, sym, ◌∙◌, arith, subst, ap, ◌≡◌, ◌∷◌, []}
+use Rattle.std.proofs.Common.{◌≢◌, ◌+◌, ◌≤◌, List, length, map, refl, sym, ◌∙◌, arith, subst, ap, ◌≡◌, ◌∷◌, [], ◌++◌}
 use Rattle.plant_grammar.specs.declared.grammar.tree.Bind.{Bind}
 use Rattle.plant_grammar.specs.Steps.ReadParts.{TallyValue, EndWithBinds}
 use Rattle.plant_grammar.proofs.Apart.{apart_more}
@@ -6,7 +6,7 @@ use Rattle.plant_grammar.specs.Kinds.{IsOfInputKind}
 use Rattle.plant_grammar.specs.Lawful.{variables}
 use Rattle.plant_grammar.proofs.WordLists.{binds_more, grown, all_more}
 use Rattle.plant_grammar.proofs.ResourceLines.{bind_counted}
-use Rattle.plant_grammar.specs.NameFaults.{RefusesOneBind, RefusesBind, IsNew}
+use Rattle.plant_grammar.specs.Steps.NamesRead.{RefusesOneBind, RefusesBind, IsNew}
 use Rattle.plant_grammar.specs.Steps.Declaring.{BeginWith, BeginRefused, IsLineBefore}
 use Rattle.lists.proofs.Results.{kept_fault}
 use Rattle.plant_grammar.proofs.RefusedPlaces.{first_bind, next_bind}
@@ -16,15 +16,19 @@ use Rattle.plant_grammar.specs.declared.grammar_fault.GrammarFaultKind.TheVarian
 use Rattle.std.specs.Prelude.{All}
 use Rattle.std.specs.Global.{Vec}
 use Rattle.plant_grammar.specs.declared.grammar.tree.SourceLines.{SourceLines}
-use Rattle.plant_text.specs.declared.token.Punctuation.TheVariants.{Close}
-use Rattle.plant_grammar.specs.Grammar.{mark_word}
+use Rattle.plant_text.specs.declared.token.Punctuation.TheVariants.{Close, Comma}
+use Rattle.plant_grammar.specs.Grammar.{mark_word, with_commas}
 use Rattle.plant_grammar.specs.Names.{AreNamesApart}
 use Rattle.plant_grammar.specs.Steps.Lines.{ReaderValue, IsNotNext, syntax_at}
 use Rattle.plant_grammar.proofs.LawfulResources.{first_bind_allowed, next_bind_allowed, close_allowed}
 use Rattle.plant_grammar.specs.SourceLines.{AreBindsOn}
 use Rattle.plant_grammar.proofs.PlacedSources.{binds_pushed, no_binds_on}
-use Rattle.plant_grammar.specs.Steps.Expected.{FirstBind, GetsStuck}
+use Rattle.plant_grammar.specs.Steps.Expected.{AName, FirstBind, bind_rest, GetsStuck}
 use Rattle.plant_grammar.proofs.WalkedResources.{stuck_in_first_bind, stuck_in_next_bind, stuck_behind_binds}
+use Rattle.plant_grammar.specs.NameFaults.{judged_bind}
+use Rattle.plant_grammar.specs.Steps.SoundWords.{Fits, BeginsSound, judged_in_parentheses}
+use Rattle.plant_grammar.proofs.ExpectedWords.{stuck_told}
+use Rattle.plant_grammar.proofs.SoundFronts.{binds_front, first_bind_begun, next_bind_begun}
 use Rattle.plant_grammar.proofs.grammar.reader.Reader.binds.Goals as goal
 use Rattle.plant_grammar.proofs.grammar.reader.Reader.binds.Goals.{then-not-sees_punctuation+in_ok-bind+in_ok-push+else-binds-test, else-not-sees_punctuation}
 
@@ -106,22 +110,38 @@ returns-clause-lined c = λ all h. elim c.if-not-sees_punctuation.branch [
 pub returns-in_err-bind-clause-stuck : goal.returns-in_err-bind-clause-stuck
 returns-in_err-bind-clause-stuck c =
     let fault = c.in_err-bind.field-0.0 in
-    kept_fault fault (GetsStuck (FirstBind ∷ []) c.args.self.now) c.from_residual.result c.from_residual.ensures.1
-    (stuck_in_first_bind c.args.self.now fault (c.if-not-sees_punctuation.ensures.no refl) c.in_err-bind.ensures.stuck)
+    let ds = variables c.args.program.now.program in
+    let m = c.args.tally.now.binds in
+    let Known : List Token → Type 0 = BeginsSound (judged_in_parentheses ds m) Fits in
+    kept_fault fault (GetsStuck Known (FirstBind ∷ []) c.args.self.now) c.from_residual.result c.from_residual.ensures.1
+    (stuck_in_first_bind Known c.args.self.now fault (c.if-not-sees_punctuation.ensures.no refl)
+    (stuck_told Known (BeginsSound (judged_bind ds m c.deref.result.now) (λ (b : Bind). Unit {0})) (AName ∷ bind_rest) c.args.self.now fault
+    (λ w b. first_bind_begun ds m w c.binds-bound.ensures.few (subst (λ (bs : List Bind). BeginsSound (judged_bind ds m bs) (λ (b : Bind). Unit {0}) w) (c.deref.ensures.value ∙ c.new-binds.ensures.items) b)) c.in_err-bind.ensures.stuck))
 
 pub returns-in_err-bind-2-clause-stuck : goal.returns-in_err-bind-2-clause-stuck
 returns-in_err-bind-2-clause-stuck c =
     let fault = c.in_err-bind-2.field-0.0 in
-    kept_fault fault (GetsStuck (FirstBind ∷ []) c.args.self.now) c.from_residual-in_err-bind-2.result c.from_residual-in_err-bind-2.ensures.1
-    (stuck_in_next_bind c.binds.binds.items c.args.self.now c.binds.self c.punctuation.new.self fault c.binds.invariant.some c.binds.invariant.words c.binds.invariant.left
-    c.in_ok-punctuation.ensures.ok c.in_ok-punctuation.ensures.left c.in_err-bind-2.ensures.stuck)
+    let ds = variables c.args.program.now.program in
+    let m = c.args.tally.now.binds in
+    let Known : List Token → Type 0 = BeginsSound (judged_in_parentheses ds m) Fits in
+    kept_fault fault (GetsStuck Known (FirstBind ∷ []) c.args.self.now) c.from_residual-in_err-bind-2.result c.from_residual-in_err-bind-2.ensures.1
+    (stuck_in_next_bind Known c.binds.binds.items c.args.self.now c.binds.self c.punctuation.new.self fault c.binds.invariant.some c.binds.invariant.words c.binds.invariant.left
+    c.in_ok-punctuation.ensures.ok c.in_ok-punctuation.ensures.left
+    (stuck_told (λ w. Known (with_commas c.binds.binds.items ++ mark_word Comma ∷ w)) (BeginsSound (judged_bind ds c.binds.tally.binds c.deref-in-binds.result.now) (λ (b : Bind). Unit {0})) (AName ∷ bind_rest) c.punctuation.new.self fault
+    (λ w b. next_bind_begun ds c.binds.tally.binds m c.binds.binds.items w c.binds.invariant.some (ap (λ (t : TallyValue). t.binds) c.binds.invariant.tally) (record { apart = c.binds.invariant.apart; kinds = c.binds.invariant.kinds; few = subst (λ (t : TallyValue). t.binds ≤ 4096) c.binds.invariant.tally c.binds-bound-in-binds.ensures.few }) (subst (λ (bs : List Bind). BeginsSound (judged_bind ds c.binds.tally.binds bs) (λ (b : Bind). Unit {0}) w) c.deref-in-binds.ensures.value b))
+    c.in_err-bind-2.ensures.stuck))
 
 pub returns-in_err-punctuation-2-clause-stuck : goal.returns-in_err-punctuation-2-clause-stuck
 returns-in_err-punctuation-2-clause-stuck c =
     let fault = c.in_err-punctuation-2.field-0.0 in
-    kept_fault fault (GetsStuck (FirstBind ∷ []) c.args.self.now) c.from_residual-in_err-punctuation-2.result c.from_residual-in_err-punctuation-2.ensures.1
+    let ds = variables c.args.program.now.program in
+    let m = c.args.tally.now.binds in
+    let Known : List Token → Type 0 = BeginsSound (judged_in_parentheses ds m) Fits in
+    kept_fault fault (GetsStuck Known (FirstBind ∷ []) c.args.self.now) c.from_residual-in_err-punctuation-2.result c.from_residual-in_err-punctuation-2.ensures.1
     (elim c.if-not-sees_punctuation.branch [
-      | then-not-sees_punctuation+in_ok-bind+in_ok-push+else-binds-test w ↦ stuck_behind_binds w.binds.binds.items c.args.self.now w.binds.self fault w.binds.invariant.some w.binds.invariant.words w.binds.invariant.left
+      | then-not-sees_punctuation+in_ok-bind+in_ok-push+else-binds-test w ↦ stuck_behind_binds Known w.binds.binds.items
+          (binds_front ds m w.binds.binds.items (omega (arith, subst (λ (t : TallyValue). t.binds ≤ 4096) (w.tally-is ∙ w.binds.invariant.tally) c.binds-all.ensures.few))
+          (record { apart = w.binds.invariant.apart; kinds = w.binds.invariant.kinds; few = subst (λ (t : TallyValue). t.binds ≤ 4096) (w.tally-is ∙ w.binds.invariant.tally) c.binds-all.ensures.few })) c.args.self.now w.binds.self fault w.binds.invariant.some w.binds.invariant.words w.binds.invariant.left
           (subst (λ (r : ReaderValue). fault ≡ syntax_at r) w.self-is c.in_err-punctuation-2.ensures.err.0) (w.binds-test.ensures.no refl)
           (subst (λ (r : ReaderValue). IsNotNext (mark_word Close) r.words) w.self-is c.in_err-punctuation-2.ensures.other)
       | else-not-sees_punctuation w ↦ let next = w.if-not-sees_punctuation.ensures.yes refl in

@@ -1,8 +1,9 @@
-use Rattle.std.proofs.Common.{◌≡◌, ◌≢◌, ◌++◌, [], ◌∷◌, List, All, refl, ◌∙◌}
+use Rattle.declared_names.specs.declared.declarations.Declaration.{Declaration}
+use Rattle.std.proofs.Common.{◌≡◌, ◌≢◌, ◌++◌, [], ◌∷◌, List, All, refl, ◌∙◌, subst}
 use Rattle.plant_grammar.specs.Lawful.{block_variables, IsBlockLawful, AreVariables}
 use Rattle.plant_grammar.specs.Grammar.{block_words}
 use Rattle.plant_grammar.proofs.WordLists.{words_more, declared_more, all_more}
-use Rattle.plant_grammar.specs.NameFaults.{RefusesBlocks}
+use Rattle.plant_grammar.specs.Steps.NamesRead.{RefusesBlocks}
 use Rattle.plant_grammar.specs.Steps.Declaring.{BeginRefused}
 use Rattle.lists.proofs.Results.{kept_fault}
 use Rattle.plant_grammar.proofs.RefusedPlaces.{block_refused}
@@ -13,9 +14,14 @@ use Rattle.plant_grammar.specs.declared.grammar.tree.VarBlock.{VarBlock}
 use Rattle.plant_grammar.specs.Steps.Lines.{IsNoneNext}
 use Rattle.plant_grammar.specs.Steps.ReadParts.{section_start}
 use Rattle.plant_grammar.proofs.LawfulPrograms.{block_allowed}
-use Rattle.plant_grammar.specs.Steps.Expected.{MoreBlocks, GetsStuck}
+use Rattle.plant_grammar.specs.Steps.Expected.{MoreBlocks, GetsStuck, ASection, MoreLists}
 use Rattle.plant_grammar.proofs.WalkedPrograms.{blocks_walked, stuck_in_block, lawful_blocks_formed}
 use Rattle.plant_grammar.proofs.StuckBehind.{stuck_after}
+use Rattle.plant_grammar.specs.NameFaults.{judged_block}
+use Rattle.plant_grammar.specs.WellFormed.{IsBlockWellFormed}
+use Rattle.plant_grammar.specs.Steps.SoundWords.{BeginsSound, judged_blocks, AreBlocksFormed}
+use Rattle.plant_grammar.proofs.ExpectedWords.{stuck_told}
+use Rattle.plant_grammar.proofs.LiftedWords.{lift_sound, block_in_blocks}
 use Rattle.plant_grammar.proofs.grammar.reader.Reader.blocks.Goals as goal
 
 pub sections-preserved : goal.sections-preserved
@@ -43,7 +49,16 @@ returns-in_err-block-clause-other c =
 pub returns-in_err-block-clause-stuck : goal.returns-in_err-block-clause-stuck
 returns-in_err-block-clause-stuck c =
     let fault = c.in_err-block.field-0.0 in
-    kept_fault fault (GetsStuck (MoreBlocks ∷ []) c.args.self.now) c.from_residual.result c.from_residual.ensures.1
-    (stuck_after (MoreBlocks ∷ []) (MoreBlocks ∷ []) (flat_map block_words c.sections.blocks.items) c.args.self.now c.sections.self fault c.sections.invariant.words c.sections.invariant.left
+    let ds = c.args.variables.now in
+    let bs = c.sections.blocks.items in
+    let now = ds ++ flat_map block_variables bs in
+    let are : AreVariables now = subst AreVariables c.sections.invariant.declared c.len-declared.ensures.lawful in
+    let Known : List Token → Type 0 = BeginsSound (judged_blocks ds) AreBlocksFormed in
+    let Told : List Token → Type 0 = BeginsSound (judged_block c.sections.variables) IsBlockWellFormed in
+    kept_fault fault (GetsStuck Known (MoreBlocks ∷ []) c.args.self.now) c.from_residual.result c.from_residual.ensures.1
+    (stuck_after Known (MoreBlocks ∷ []) (MoreBlocks ∷ []) (flat_map block_words c.sections.blocks.items) c.args.self.now c.sections.self fault c.sections.invariant.words c.sections.invariant.left
     (λ behind. blocks_walked c.sections.blocks.items behind (lawful_blocks_formed c.sections.blocks.items c.sections.invariant.lawful))
-    (stuck_in_block c.sections.self fault (c.sections-test.ensures.yes refl) c.in_err-block.ensures.stuck))
+    (stuck_in_block (λ w. Known (flat_map block_words bs ++ w)) c.sections.self fault (c.sections-test.ensures.yes refl)
+    (stuck_told (λ w. Known (flat_map block_words bs ++ w)) Told (ASection ∷ MoreLists ∷ []) c.sections.self fault
+    (λ w b. lift_sound (flat_map block_words bs) w (judged_block now) IsBlockWellFormed (judged_blocks ds) AreBlocksFormed (λ fits. block_in_blocks ds bs c.sections.invariant.lawful are fits)
+    (subst (λ (vs : List Declaration). BeginsSound (judged_block vs) IsBlockWellFormed w) c.sections.invariant.declared b)) c.in_err-block.ensures.stuck)))

@@ -1,4 +1,4 @@
-use Rattle.std.proofs.Common.{◌≡◌, ◌≢◌, ◌≤◌, ◌<◌, ◌∷◌, ℕ, List, [], true, arith}
+use Rattle.std.proofs.Common.{◌≡◌, ◌≢◌, ◌≤◌, ◌<◌, ◌∷◌, ℕ, List, [], true, arith, refl}
 use Rattle.std.specs.List.{flat_map}
 use Rattle.lists.proofs.Results.{kept_fault}
 use Rattle.plant_text.specs.declared.token.Token.{Token}
@@ -6,12 +6,13 @@ use Rattle.plant_text.specs.declared.token.Token.TheVariants as token
 use Rattle.plant_grammar.specs.declared.grammar_fault.GrammarFaultKind.TheVariants.{Memory}
 use Rattle.plant_grammar.specs.declared.grammar.tree.Use.{Use}
 use Rattle.plant_grammar.specs.Lawful.{use_of}
-use Rattle.plant_grammar.specs.NameFaults.{IsNew}
+use Rattle.plant_grammar.specs.Steps.NamesRead.{IsNew}
 use Rattle.plant_grammar.specs.Steps.Declaring.{TellsOfInstance}
 use Rattle.plant_grammar.proofs.NewNames.{new_allowed}
 use Rattle.plant_grammar.proofs.RefusedNames.{too_many_next}
 use Rattle.plant_grammar.specs.Steps.Expected.{AName, GetsStuck}
 use Rattle.plant_grammar.proofs.UnexpectedWords.{name_stuck}
+use Rattle.plant_grammar.specs.Steps.SoundWords.{IsNothing}
 use Rattle.plant_grammar.proofs.grammar.reader.Reader.instance_name.Goals as goal
 
 pub returns-in_err-check_new-clause-other : goal.returns-in_err-check_new-clause-other
@@ -32,5 +33,5 @@ returns-in_err-add_instance-clause-tells c =
 pub returns-in_err-name-clause-stuck : goal.returns-in_err-name-clause-stuck
 returns-in_err-name-clause-stuck c =
     let fault = c.in_err-name.field-0.0 in
-    kept_fault fault (GetsStuck (AName ∷ []) c.args.self.now) c.from_residual.result c.from_residual.ensures.1
-    (name_stuck [] c.args.self.now fault c.in_err-name.ensures.err c.in_err-name.ensures.other)
+    kept_fault fault (GetsStuck IsNothing (AName ∷ []) c.args.self.now) c.from_residual.result c.from_residual.ensures.1
+    (name_stuck IsNothing refl [] c.args.self.now fault c.in_err-name.ensures.err c.in_err-name.ensures.other)

@@ -5,7 +5,7 @@ use Rattle.plant_grammar.specs.Steps.ReadParts.{types_alone, MayFollow}
 use Rattle.plant_grammar.proofs.WordLists.{words_more, items_done}
 use Rattle.plant_grammar.proofs.ResourceLines.{items_more, tally_more}
 use Rattle.plant_grammar.specs.declared.grammar.tree.Item.{Item}
-use Rattle.plant_grammar.specs.NameFaults.{RefusesItems}
+use Rattle.plant_grammar.specs.Steps.NamesRead.{RefusesItems}
 use Rattle.plant_grammar.specs.Steps.Declaring.{BeginWith, BeginRefused, IsLineBefore, RefusesItem}
 use Rattle.plant_grammar.specs.Steps.Reading.{programs_of}
 use Rattle.lists.proofs.Results.{kept_fault}
@@ -17,8 +17,13 @@ use Rattle.plant_grammar.specs.Steps.Refusing.{HasRoomFor, AreTypesApart}
 use Rattle.plant_grammar.proofs.LawfulResources.{item_allowed}
 use Rattle.plant_grammar.specs.SourceLines.{IsItemOn, EachBefore}
 use Rattle.plant_grammar.proofs.PlacedSources.{each_more}
-use Rattle.plant_grammar.specs.Steps.Expected.{MoreItems, GetsStuck}
+use Rattle.plant_grammar.specs.Steps.Expected.{MoreItems, GetsStuck, AnItem}
 use Rattle.plant_grammar.proofs.WalkedResources.{stuck_in_line}
+use Rattle.plant_grammar.specs.NameFaults.{judged_item}
+use Rattle.plant_grammar.specs.Steps.SoundWords.{BeginsSound, IsItemFormed, judged_items, AreItemsFormed}
+use Rattle.plant_grammar.specs.Steps.Refusing.{AreTypesApart}
+use Rattle.plant_grammar.proofs.ExpectedWords.{stuck_told}
+use Rattle.plant_grammar.proofs.SoundFronts.{line_begun}
 use Rattle.plant_grammar.proofs.grammar.reader.Reader.items.Goals as goal
 
 pub items-preserved : goal.items-preserved
@@ -62,5 +67,13 @@ returns-in_err-item-clause-other c =
 pub returns-in_err-item-clause-stuck : goal.returns-in_err-item-clause-stuck
 returns-in_err-item-clause-stuck c =
     let fault = c.in_err-item.field-0.0 in
-    kept_fault fault (GetsStuck (MoreItems ∷ []) c.args.self.now) c.from_residual.result c.from_residual.ensures.1
-    (stuck_in_line c.items.items.items c.args.self.now c.items.self fault c.items.invariant.words c.items.invariant.left c.items.invariant.lawful.intervals (c.items-test.ensures.no refl) c.in_err-item.ensures.stuck)
+    let programs = programs_of c.args.types.now in
+    let i = c.args.tally.now.instances in
+    let m = c.args.tally.now.binds in
+    let xs = c.items.items.items in
+    let Known : List Token → Type 0 = λ words. AreTypesApart c.args.types.now → BeginsSound (judged_items programs i m) AreItemsFormed words in
+    kept_fault fault (GetsStuck Known (MoreItems ∷ []) c.args.self.now) c.from_residual.result c.from_residual.ensures.1
+    (stuck_in_line Known xs c.args.self.now c.items.self fault c.items.invariant.words c.items.invariant.left c.items.invariant.lawful.intervals (c.items-test.ensures.no refl)
+    (stuck_told (λ w. Known (flat_map item_words xs ++ w)) (BeginsSound (judged_item programs c.items.tally.instances c.items.tally.binds c.deref.result.now) IsItemFormed) (AnItem ∷ []) c.items.self fault
+    (λ w b apart. line_begun programs c.args.tally.now c.items.tally xs w apart c.items.invariant.tally c.items.invariant.lawful c.instances-instances.ensures.few c.binds-binds.ensures.few
+    (subst (λ (ys : List Item). BeginsSound (judged_item programs c.items.tally.instances c.items.tally.binds ys) IsItemFormed w) c.deref.ensures.value b)) c.in_err-item.ensures.stuck))

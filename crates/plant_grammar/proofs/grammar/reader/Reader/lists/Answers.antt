@@ -1,8 +1,9 @@
-use Rattle.std.proofs.Common.{◌≡◌, ◌≢◌, ◌++◌, [], ◌∷◌, List, All, refl, ◌∙◌}
+use Rattle.declared_names.specs.declared.declarations.Declaration.{Declaration}
+use Rattle.std.proofs.Common.{◌≡◌, ◌≢◌, ◌++◌, [], ◌∷◌, List, All, refl, ◌∙◌, subst}
 use Rattle.plant_grammar.specs.Lawful.{list_variables, lists_variables, IsListLawful, AreVariables}
 use Rattle.plant_grammar.specs.Grammar.{list_words, lists_words}
 use Rattle.plant_grammar.proofs.WordLists.{words_more, declared_more, all_more, lists_done}
-use Rattle.plant_grammar.specs.NameFaults.{RefusesList}
+use Rattle.plant_grammar.specs.Steps.NamesRead.{RefusesList}
 use Rattle.plant_grammar.specs.Steps.Declaring.{BeginRefused}
 use Rattle.lists.proofs.Results.{kept_fault}
 use Rattle.plant_grammar.proofs.RefusedPlaces.{list_refused}
@@ -11,9 +12,14 @@ use Rattle.plant_grammar.specs.declared.grammar_fault.GrammarFaultKind.TheVarian
 use Rattle.plant_grammar.specs.declared.grammar.tree.NameList.{NameList}
 use Rattle.plant_grammar.proofs.LawfulPrograms.{list_allowed}
 use Rattle.std.specs.List.{flat_map}
-use Rattle.plant_grammar.specs.Steps.Expected.{MoreLists, GetsStuck}
+use Rattle.plant_grammar.specs.Steps.Expected.{MoreLists, GetsStuck, AName, list_rest}
 use Rattle.plant_grammar.proofs.WalkedPrograms.{lists_walked, stuck_in_list, lawful_lists_named}
 use Rattle.plant_grammar.proofs.StuckBehind.{stuck_after}
+use Rattle.plant_grammar.specs.NameFaults.{judged_list}
+use Rattle.plant_grammar.specs.WellFormed.{HasNames}
+use Rattle.plant_grammar.specs.Steps.SoundWords.{BeginsSound, judged_lists, AreListsFormed}
+use Rattle.plant_grammar.proofs.ExpectedWords.{stuck_told}
+use Rattle.plant_grammar.proofs.LiftedWords.{lift_sound, list_in_lists}
 use Rattle.plant_grammar.proofs.grammar.reader.Reader.lists.Goals as goal
 
 pub lists-preserved : goal.lists-preserved
@@ -54,7 +60,17 @@ returns-in_err-list-clause-other c =
 pub returns-in_err-list-clause-stuck : goal.returns-in_err-list-clause-stuck
 returns-in_err-list-clause-stuck c =
     let fault = c.in_err-list.field-0.0 in
-    kept_fault fault (GetsStuck (MoreLists ∷ []) c.args.self.now) c.from_residual.result c.from_residual.ensures.1
-    (stuck_after (MoreLists ∷ []) (MoreLists ∷ []) (flat_map list_words c.lists.lists.items) c.args.self.now c.lists.self fault c.lists.invariant.words c.lists.invariant.left
+    let s = c.args.section in
+    let ds = c.args.variables.now in
+    let ls = c.lists.lists.items in
+    let now = ds ++ lists_variables s ls in
+    let are : AreVariables now = subst AreVariables c.lists.invariant.declared c.len-declared.ensures.lawful in
+    let Known : List Token → Type 0 = BeginsSound (judged_lists s ds) AreListsFormed in
+    let Told : List Token → Type 0 = BeginsSound (judged_list s c.lists.variables) HasNames in
+    kept_fault fault (GetsStuck Known (MoreLists ∷ []) c.args.self.now) c.from_residual.result c.from_residual.ensures.1
+    (stuck_after Known (MoreLists ∷ []) (MoreLists ∷ []) (flat_map list_words c.lists.lists.items) c.args.self.now c.lists.self fault c.lists.invariant.words c.lists.invariant.left
     (λ behind. lists_walked c.lists.lists.items behind (lawful_lists_named c.args.section c.lists.lists.items c.lists.invariant.lawful))
-    (stuck_in_list c.lists.self fault (c.lists-test.ensures.no refl) c.in_err-list.ensures.stuck))
+    (stuck_in_list (λ w. Known (flat_map list_words ls ++ w)) c.lists.self fault (c.lists-test.ensures.no refl)
+    (stuck_told (λ w. Known (flat_map list_words ls ++ w)) Told (AName ∷ list_rest) c.lists.self fault
+    (λ w b. lift_sound (flat_map list_words ls) w (judged_list s now) HasNames (judged_lists s ds) AreListsFormed (λ fits. list_in_lists s ds ls c.lists.invariant.lawful are fits)
+    (subst (λ (vs : List Declaration). BeginsSound (judged_list s vs) HasNames w) c.lists.invariant.declared b)) c.in_err-list.ensures.stuck)))

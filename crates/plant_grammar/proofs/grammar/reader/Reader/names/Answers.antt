@@ -7,7 +7,7 @@ use Rattle.plant_grammar.specs.Lawful.{MayBeDeclared}
 use Rattle.plant_grammar.proofs.AddedNames.{one_more_declared, first_declared}
 use Rattle.plant_grammar.proofs.NewNames.{first_refused, next_refused, all_names}
 use Rattle.plant_grammar.proofs.WordLists.{names_more, grown}
-use Rattle.plant_grammar.specs.NameFaults.{RefusesVariable, IsNew}
+use Rattle.plant_grammar.specs.Steps.NamesRead.{RefusesVariable, IsNew}
 use Rattle.plant_grammar.specs.Steps.Declaring.{BeginRefused}
 use Rattle.lists.proofs.Results.{kept_fault}
 use Rattle.plant_grammar.proofs.ReadLines.{line_before}
@@ -15,6 +15,10 @@ use Rattle.plant_grammar.proofs.RefusedPlaces.{first_variable, next_variable}
 use Rattle.plant_grammar.specs.Steps.Expected.{AName, MoreNames, GetsStuck}
 use Rattle.plant_grammar.proofs.WalkedPrograms.{names_walked, comma_walked}
 use Rattle.plant_grammar.proofs.StuckBehind.{stuck_after}
+use Rattle.plant_grammar.specs.Steps.SoundWords.{BeginsSound, IsNothing, judged_names, AreNamesFormed}
+use Rattle.plant_grammar.proofs.ExpectedWords.{stuck_told}
+use Rattle.plant_grammar.proofs.WalkedResources.{stuck_more}
+use Rattle.plant_grammar.proofs.SoundFronts.{first_name_sound, next_name_sound}
 use Rattle.plant_grammar.proofs.grammar.reader.Reader.names.Goals as goal
 
 pub names-init : goal.names-init
@@ -75,13 +79,21 @@ returns-clause-only c = λ ns rest e some.
 pub returns-in_err-variable-clause-stuck : goal.returns-in_err-variable-clause-stuck
 returns-in_err-variable-clause-stuck c =
     let fault = c.in_err-variable.field-0.0 in
-    kept_fault fault (GetsStuck (AName ∷ MoreNames ∷ []) c.args.self.now) c.from_residual.result c.from_residual.ensures.1
-    (λ syntax behind. c.in_err-variable.ensures.stuck syntax (MoreNames ∷ behind))
+    let vs = c.args.variables.now in
+    let Known : List Token → Type 0 = BeginsSound (judged_names vs) AreNamesFormed in
+    kept_fault fault (GetsStuck Known (AName ∷ MoreNames ∷ []) c.args.self.now) c.from_residual.result c.from_residual.ensures.1
+    (stuck_told Known IsNothing (AName ∷ MoreNames ∷ []) c.args.self.now fault (λ w none. subst Known (sym none) (first_name_sound vs))
+    (stuck_more IsNothing (AName ∷ []) (MoreNames ∷ []) c.args.self.now fault c.in_err-variable.ensures.stuck))
 
 pub returns-in_err-variable-2-clause-stuck : goal.returns-in_err-variable-2-clause-stuck
 returns-in_err-variable-2-clause-stuck c =
     let fault = c.in_err-variable-2.field-0.0 in
-    kept_fault fault (GetsStuck (AName ∷ MoreNames ∷ []) c.args.self.now) c.from_residual-in_err-variable-2.result c.from_residual-in_err-variable-2.ensures.1
-    (stuck_after (AName ∷ MoreNames ∷ []) (MoreNames ∷ []) (name_words c.names.names.items) c.args.self.now c.names.self fault c.names.invariant.words c.names.invariant.left (λ behind. names_walked c.names.names.items behind c.names.invariant.some)
-    (stuck_after (MoreNames ∷ []) (AName ∷ MoreNames ∷ []) (mark_word Comma ∷ []) c.names.self c.punctuation.new.self fault c.in_ok-punctuation.ensures.ok c.in_ok-punctuation.ensures.left comma_walked
-    (λ syntax behind. c.in_err-variable-2.ensures.stuck syntax (MoreNames ∷ behind))))
+    let vs = c.args.variables.now in
+    let names = c.names.names.items in
+    let Known : List Token → Type 0 = BeginsSound (judged_names vs) AreNamesFormed in
+    kept_fault fault (GetsStuck Known (AName ∷ MoreNames ∷ []) c.args.self.now) c.from_residual-in_err-variable-2.result c.from_residual-in_err-variable-2.ensures.1
+    (stuck_after Known (AName ∷ MoreNames ∷ []) (MoreNames ∷ []) (name_words c.names.names.items) c.args.self.now c.names.self fault c.names.invariant.words c.names.invariant.left (λ behind. names_walked c.names.names.items behind c.names.invariant.some)
+    (stuck_after (λ w. Known (name_words names ++ w)) (MoreNames ∷ []) (AName ∷ MoreNames ∷ []) (mark_word Comma ∷ []) c.names.self c.punctuation.new.self fault c.in_ok-punctuation.ensures.ok c.in_ok-punctuation.ensures.left comma_walked
+    (stuck_told (λ w. Known (name_words names ++ mark_word Comma ∷ w)) IsNothing (AName ∷ MoreNames ∷ []) c.punctuation.new.self fault
+    (λ w none. subst (λ (v : List Token). Known (name_words names ++ mark_word Comma ∷ v)) (sym none) (next_name_sound vs names c.names.invariant.some c.names.invariant.may))
+    (stuck_more IsNothing (AName ∷ []) (MoreNames ∷ []) c.punctuation.new.self fault c.in_err-variable-2.ensures.stuck))))

@@ -1,8 +1,8 @@
-use Rattle.std.proofs.Common.{◌≡◌, ◌≢◌, ◌≤◌, ◌<◌, [], ◌∷◌, ℕ, List, length, rules}
+use Rattle.std.proofs.Common.{◌≡◌, ◌≢◌, ◌≤◌, ◌<◌, [], ◌∷◌, ℕ, List, length, rules, refl}
 use Rattle.plant_text.specs.declared.token.Token.{Token}
 use Rattle.plant_text.specs.declared.token.Token.TheVariants as token
 use Rattle.plant_grammar.specs.declared.grammar_fault.GrammarFaultKind.TheVariants.{Memory}
-use Rattle.plant_grammar.specs.NameFaults.{IsNew}
+use Rattle.plant_grammar.specs.Steps.NamesRead.{IsNew}
 use Rattle.plant_grammar.specs.Steps.Expected.{AName, GetsStuck}
 use Rattle.plant_grammar.proofs.UnexpectedWords.{name_stuck}
 use Rattle.plant_grammar.proofs.NewNames.{new_allowed}
@@ -11,6 +11,7 @@ use Rattle.plant_grammar.specs.declared.grammar.tree.Program.{Program}
 use Rattle.plant_grammar.specs.Steps.Reading.{programs_of}
 use Rattle.plant_grammar.specs.Steps.Declaring.{TellsOfType}
 use Rattle.plant_grammar.proofs.RefusedNames.{tells_next}
+use Rattle.plant_grammar.specs.Steps.SoundWords.{IsNothing}
 use Rattle.plant_grammar.proofs.grammar.reader.Reader.new_type.Goals as new_type_goals
 
 pub returns-in_err-check_new-clause-tells : new_type_goals.returns-in_err-check_new-clause-tells
@@ -29,9 +30,9 @@ returns-in_err-check_new-clause-other c =
 pub returns-in_err-name-clause-stuck : new_type_goals.returns-in_err-name-clause-stuck
 returns-in_err-name-clause-stuck c =
     let fault = c.in_err-name.field-0.0 in
-    kept_fault fault (GetsStuck (AName ∷ []) c.args.self.now) c.from_residual.result c.from_residual.ensures.1 (name_stuck [] c.args.self.now fault c.in_err-name.ensures.err c.in_err-name.ensures.other)
+    kept_fault fault (GetsStuck IsNothing (AName ∷ []) c.args.self.now) c.from_residual.result c.from_residual.ensures.1 (name_stuck IsNothing refl [] c.args.self.now fault c.in_err-name.ensures.err c.in_err-name.ensures.other)
 
 pub returns-in_err-check_new-clause-stuck : new_type_goals.returns-in_err-check_new-clause-stuck
 returns-in_err-check_new-clause-stuck c =
     let fault = c.in_err-check_new.field-0.0 in
-    kept_fault fault (GetsStuck (AName ∷ []) c.args.self.now) c.from_residual-in_err-check_new.result c.from_residual-in_err-check_new.ensures.1 (λ syntax behind. absurd (c.in_err-check_new.ensures.named syntax))
+    kept_fault fault (GetsStuck IsNothing (AName ∷ []) c.args.self.now) c.from_residual-in_err-check_new.result c.from_residual-in_err-check_new.ensures.1 (λ syntax behind. absurd (c.in_err-check_new.ensures.named syntax))

@@ -8,7 +8,7 @@ use Rattle.plant_grammar.specs.declared.grammar.tree.Program.{Program}
 use Rattle.plant_grammar.specs.Steps.Reading.{programs_of, lines_of, all_words, AreAllPrograms}
 use Rattle.plant_grammar.proofs.FoundTypes.{programs_more, map-grown}
 use Rattle.plant_grammar.proofs.WordLists.{words_more}
-use Rattle.plant_grammar.specs.NameFaults.{RefusesProgram, IsNew}
+use Rattle.plant_grammar.specs.Steps.NamesRead.{RefusesProgram, IsNew}
 use Rattle.plant_grammar.specs.Steps.Declaring.{BeginWith, BeginRefusedBehind, IsLineBefore, RefusesFurtherProgram}
 use Rattle.lists.proofs.Results.{kept_fault}
 use Rattle.plant_grammar.proofs.RefusedPlaces.{program_refused}
@@ -19,12 +19,16 @@ use Rattle.plant_grammar.specs.declared.grammar_fault.GrammarFault.{GrammarFault
 use Rattle.plant_grammar.specs.Steps.Lines.{IsNotNext}
 use Rattle.plant_grammar.proofs.LawfulPrograms.{program_allowed}
 use Rattle.std.proofs.lemmas.List.Elements.{All-push}
-use Rattle.plant_grammar.specs.Steps.Expected.{MorePrograms, GetsStuck}
+use Rattle.plant_grammar.specs.Steps.Expected.{Key, MorePrograms, program_rest, GetsStuck}
 use Rattle.plant_grammar.proofs.WalkedPrograms.{programs_walked, stuck_in_program, lawful_program_formed}
-use Rattle.plant_grammar.specs.WellFormed.{IsProgramWellFormed}
+use Rattle.plant_grammar.specs.WellFormed.{IsProgramWellFormed, IsTreeWellFormed}
 use Rattle.plant_grammar.proofs.StuckBehind.{stuck_after}
 use Rattle.plant_grammar.proofs.MisplacedWords.{stuck_no_program}
 use Rattle.plant_grammar.proofs.OneTree.{all_programs}
+use Rattle.plant_grammar.specs.NameFaults.{judged_program, judged_of}
+use Rattle.plant_grammar.specs.Steps.SoundWords.{BeginsSound}
+use Rattle.plant_grammar.proofs.ExpectedWords.{stuck_told}
+use Rattle.plant_grammar.proofs.SoundFronts.{program_read_sound}
 use Rattle.plant_grammar.proofs.grammar.reader.Reader.programs.Goals as goal
 
 pub programs-preserved : goal.programs-preserved
@@ -93,10 +97,16 @@ pub returns-in_err-text-clause-stuck : goal.returns-in_err-text-clause-stuck
 returns-in_err-text-clause-stuck c =
     let fault = c.in_err-text.field-0.0 in
     let read = c.programs.invariant.read in
-    kept_fault fault (GetsStuck (MorePrograms ∷ []) c.args.self.now) c.from_residual.result c.from_residual.ensures.1
-    (stuck_after (MorePrograms ∷ []) (MorePrograms ∷ []) (flat_map program_words read.0) c.args.self.now c.programs.self fault read.1 c.programs.invariant.left
+    let old = programs_of c.args.texts.now.items in
+    let ps = programs_of c.programs.texts.items in
+    let Known : List Token → Type 0 = λ words. BeginsSound judged_of IsTreeWellFormed (all_words c.args.texts.now.items words) in
+    kept_fault fault (GetsStuck Known (MorePrograms ∷ []) c.args.self.now) c.from_residual.result c.from_residual.ensures.1
+    (stuck_after Known (MorePrograms ∷ []) (MorePrograms ∷ []) (flat_map program_words read.0) c.args.self.now c.programs.self fault read.1 c.programs.invariant.left
     (λ behind. programs_walked read.0 behind read.2)
-    (stuck_in_program c.programs.self fault (c.programs-test.ensures.yes refl) c.in_err-text.ensures.stuck))
+    (stuck_in_program (λ w. Known (flat_map program_words read.0 ++ w)) c.programs.self fault (c.programs-test.ensures.yes refl)
+    (stuck_told (λ w. Known (flat_map program_words read.0 ++ w)) (BeginsSound (judged_program (programs_of c.as_slice.result.now)) IsProgramWellFormed) (Key key.Program ∷ program_rest) c.programs.self fault
+    (λ w b. program_read_sound old read.0 ps w c.args.self.now.words c.programs.self.words read.1 c.programs.invariant.words c.programs.invariant.declared
+    (subst (λ (ts : List TextValue). BeginsSound (judged_program (programs_of ts)) IsProgramWellFormed w) c.as_slice.ensures.value b)) c.in_err-text.ensures.stuck)))
 
 pub returns-in_err-text-clause-whole : goal.returns-in_err-text-clause-whole
 returns-in_err-text-clause-whole c =
@@ -104,4 +114,4 @@ returns-in_err-text-clause-whole c =
     let start = all_words c.args.texts.now.items c.args.self.now.words in
     let programs = programs_of c.programs.texts.items in
     kept_fault fault (λ f. f.kind ≡ Syntax → AreAllPrograms start programs) c.from_residual.result c.from_residual.ensures.1
-    (λ syntax. all_programs programs start c.programs.self.words c.programs.invariant.words (λ p q formed. stuck_no_program c.programs.self fault c.in_err-text.ensures.stuck syntax p q formed))
+    (λ syntax. all_programs programs start c.programs.self.words c.programs.invariant.words (λ p q formed. stuck_no_program (BeginsSound (judged_program (programs_of c.as_slice.result.now)) IsProgramWellFormed) c.programs.self fault c.in_err-text.ensures.stuck syntax p q formed))

@@ -1,8 +1,8 @@
-use Rattle.std.proofs.Common.{◌≡◌, ◌≢◌, ◌≤◌, ◌<◌, ◌∷◌, ℕ, List, length, rules, []}
+use Rattle.std.proofs.Common.{◌≡◌, ◌≢◌, ◌≤◌, ◌<◌, ◌∷◌, ℕ, List, length, rules, [], refl}
 use Rattle.plant_text.specs.declared.token.Token.{Token}
 use Rattle.plant_text.specs.declared.token.Token.TheVariants as token
 use Rattle.plant_grammar.specs.declared.grammar_fault.GrammarFaultKind.TheVariants.{Memory}
-use Rattle.plant_grammar.specs.NameFaults.{IsNew}
+use Rattle.plant_grammar.specs.Steps.NamesRead.{IsNew}
 use Rattle.plant_grammar.proofs.NewNames.{new_allowed}
 use Rattle.lists.proofs.Results.{kept_fault}
 use Rattle.plant_grammar.specs.declared.grammar.tree.Resource.{Resource}
@@ -10,6 +10,7 @@ use Rattle.plant_grammar.specs.Steps.Declaring.{TellsOfResource}
 use Rattle.plant_grammar.proofs.RefusedNames.{tells_next}
 use Rattle.plant_grammar.specs.Steps.Expected.{AName, GetsStuck}
 use Rattle.plant_grammar.proofs.UnexpectedWords.{name_stuck}
+use Rattle.plant_grammar.specs.Steps.SoundWords.{IsNothing}
 use Rattle.plant_grammar.proofs.grammar.reader.Reader.resource_name.Goals as resource_name_goals
 
 pub returns-in_err-check_new-clause-tells : resource_name_goals.returns-in_err-check_new-clause-tells
@@ -28,5 +29,5 @@ returns-in_err-check_new-clause-other c =
 pub returns-in_err-name-clause-stuck : resource_name_goals.returns-in_err-name-clause-stuck
 returns-in_err-name-clause-stuck c =
     let fault = c.in_err-name.field-0.0 in
-    kept_fault fault (GetsStuck (AName ∷ []) c.args.self.now) c.from_residual.result c.from_residual.ensures.1
-    (name_stuck [] c.args.self.now fault c.in_err-name.ensures.err c.in_err-name.ensures.other)
+    kept_fault fault (GetsStuck IsNothing (AName ∷ []) c.args.self.now) c.from_residual.result c.from_residual.ensures.1
+    (name_stuck IsNothing refl [] c.args.self.now fault c.in_err-name.ensures.err c.in_err-name.ensures.other)

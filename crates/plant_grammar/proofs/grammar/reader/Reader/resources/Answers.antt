@@ -5,7 +5,7 @@ use Rattle.plant_grammar.specs.Grammar.{resource_words, resources_words}
 use Rattle.plant_grammar.specs.Steps.ReadParts.{types_alone}
 use Rattle.plant_grammar.proofs.WordLists.{words_more, resources_done}
 use Rattle.plant_grammar.proofs.ResourceLines.{resources_more, tally_more}
-use Rattle.plant_grammar.specs.NameFaults.{RefusesResource, RefusesResources, IsNew}
+use Rattle.plant_grammar.specs.Steps.NamesRead.{RefusesResource, RefusesResources, IsNew}
 use Rattle.plant_grammar.specs.Steps.Declaring.{BeginWith, BeginRefused, IsLineBefore}
 use Rattle.plant_grammar.specs.Steps.Reading.{programs_of}
 use Rattle.lists.proofs.Results.{kept_fault}
@@ -20,6 +20,12 @@ use Rattle.plant_grammar.proofs.PlacedSources.{each_more}
 use Rattle.plant_text.specs.declared.token.Keyword.TheVariants as key
 use Rattle.plant_grammar.specs.Steps.Expected.{Key, MoreResources, resource_rest, GetsStuck}
 use Rattle.plant_grammar.proofs.WalkedResources.{stuck_in_resource, formed_resources}
+use Rattle.plant_grammar.specs.NameFaults.{judged_resource}
+use Rattle.plant_grammar.specs.WellFormed.{IsResourceWellFormed}
+use Rattle.plant_grammar.specs.Steps.SoundWords.{BeginsSound, judged_resources_behind, AreResourcesFormed}
+use Rattle.plant_grammar.specs.Steps.Refusing.{AreTypesApart}
+use Rattle.plant_grammar.proofs.ExpectedWords.{stuck_told}
+use Rattle.plant_grammar.proofs.SoundFronts.{further_resource_begun}
 use Rattle.plant_grammar.proofs.grammar.reader.Reader.resources.Goals as goal
 use Rattle.plant_grammar.proofs.grammar.reader.Reader.resources.Goals.{then-is_empty, else-is_empty+then-not-sees_keyword}
 
@@ -61,10 +67,18 @@ returns-in_err-resource-clause-other c =
 pub returns-in_err-resource-clause-stuck : goal.returns-in_err-resource-clause-stuck
 returns-in_err-resource-clause-stuck c =
     let fault = c.in_err-resource.field-0.0 in
-    kept_fault fault (GetsStuck (Key key.Resource ∷ resource_rest ++ MoreResources ∷ []) c.args.self.now) c.from_residual.result c.from_residual.ensures.1
-    (stuck_in_resource c.resources.resources.items c.args.self.now c.resources.self fault c.resources.invariant.words c.resources.invariant.left
+    let programs = programs_of c.args.types.now in
+    let i = c.args.tally.now.instances in
+    let m = c.args.tally.now.binds in
+    let rs = c.resources.resources.items in
+    let Known : List Token → Type 0 = λ words. AreTypesApart c.args.types.now → BeginsSound (judged_resources_behind programs i m) AreResourcesFormed words in
+    kept_fault fault (GetsStuck Known (Key key.Resource ∷ resource_rest ++ MoreResources ∷ []) c.args.self.now) c.from_residual.result c.from_residual.ensures.1
+    (stuck_in_resource Known c.resources.resources.items c.args.self.now c.resources.self fault c.resources.invariant.words c.resources.invariant.left
     (formed_resources (types_alone c.args.types.now) c.resources.resources.items c.resources.invariant.lawful.lawful)
     (λ some. elim c.if-is_empty.branch [
       | then-is_empty w ↦ let none : length c.resources.resources.items ≡ 0 = search rules in absurd (omega (arith, none, some))
       | else-is_empty+then-not-sees_keyword w ↦ w.if-not-sees_keyword.ensures.no refl
-    ]) c.in_err-resource.ensures.stuck)
+    ])
+    (stuck_told (λ w. Known (flat_map resource_words rs ++ w)) (λ words. AreTypesApart c.args.types.now → BeginsSound (judged_resource programs c.resources.tally.instances c.resources.tally.binds c.deref.result.now) IsResourceWellFormed words) (Key key.Resource ∷ resource_rest) c.resources.self fault
+    (λ w b apart. further_resource_begun programs c.args.tally.now c.resources.tally rs w apart c.resources.invariant.tally c.resources.invariant.lawful c.instances-instances.ensures.few c.binds-binds.ensures.few
+    (subst (λ (qs : List Resource). BeginsSound (judged_resource programs c.resources.tally.instances c.resources.tally.binds qs) IsResourceWellFormed w) c.deref.ensures.value (b apart))) c.in_err-resource.ensures.stuck))

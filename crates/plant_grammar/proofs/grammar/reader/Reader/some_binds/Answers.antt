@@ -1,6 +1,6 @@
 use Rattle.plant_text.specs.declared.token.Punctuation.TheVariants.{Open, Semicolon}
 use Rattle.plant_grammar.specs.Grammar.{mark_word, binds_words}
-use Rattle.plant_grammar.specs.NameFaults.{IsAfter, RefusesBind}
+use Rattle.plant_grammar.specs.Steps.NamesRead.{IsAfter, RefusesBind}
 use Rattle.plant_grammar.specs.Steps.Declaring.{BeginRefused}
 use Rattle.lists.proofs.Results.{kept_fault}
 use Rattle.plant_grammar.proofs.RefusedPlaces.{in_binds}
@@ -14,8 +14,13 @@ use Rattle.lists.specs.Items.{items_or_none}
 use Rattle.plant_grammar.specs.Names.{AreNamesApart}
 use Rattle.plant_grammar.specs.Lawful.{variables}
 use Rattle.plant_grammar.proofs.LawfulResources.{listed_allowed, behind_binds}
-use Rattle.plant_grammar.specs.Steps.Expected.{MayHaveBinds, GetsStuck}
+use Rattle.plant_grammar.specs.Steps.Expected.{FirstBind, MayHaveBinds, GetsStuck}
 use Rattle.plant_grammar.proofs.WalkedResources.{stuck_in_binds}
+use Rattle.plant_text.specs.declared.token.Punctuation.TheVariants as mark
+use Rattle.plant_grammar.specs.NameFaults.{judged_binds}
+use Rattle.plant_grammar.specs.Steps.SoundWords.{Fits, BeginsSound, ListedFit, judged_in_parentheses}
+use Rattle.plant_grammar.proofs.ExpectedWords.{stuck_told}
+use Rattle.plant_grammar.proofs.SoundFronts.{listed_front}
 use Rattle.plant_grammar.proofs.grammar.reader.Reader.some_binds.Goals as goal
 
 pub returns-in_err-binds-clause-names : goal.returns-in_err-binds-clause-names
@@ -38,5 +43,9 @@ returns-in_ok-binds-clause-only c = λ bs rest e.
 pub returns-in_err-binds-clause-stuck : goal.returns-in_err-binds-clause-stuck
 returns-in_err-binds-clause-stuck c =
     let fault = c.in_err-binds.field-0.0 in
-    kept_fault fault (GetsStuck (MayHaveBinds ∷ []) c.args.self.now) c.from_residual-in_err-binds.result c.from_residual-in_err-binds.ensures.1
-    (stuck_in_binds c.args.self.now c.punctuation.new.self fault c.in_ok-punctuation.ensures.ok c.in_ok-punctuation.ensures.left c.in_err-binds.ensures.stuck)
+    let ds = variables c.args.program.now.program in
+    let n = c.args.tally.now.binds in
+    let Known : List Token → Type 0 = BeginsSound (judged_binds ds n) ListedFit in
+    kept_fault fault (GetsStuck Known (MayHaveBinds ∷ []) c.args.self.now) c.from_residual-in_err-binds.result c.from_residual-in_err-binds.ensures.1
+    (stuck_in_binds Known c.args.self.now c.punctuation.new.self fault c.in_ok-punctuation.ensures.ok c.in_ok-punctuation.ensures.left
+    (stuck_told (λ w. Known (mark_word mark.Open ∷ w)) (BeginsSound (judged_in_parentheses ds n) Fits) (FirstBind ∷ []) c.punctuation.new.self fault (λ w b. listed_front ds n w b) c.in_err-binds.ensures.stuck))

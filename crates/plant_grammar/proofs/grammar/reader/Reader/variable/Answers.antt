@@ -1,15 +1,16 @@
-use Rattle.std.proofs.Common.{◌≡◌, ◌≢◌, ◌≤◌, ◌<◌, ◌+◌, [], ◌∷◌, ℕ, List, length, subst}
+use Rattle.std.proofs.Common.{◌≡◌, ◌≢◌, ◌≤◌, ◌<◌, ◌+◌, [], ◌∷◌, ℕ, List, length, subst, refl}
 use Rattle.lists.proofs.Results.{kept_fault}
 use Rattle.declared_names.specs.Names.{IsDeclared}
 use Rattle.plant_text.specs.declared.token.Token.{Token}
 use Rattle.plant_text.specs.declared.token.Token.TheVariants as token
 use Rattle.plant_grammar.specs.declared.grammar_fault.GrammarFaultKind.TheVariants.{Memory}
-use Rattle.plant_grammar.specs.NameFaults.{IsNew}
+use Rattle.plant_grammar.specs.Steps.NamesRead.{IsNew}
 use Rattle.plant_grammar.specs.Steps.Expected.{AName, GetsStuck}
 use Rattle.plant_grammar.proofs.UnexpectedWords.{name_stuck}
 use Rattle.plant_grammar.specs.Steps.Declaring.{TellsOfVariable}
 use Rattle.plant_grammar.proofs.NewNames.{one_name}
 use Rattle.plant_grammar.proofs.RefusedPlaces.{variable_told}
+use Rattle.plant_grammar.specs.Steps.SoundWords.{IsNothing}
 use Rattle.plant_grammar.proofs.grammar.reader.Reader.variable.Goals as goal
 
 pub returns-in_err-check-clause-other : goal.returns-in_err-check-clause-other
@@ -29,9 +30,9 @@ returns-in_err-check-clause-tells c =
 pub returns-in_err-name-clause-stuck : goal.returns-in_err-name-clause-stuck
 returns-in_err-name-clause-stuck c =
     let fault = c.in_err-name.field-0.0 in
-    kept_fault fault (GetsStuck (AName ∷ []) c.args.self.now) c.from_residual.result c.from_residual.ensures.1 (name_stuck [] c.args.self.now fault c.in_err-name.ensures.err c.in_err-name.ensures.other)
+    kept_fault fault (GetsStuck IsNothing (AName ∷ []) c.args.self.now) c.from_residual.result c.from_residual.ensures.1 (name_stuck IsNothing refl [] c.args.self.now fault c.in_err-name.ensures.err c.in_err-name.ensures.other)
 
 pub returns-in_err-check-clause-stuck : goal.returns-in_err-check-clause-stuck
 returns-in_err-check-clause-stuck c =
     let fault = c.in_err-check.field-0.0 in
-    kept_fault fault (GetsStuck (AName ∷ []) c.args.self.now) c.from_residual-in_err-check.result c.from_residual-in_err-check.ensures.1 (λ syntax behind. absurd (c.in_err-check.ensures.named syntax))
+    kept_fault fault (GetsStuck IsNothing (AName ∷ []) c.args.self.now) c.from_residual-in_err-check.result c.from_residual-in_err-check.ensures.1 (λ syntax behind. absurd (c.in_err-check.ensures.named syntax))

@@ -1,0 +1,94 @@
+-- What a ladder is read from: the text of a drawing; or, with the name of a program type, that of a plant.
+use Rattle.std.specs.Prelude.{◌≡◌, ℕ, ◌⊎◌, List, Option, Some, None}
+use Rattle.std.specs.Option.{option_map}
+use Rattle.network.specs.Links.{Diagram}
+use Rattle.declared_names.specs.declared.declarations.Declaration.{Declaration}
+use Rattle.plant.specs.PlantText.{IsNoPlant}
+use Rattle.plant.specs.ProgramText.{IsProgramOfText}
+use Rattle.plant.specs.ProgramTypes.{TypeValue}
+use Rattle.text_commands.specs.Comments.{without_comments}
+use Rattle.text_commands.specs.CheckText.{RefusesPlantText}
+use Rattle.text_commands.specs.EvalText.{IsLadderOfDrawing, RefusesDrawing}
+use Rattle.text_commands.specs.Rows.{IsFirstRefused, SpellNoRows}
+use Rattle.text_commands.specs.declared.ladder_source.LadderSource.{LadderSource}
+use Rattle.text_commands.specs.declared.text_command_fault.TextCommandFault.{TextCommandFault}
+use Rattle.text_commands.specs.declared.text_command_fault.TextCommandFault.TheVariants.{Word}
+use Rattle.text_commands.specs.declared.text_fault.TextFault.{TextFault}
+use Rattle.text_commands.specs.declared.word_fault.WordFault.{WordFault}
+use Rattle.text_commands.specs.declared.word_fault.WordFaultKind.TheVariants.{NoProgram}
+
+pub record SourceValue : Type 0 where
+  pub text : List ℕ
+  pub program : Option (List ℕ)
+
+-- a source as it is given
+abbrev pub source_of : LadderSource → SourceValue
+source_of s = record { text = s.text.now; program = option_map (λ name. name.now) s.program }
+
+-- the program type of this name in the text of a plant has these variables, as they are declared, and these networks
+pub record IsLadderOfProgram (text name : List ℕ) (ds : List Declaration) (networks : List Diagram) : Type 0 where
+  pub type : TypeValue
+  pub found : IsProgramOfText text name (Some type)
+  pub declared : ds ≡ type.ladder.declarations
+  pub networks_are : networks ≡ type.ladder.networks
+
+-- the lines of its body are this drawing
+pub record IsBodyOfProgram (text name drawing : List ℕ) : Type 0 where
+  pub type : TypeValue
+  pub found : IsProgramOfText text name (Some type)
+  pub drawing_is : drawing ≡ type.program.body
+
+-- It holds of the text of a plant: as it stands; or, where that is no plant, with its comments emptied.
+abbrev pub HoldsOfPlant : (List ℕ → Type 0) → List ℕ → Type 0
+HoldsOfPlant Holds text = Holds text ⊎ (IsNoPlant text × Holds (without_comments text))
+
+-- the ladder of a drawing, or of the program type of a name
+abbrev pub IsLadderBy : Option (List ℕ) → List ℕ → List Declaration → List Diagram → Type 0
+IsLadderBy None text ds networks = IsLadderOfDrawing text ds networks
+IsLadderBy (Some name) text ds networks = HoldsOfPlant (λ t. IsLadderOfProgram t name ds networks) text
+
+abbrev pub IsLadderFrom : SourceValue → List Declaration → List Diagram → Type 0
+IsLadderFrom s ds networks = IsLadderBy s.program s.text ds networks
+
+-- the drawing itself, or the body of the program type of a name
+abbrev pub IsDrawingBy : Option (List ℕ) → List ℕ → List ℕ → Type 0
+IsDrawingBy None text drawing = drawing ≡ text
+IsDrawingBy (Some name) text drawing = HoldsOfPlant (λ t. IsBodyOfProgram t name drawing) text
+
+abbrev pub IsDrawingFrom : SourceValue → List ℕ → Type 0
+IsDrawingFrom s drawing = IsDrawingBy s.program s.text drawing
+
+-- what holds after a refusal by the text: a drawing is refused, or there is no plant
+abbrev pub RefusesBy : Option (List ℕ) → List ℕ → TextFault → Type 0
+RefusesBy None text fault = RefusesDrawing text fault
+RefusesBy (Some name) text fault = RefusesPlantText text fault
+
+abbrev pub RefusesSource : SourceValue → TextFault → Type 0
+RefusesSource s fault = RefusesBy s.program s.text fault
+
+-- the plant has no program type of the name
+abbrev pub LacksBy : Option (List ℕ) → List ℕ → Type 0
+LacksBy None text = ⊥
+LacksBy (Some name) text = HoldsOfPlant (λ t. IsProgramOfText t name None) text
+
+abbrev pub LacksProgram : SourceValue → Type 0
+LacksProgram s = LacksBy s.program s.text
+
+-- the fault for that: a word is refused, none of those that are counted
+abbrev pub unknown_program : WordFault
+unknown_program = record { number = 0; kind = NoProgram }
+
+abbrev pub no_program : TextCommandFault
+no_program = Word unknown_program
+
+-- so the name is refused
+abbrev pub RefusesName : SourceValue → WordFault → Type 0
+RefusesName s fault = LacksProgram s × (fault ≡ unknown_program)
+
+-- the words are no rows of digits for the source's ladder, and this is the first fault
+pub record RefusesWords (source : SourceValue) (words : List (List ℕ)) (fault : WordFault) : Type 0 where
+  pub declarations : List Declaration
+  pub networks : List Diagram
+  pub ladder : IsLadderFrom source declarations networks
+  pub refused : SpellNoRows declarations words
+  pub first : IsFirstRefused declarations words fault

@@ -1,0 +1,81 @@
+//! The ladder that is read from a source.
+
+ghost use Rattle.std.specs.Prelude.{◌≡◌, IfOk, IfErr, Some, None, string_bytes};
+ghost use Rattle.text_commands.specs.Sources.{no_program, source_of};
+ghost use Rattle.text_commands.specs.Steps.Sources.{IsDrawnFrom, RefusesFrom};
+
+use crate::eval_command::read_ladder;
+use crate::ladder_source::LadderSource;
+use crate::program_types::read_program;
+use crate::text_command_fault::TextCommandFault;
+use crate::word_fault::{WordFault, WordFaultKind};
+use plant::ProgramType;
+use power_flow::Ladder;
+use std::alloc::{AllocError, Global};
+use std::sync::Arc;
+
+/// A ladder, and the text of its drawing.
+#[derive(Drop)]
+pub(crate) struct DrawnLadder {
+    pub(crate) ladder: Arc<Ladder>,
+    pub(crate) drawing: String,
+}
+
+/// The fault where a plant has no program type of the name.
+pub fn no_program() -> TextCommandFault
+    ensures { result ≡ no_program }
+{
+    TextCommandFault::Word(WordFault {
+        number: 0,
+        kind: WordFaultKind::NoProgram,
+    })
+}
+
+/// The ladder of a drawing.
+fn drawn_of_drawing(alloc: Global, text: &str) -> Result<DrawnLadder, TextCommandFault>
+    ensures ok { IfOk result (λ drawn. IsDrawnFrom (record { text = text.now; program = None })
+        drawn.ladder.value (string_bytes drawn.drawing)) }
+    ensures err { IfErr result (RefusesFrom (record { text = text.now; program = None })) }
+{
+    let ladder = read_ladder(alloc, text)?;
+    let ladder = Arc::new(alloc, ladder)?;
+    let drawing = String::from_str(alloc, text)?;
+    Ok(DrawnLadder { ladder, drawing })
+}
+
+/// The ladder of a program type, and its body.
+fn drawn_of_type(alloc: Global, found: &ProgramType) -> Result<DrawnLadder, AllocError>
+    ensures ladder { IfOk result (λ drawn. drawn.ladder.value ≡ found.now.ladder) }
+    ensures drawing { IfOk result (λ drawn. string_bytes drawn.drawing ≡ found.now.program.body) }
+{
+    let ladder = Arc::try_clone(found.ladder())?;
+    let drawing = String::from_str(alloc, found.program().body.as_str())?;
+    Ok(DrawnLadder { ladder, drawing })
+}
+
+/// The ladder of the program type of a name in a plant.
+fn drawn_of_program(alloc: Global, text: &str, name: &str) -> Result<DrawnLadder, TextCommandFault>
+    ensures ok { IfOk result (λ drawn. IsDrawnFrom (record { text = text.now; program = Some name.now })
+        drawn.ladder.value (string_bytes drawn.drawing)) }
+    ensures err { IfErr result (RefusesFrom (record { text = text.now; program = Some name.now })) }
+{
+    match read_program(alloc, text, name)? {
+        Some(found) => Ok(drawn_of_type(alloc, &found)?),
+        None => Err(no_program()),
+    }
+}
+
+/// The ladder that is read from a source, and the text of its drawing: of a program type its body.
+pub(crate) fn read_source(
+    alloc: Global,
+    source: LadderSource<'_>,
+) -> Result<DrawnLadder, TextCommandFault>
+    ensures ok { IfOk result (λ drawn. IsDrawnFrom (source_of source.entry)
+        drawn.ladder.value (string_bytes drawn.drawing)) }
+    ensures err { IfErr result (RefusesFrom (source_of source.entry)) }
+{
+    match source.program {
+        None => drawn_of_drawing(alloc, source.text),
+        Some(name) => drawn_of_program(alloc, source.text, name),
+    }
+}
