@@ -25,6 +25,7 @@ pub enum JournalFault {
 #[derive(Drop)]
 pub struct FileNotes {
     file: File,
+    is_synced: bool,
 }
 
 /// Whether a file stands at a path.
@@ -58,25 +59,38 @@ impl FileNotes {
             return Err(JournalFault::Unopened);
         };
         match file.try_lock() {
-            Ok(()) => Ok(FileNotes { file }),
+            Ok(()) => Ok(FileNotes {
+                file,
+                is_synced: false,
+            }),
             Err(TryLockError::WouldBlock) => Err(JournalFault::InUse),
             Err(TryLockError::Error(_)) => Err(JournalFault::NoLock),
         }
-    }
-
-    /// Writes bytes behind what the file has, up to the disk.
-    fn append(&mut self, bytes: &[u8]) -> io::Result<()> {
-        self.file.write_all(bytes)?;
-        self.file.sync_all()
     }
 }
 
 impl Notes for FileNotes {
     ghost noted = { λ _. None };
 
+    ghost synced = { λ _. None };
+
     fn note(&mut self, bytes: &[u8]) -> Result<(), NoteFault> {
-        match self.append(bytes) {
+        self.is_synced = false;
+        match self.file.write_all(bytes) {
             Ok(()) => Ok(()),
+            Err(_) => Err(NoteFault),
+        }
+    }
+
+    fn sync(&mut self) -> Result<(), NoteFault> {
+        if self.is_synced {
+            return Ok(());
+        }
+        match self.file.sync_all() {
+            Ok(()) => {
+                self.is_synced = true;
+                Ok(())
+            }
             Err(_) => Err(NoteFault),
         }
     }

@@ -5,6 +5,7 @@ use Rattle.live_node.specs.NodeAnswers.{keeper_gives}
 use Rattle.live_node.proofs.Stopping.{none_unrisen, restart_unrisen, unraised_unrisen}
 use Rattle.live_node.proofs.Telling.{refused_raise, on_ok}
 use Rattle.live_node.proofs.Outliving.{keeps_alike, restart_keeps, alike_same}
+use Rattle.live_node.proofs.Syncing.{grows_refl}
 use Rattle.live_node.proofs.node.Node.answer_restart.Goals as goal
 
 pub returns-in_err-push_refused-clause-stopped : goal.returns-in_err-push_refused-clause-stopped
@@ -25,6 +26,7 @@ returns-in-Err g c =
     record {
       answered = refused_raise c.refuse_unraised.result raising s c.args.line.now c.args.resource last c.in-Err.fault noted (string_bytes c.args.out.now) (string_bytes c.refuse_unraised.new.out) (search rules) c.requires.kept c.in-Err.ensures.given c.refuse_unraised.ensures.refused;
       stopped = unraised_unrisen c.refuse_unraised.result raising s c.args.resource noted c.refuse_unraised.ensures.stopped;
+      stays = grows_refl (g.N.Notes.synced c.args.self.now.notes);
       kept = on_ok c.refuse_unraised.result (c.in-Err.ensures.raised ∙ c.requires.kept);
       keeps = keeps_alike (g.K.Keeper.kept_gives c.args.self.now.keeper) (g.K.Keeper.kept_gives c.raise.new.self) s.core s.core c.in-Err.ensures.keeps (alike_same s.core);
     }
