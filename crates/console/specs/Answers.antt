@@ -51,16 +51,17 @@ asked_source text program = record { text = text; program = option_map (λ name.
 -- what was asked for was written: by its own command, with its words, at its times; and this is the first difference from
 -- what they expect, if there is one, with the texts for the files that are wanted
 abbrev pub WritesAnswer : Bool → TextRequest → List ℕ → Option (List ℕ) → Option (List ℕ) → Traced → Type 0
-WritesAnswer terminal (Eval drawing dt view color files strictness words program) text old new traced =
+WritesAnswer terminal (Eval drawing dt view color files strictness words program restarts) text old new traced =
     (wanted : Wanted) × AreWantedFor drawing.now files wanted
-    × WritesTraced (asked_source text program) (words_in (Eval drawing dt view color files strictness words program)) dt (form_of view color terminal) wanted old new
-    traced
+    × WritesTraced (asked_source text program) (words_in (Eval drawing dt view color files strictness words program restarts)) restarts.items dt
+    (form_of view color terminal) wanted old new traced
 WritesAnswer terminal (Check plant strictness) text old new traced = WritesCheck text old new × HasNoTrace traced
 WritesAnswer terminal (Plan plant until form) text old new traced = WritesPlan text until form old new × HasNoTrace traced
 
 -- why what was asked for wasn't written, and what was written before
 abbrev pub ExplainsAnswer : Bool → TextRequest → List ℕ → Option (List ℕ) → Option (List ℕ) → TextCommandFault → Type 0
-ExplainsAnswer terminal (Eval drawing dt view color files strictness words program) text old new fault =
-    ExplainsTest (asked_source text program) (words_in (Eval drawing dt view color files strictness words program)) dt (form_of view color terminal) old new fault
+ExplainsAnswer terminal (Eval drawing dt view color files strictness words program restarts) text old new fault =
+    ExplainsTest (asked_source text program) (words_in (Eval drawing dt view color files strictness words program restarts)) restarts.items dt
+    (form_of view color terminal) old new fault
 ExplainsAnswer terminal (Check plant strictness) text old new fault = ExplainsCheck text old new fault
 ExplainsAnswer terminal (Plan plant until form) text old new fault = ExplainsPlan text until form old new fault

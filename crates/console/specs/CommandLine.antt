@@ -17,9 +17,12 @@ use Rattle.console.specs.declared.request.Color.{Color}
 use Rattle.console.specs.declared.request.Color.TheVariants.{Always, Auto, Never}
 use Rattle.console.specs.declared.request.Strictness.{Strictness}
 use Rattle.console.specs.declared.request.Strictness.TheVariants.{Told, Strict, Silent}
+use Rattle.console.specs.declared.request.Restarts.{Restarts}
+use Rattle.console.specs.declared.request.Restarts.TheVariants.{Unsaid, Asked, LeftOut}
 use Rattle.console.specs.declared.request.Pace.{Pace}
 use Rattle.console.specs.declared.request.Pace.TheVariants.{Free, Paced, Clock}
 use Rattle.console.specs.declared.request.TraceFiles.{TraceFiles}
+use Rattle.text_commands.specs.Restarts.{AreRestarts}
 use Rattle.text_commands.specs.declared.plan_form.PlanForm.{PlanForm}
 use Rattle.text_commands.specs.declared.plan_form.PlanForm.TheVariants.{Moments, Schedule}
 use Rattle.console.specs.declared.request.Request.{Request}
@@ -147,8 +150,15 @@ most_waiting_rule = option_of (codes "most-waiting")
 abbrev pub given_rule : Rule
 given_rule = record (new_rule (codes "given")) { action = Some Append; long = Some (codes "given"); value_names = 1 }
 
+abbrev pub restarts_rule : Rule
+restarts_rule = flag_of (codes "restarts")
+
 abbrev pub no_restarts_rule : Rule
 no_restarts_rule = flag_of (codes "no-restarts")
+
+-- an option `--restart K[,K..]`, any number of times
+abbrev pub restart_rule : Rule
+restart_rule = record (new_rule (codes "restart")) { action = Some Append; long = Some (codes "restart"); value_names = 1 }
 
 -- any number of words
 abbrev pub words_rule : Rule
@@ -164,15 +174,15 @@ shown_app =
     let dt = with_rule (with_rule (new_app (codes "eval")) drawing_rule) dt_rule in
     with_rule (with_rule (with_rule dt show_rule) chart_rule) color_rule
 
--- .. `[--program P] [--vcd FILE] [--svg FILE] [--strict] [--no-warnings] [NAME=VALUES]..`
+-- .. `[--program P] [--restart K] [--vcd FILE] [--svg FILE] [--strict] [--no-warnings] [NAME=VALUES]..`
 abbrev pub eval_app : App
-eval_app = with_rule (warned (traced (with_rule shown_app program_rule))) words_rule
+eval_app = with_rule (warned (traced (with_rule (with_rule shown_app program_rule) restart_rule))) words_rule
 
--- `verify FILE --never NAME [--given NAME] [--no-restarts] [--dt MS] [--most-states N] [--most-waiting N]`
+-- `verify FILE --never NAME [--given NAME] [--restarts] [--no-restarts] [--dt MS] [--most-states N] [--most-waiting N]`
 abbrev pub claimed_app : App
 claimed_app =
     let never = with_rule (with_rule (new_app (codes "verify")) file_rule) never_rule in
-    let given = with_rule (with_rule never given_rule) no_restarts_rule in
+    let given = with_rule (with_rule (with_rule never given_rule) restarts_rule) no_restarts_rule in
     with_rule (with_rule (with_rule given dt_rule) most_states_rule) most_waiting_rule
 
 -- .. `[--program P] [--strict] [--no-warnings] [WORD]..`
@@ -286,6 +296,10 @@ claims_given found = unwrap_or (all_of (codes "never") found) []
 abbrev pub premises_given : List Row → List Text
 premises_given found = unwrap_or (all_of (codes "given") found) []
 
+-- the words K[,K..] behind each `--restart`, in order
+abbrev pub restart_words : List Row → List Text
+restart_words found = unwrap_or (all_of (codes "restart") found) []
+
 -- the names of journals, in order
 abbrev pub journals_given : List Row → List Text
 journals_given found = unwrap_or (all_of (codes "JOURNAL") found) []
@@ -309,6 +323,22 @@ GivesView show chart view = GivesOneOf Rows Drawings Chart show chart view
 -- `--strict` makes warnings a failure, and `--no-warnings` silences them
 abbrev pub GivesStrictness : Bool → Bool → Strictness → Type 0
 GivesStrictness strict silent strictness = GivesOneOf Told Strict Silent strict silent strictness
+
+-- `--restarts` asks for runs with restarts, and `--no-restarts` leaves them out
+abbrev pub GivesRestarts : Bool → Bool → Restarts → Type 0
+GivesRestarts asked left restarts = GivesOneOf Unsaid Asked LeftOut asked left restarts
+
+-- runs with restarts are asked for
+abbrev pub are_asked : Restarts → Bool
+are_asked Unsaid = false
+are_asked Asked = true
+are_asked LeftOut = false
+
+-- they are left out
+abbrev pub are_left_out : Restarts → Bool
+are_left_out Unsaid = false
+are_left_out Asked = false
+are_left_out LeftOut = true
 
 -- `--schedule` asks for a schedule, in the place of moments
 abbrev pub plan_form : Bool → PlanForm
@@ -348,7 +378,7 @@ AsksProgram found program = option_map (λ p. p.now) program ≡ first_of (codes
 
 -- the subcommand that asks for it
 abbrev pub command_of : Request → Text
-command_of (OfText (Eval drawing dt view color files strictness words program)) = codes "eval"
+command_of (OfText (Eval drawing dt view color files strictness words program restarts)) = codes "eval"
 command_of (OfText (Check plant strictness)) = codes "check"
 command_of (OfText (Plan plant until form)) = codes "plan"
 command_of (Verify verify) = codes "verify"
@@ -361,13 +391,13 @@ command_of (Audit audit) = codes "audit"
 
 -- what was found for its options gives what it asks for
 abbrev pub Asks : List Row → Request → Type 0
-Asks found (OfText (Eval drawing dt view color files strictness words program)) =
+Asks found (OfText (Eval drawing dt view color files strictness words program restarts)) =
     (drawing.now ≡ given_word (codes "DRAWING") found) × GivesNumber 0 (first_of (codes "dt") found) dt
     × GivesView (is_given (codes "show") found) (is_given (codes "chart") found) view
     × GivesColor (first_of (codes "color") found) color
     × AsksFiles found files × (map (λ w. w.now) words.items ≡ words_given found)
     × GivesStrictness (is_given (codes "strict") found) (is_given (codes "no-warnings") found) strictness
-    × AsksProgram found program
+    × AsksProgram found program × AreRestarts (restart_words found) restarts.items
 Asks found (OfText (Check plant strictness)) = (plant.now ≡ given_word (codes "PLANT") found)
     × GivesStrictness (is_given (codes "strict") found) (is_given (codes "no-warnings") found) strictness
 Asks found (OfText (Plan plant until form)) =
@@ -377,7 +407,7 @@ Asks found (Verify verify) =
     (verify.file.now ≡ given_word (codes "FILE") found)
     × (map (λ w. w.now) verify.claims.items ≡ claims_given found)
     × (map (λ w. w.now) verify.given.items ≡ premises_given found)
-    × (verify.no_restarts ≡ is_given (codes "no-restarts") found)
+    × GivesRestarts (is_given (codes "restarts") found) (is_given (codes "no-restarts") found) verify.restarts
     × GivesOption (first_of (codes "dt") found) verify.dt
     × GivesNumber 1000000 (first_of (codes "most-states") found) verify.most_states
     × GivesOption (first_of (codes "most-waiting") found) verify.most_waiting
@@ -415,30 +445,30 @@ OnlyMemoryRefuses {X} asks error = (x : X) → asks x → kind_of error ≡ OutO
 
 -- the file that is to be read
 abbrev pub file_of : TextRequest → List ℕ
-file_of (Eval drawing dt view color files strictness words program) = drawing.now
+file_of (Eval drawing dt view color files strictness words program restarts) = drawing.now
 file_of (Check plant strictness) = plant.now
 file_of (Plan plant until form) = plant.now
 
 -- the files that are written of a trace
 abbrev pub files_in : TextRequest → TraceFiles
-files_in (Eval drawing dt view color files strictness words program) = files
+files_in (Eval drawing dt view color files strictness words program restarts) = files
 files_in (Check plant strictness) = record { vcd = None; svg = None }
 files_in (Plan plant until form) = record { vcd = None; svg = None }
 
 -- what becomes of warnings
 abbrev pub strictness_of : TextRequest → Strictness
-strictness_of (Eval drawing dt view color files strictness words program) = strictness
+strictness_of (Eval drawing dt view color files strictness words program restarts) = strictness
 strictness_of (Check plant strictness) = strictness
 strictness_of (Plan plant until form) = Silent
 
 -- the words NAME=VALUES and NAME==VALUES
 abbrev pub words_in : TextRequest → List (List ℕ)
-words_in (Eval drawing dt view color files strictness words program) = map (λ w. w.now) words.items
+words_in (Eval drawing dt view color files strictness words program restarts) = map (λ w. w.now) words.items
 words_in (Check plant strictness) = []
 words_in (Plan plant until form) = []
 
 -- the name of the program type that is asked about
 abbrev pub program_in : TextRequest → Option (Bor (List ℕ))
-program_in (Eval drawing dt view color files strictness words program) = program
+program_in (Eval drawing dt view color files strictness words program restarts) = program
 program_in (Check plant strictness) = None
 program_in (Plan plant until form) = None

@@ -2,6 +2,7 @@
 use Rattle.std.specs.Prelude.{◌==◌, ◌&&◌, ◌||◌, ◌++◌, ℕ, Bool, true, is_none, List, [], ◌∷◌, Option, Some, None, codes, not, unwrap_or, if◌then◌else◌}
 use Rattle.std.specs.Borrow.{Bor}
 use Rattle.std.specs.List.{list_any}
+use Rattle.console.specs.CommandLine.{are_asked, are_left_out}
 use Rattle.console.specs.declared.request.VerifyRequest.{VerifyRequest}
 use Rattle.console.specs.ShellWord.{shell_word}
 use Rattle.console.specs.declared.verify_answer.Subject.{Subject}
@@ -26,7 +27,7 @@ are_plain (name ∷ names) = not (is_of_plant name) && are_plain names
 
 -- nothing is asked that is asked of plants alone
 abbrev pub is_of_drawings : VerifyRequest → Bool
-is_of_drawings request = not request.no_restarts && is_none request.most_waiting
+is_of_drawings request = not (are_left_out request.restarts) && is_none request.most_waiting
 
 -- it is about a plant where all words are of one and no program type is asked about, about a drawing or a program type where
 -- none has a dot or comma, and nothing is asked of plants alone
@@ -44,8 +45,8 @@ program_words (Some name) = codes " --program " ++ shell_word name.now
 abbrev pub eval_words : VerifyRequest → List ℕ
 eval_words request = shell_word request.file.now ++ program_words request.program
 
--- the claims, what is given, the words, the time between scans and the number of states of the request, with the
--- words for `plc eval`
+-- the claims, what is given, the words, the time between scans, whether there are restarts and the number of states of the
+-- request, with the words for `plc eval`
 abbrev pub asked_question : List ℕ → VerifyRequest → QuestionValue
 asked_question file request = record {
   file = file;
@@ -53,6 +54,7 @@ asked_question file request = record {
   given = texts request.given.items;
   words = texts request.words.items;
   dt = unwrap_or request.dt 0;
+  restarts = are_asked request.restarts;
   most_states = request.most_states;
 }
 
@@ -63,7 +65,7 @@ asked_of_plant request = record {
   given = texts request.given.items;
   words = texts request.words.items;
   dt = request.dt;
-  restarts = not request.no_restarts;
+  restarts = not (are_left_out request.restarts);
   most_states = request.most_states;
   most_waiting = unwrap_or request.most_waiting 8;
 }

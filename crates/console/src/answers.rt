@@ -90,6 +90,7 @@ pub fn obey<W: Write>(
             files,
             words,
             program,
+            restarts,
             ..
         } => {
             let form = form_of(*view, *color, terminal);
@@ -98,7 +99,7 @@ pub fn obey<W: Write>(
                 text,
                 program: *program,
             };
-            eval_traced(alloc, source, words, *dt, form, wanted, writer)
+            eval_traced(alloc, source, words, restarts, *dt, form, wanted, writer)
         }
         TextRequest::Check { .. } => {
             check(alloc, text, writer)?;

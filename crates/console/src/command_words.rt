@@ -3,17 +3,18 @@ ghost use Rattle.std.specs.Option.{option_map};
 ghost use Rattle.std.specs.Str.Parse.{digits_value};
 ghost use Rattle.clap.specs.Words.{rows_of, found_of, first_of, subcommand_of};
 ghost use Rattle.clap.specs.Takes.{takes};
-ghost use Rattle.console.specs.CommandLine.{plc_app, IsNumber, GivesNumber, GivesOption, AsksFiles, AsksFor, OnlyMemoryRefuses, given_word, words_given, claims_given, premises_given, journals_given, is_given, GivesOneOf, GivesView, GivesColor, GivesStrictness, GivesPace, GivesEnd, plan_form};
+ghost use Rattle.text_commands.specs.Restarts.{AreRestarts};
+ghost use Rattle.console.specs.CommandLine.{plc_app, IsNumber, GivesNumber, GivesOption, AsksFiles, AsksFor, OnlyMemoryRefuses, given_word, words_given, claims_given, premises_given, restart_words, journals_given, is_given, GivesOneOf, GivesView, GivesColor, GivesStrictness, GivesRestarts, GivesPace, GivesEnd, plan_form};
 
 use crate::commands::commands;
 use crate::request::{
-    AuditRequest, Color, NodeRequest, Pace, Request, RunRequest, SimRequest, Strictness,
+    AuditRequest, Color, NodeRequest, Pace, Request, Restarts, RunRequest, SimRequest, Strictness,
     TextRequest, TraceFiles, VerifyRequest, View,
 };
 use clap::error::ErrorKind;
 use clap::{ArgMatches, Command, Error};
 use std::alloc::{AllocError, Global};
-use text_commands::PlanForm;
+use text_commands::{PlanForm, read_restarts};
 
 const UNTIL_REFUSED: &str = "MS of --until is a number from 0 to 4294967295";
 
@@ -22,6 +23,11 @@ const DT_REFUSED: &str = "MS of --dt is a number from 0 to 4294967295";
 const VIEWS_REFUSED: &str = "--show and --chart can't be given both";
 
 const STRICTNESS_REFUSED: &str = "--strict and --no-warnings can't be given both";
+
+const BOTH_RESTARTS_REFUSED: &str = "--restarts and --no-restarts can't be given both";
+
+const SCANS_REFUSED: &str =
+    "K of --restart is a number from 1 to 1000000, or several with commas between";
 
 const PACES_REFUSED: &str = "--paced and --clock can't be given both";
 
@@ -132,6 +138,31 @@ fn premises_given<'a>(alloc: Global, matches: &ArgMatches<'a>) -> Result<Vec<&'a
     }
 }
 
+fn restart_words<'a>(alloc: Global, matches: &ArgMatches<'a>) -> Result<Vec<&'a str>, AllocError>
+    ensures { IfOk result (λ words. map (λ w. w.now) words.items ≡ restart_words (rows_of (found_of matches.now))) }
+{
+    match matches.get_strs("restart") {
+        Some(words) => Vec::from_slice(alloc, words),
+        None => Ok(Vec::new(alloc)),
+    }
+}
+
+/// The scans before which the ladder restarts.
+fn restarts_given<'a>(
+    alloc: Global,
+    command: &mut Command<'a>,
+    matches: &ArgMatches<'a>,
+) -> Result<Vec<usize>, Error>
+    ensures ok { IfOk result (λ scans. AreRestarts (restart_words (rows_of (found_of matches.now))) scans.items) }
+    ensures refused { IfErr result (OnlyMemoryRefuses (AreRestarts (restart_words (rows_of (found_of matches.now))))) }
+{
+    let words = restart_words(alloc, matches)?;
+    match read_restarts(alloc, &words)? {
+        Some(scans) => Ok(scans),
+        None => Err(command.error(ErrorKind::ValueValidation, SCANS_REFUSED)?),
+    }
+}
+
 /// The files that are written of a trace.
 fn files_of<'a>(matches: &ArgMatches<'a>) -> TraceFiles<'a>
     ensures { AsksFiles (rows_of (found_of matches.now)) result }
@@ -208,6 +239,22 @@ fn strictness_of<'a>(
     )
 }
 
+/// Whether runs with restarts are looked at, by the flags that were given.
+fn restarts_of<'a>(command: &mut Command<'a>, asked: bool, left: bool) -> Result<Restarts, Error>
+    ensures ok { IfOk result (GivesRestarts asked left) }
+    ensures refused { IfErr result (OnlyMemoryRefuses (GivesRestarts asked left)) }
+{
+    let flags = (asked, left);
+    one_of_two(
+        command,
+        flags,
+        BOTH_RESTARTS_REFUSED,
+        Restarts::Unsaid,
+        Restarts::Asked,
+        Restarts::LeftOut,
+    )
+}
+
 /// When a command goes, by the flags that were given.
 fn pace_of<'a>(command: &mut Command<'a>, paced: bool, clock: bool) -> Result<Pace, Error>
     ensures ok { IfOk result (GivesPace paced clock) }
@@ -263,6 +310,7 @@ fn eval_request<'a>(
         )?,
         words: words_given(alloc, inner)?,
         program: word_of(inner, "program"),
+        restarts: restarts_given(alloc, command, inner)?,
     }))
 }
 
@@ -278,7 +326,11 @@ fn verify_request<'a>(
         file: given_word(inner, "FILE"),
         claims: claims_given(alloc, inner)?,
         given: premises_given(alloc, inner)?,
-        no_restarts: is_given(inner, "no-restarts"),
+        restarts: restarts_of(
+            command,
+            is_given(inner, "restarts"),
+            is_given(inner, "no-restarts"),
+        )?,
         dt: number_if_given(command, inner, "dt", DT_REFUSED)?,
         most_states: number_of(
             command,

@@ -1,6 +1,6 @@
 ghost use Rattle.std.specs.Prelude.{◌≡◌, false, IfOk, codes};
 ghost use Rattle.clap.specs.Words.{app_of, new_app, rule_of};
-ghost use Rattle.console.specs.CommandLine.{needed_word, option_of, flag_of, words_rule, plant_rule, file_rule, until_rule, state_rule, journal_rule, as_schedule_rule, paced_rule, clock_rule, cycle_rule, node_field_rule, end_rule, show_rule, chart_rule, color_rule, program_rule, vcd_rule, svg_rule, traced, strict_rule, no_warnings_rule, warned, kind_rule, never_rule, given_rule, journals_rule, shown_app, eval_app, claimed_app, verify_app, check_app, plan_app, limited_app, sim_app, paced_app, run_app, node_app, explain_app, audit_app, page_app, versioned, commanded, plc_app, text_app};
+ghost use Rattle.console.specs.CommandLine.{needed_word, option_of, flag_of, words_rule, plant_rule, file_rule, until_rule, state_rule, journal_rule, as_schedule_rule, paced_rule, clock_rule, cycle_rule, node_field_rule, end_rule, show_rule, chart_rule, color_rule, program_rule, vcd_rule, svg_rule, traced, strict_rule, no_warnings_rule, warned, kind_rule, never_rule, given_rule, restart_rule, journals_rule, shown_app, eval_app, claimed_app, verify_app, check_app, plan_app, limited_app, sim_app, paced_app, run_app, node_app, explain_app, audit_app, page_app, versioned, commanded, plc_app, text_app};
 
 use crate::help::{
     AUDIT_HELP, CHECK_HELP, EVAL_HELP, EXPLAIN_HELP, FIRST_STEPS, NODE_HELP, PAGE_HELP, PLAN_HELP,
@@ -313,6 +313,19 @@ fn given_arg<'a>(alloc: Global) -> Arg<'a>
         )
 }
 
+fn restart_arg<'a>(alloc: Global) -> Arg<'a>
+    ensures rule { rule_of result ≡ restart_rule }
+    ensures local { result.global ≡ false }
+{
+    Arg::new(alloc, "restart")
+        .long("restart")
+        .value_name("K")
+        .action(ArgAction::Append)
+        .help(
+            "The ladder restarts before scan K, 1 to 1000000, or before several, with commas between; may be given several times",
+        )
+}
+
 /// The command `eval` without its files and words.
 fn shown_command<'a>(alloc: Global) -> Result<Command<'a>, AllocError>
     ensures { IfOk result (λ c. app_of c ≡ shown_app) }
@@ -341,7 +354,9 @@ fn shown_command<'a>(alloc: Global) -> Result<Command<'a>, AllocError>
 fn eval_command<'a>(alloc: Global) -> Result<Command<'a>, AllocError>
     ensures { IfOk result (λ c. app_of c ≡ eval_app) }
 {
-    let command = shown_command(alloc)?.arg(program_arg(alloc))?;
+    let command = shown_command(alloc)?
+        .arg(program_arg(alloc))?
+        .arg(restart_arg(alloc))?;
     warned_command(alloc, traced_command(alloc, command)?)?.arg(words_arg(
         alloc,
         "NAME=VALUES",
@@ -361,6 +376,11 @@ fn claimed_command<'a>(alloc: Global) -> Result<Command<'a>, AllocError>
         .arg(needed_arg(alloc, "FILE", "The file of the drawing or the plant"))?
         .arg(never_arg(alloc))?
         .arg(given_arg(alloc))?
+        .arg(flag_arg(
+            alloc,
+            "restarts",
+            "Of a drawing: also runs in which it restarts before any scan; of a plant these are looked at anyway",
+        ))?
         .arg(flag_arg(
             alloc,
             "no-restarts",

@@ -13,8 +13,9 @@ pub const EVAL_HELP: &str = "\
 Each word NAME=VALUES gives the variable NAME its values, one before each scan: VALUES are items with commas
 between, without blanks. An item of a BOOL is 1 to 1,000 digits 0 and 1, a value each; of an INT a number from
 -32768 to 32767; of a TIME a duration, as T#5s. ITEM*COUNT is the item COUNT times, 1 to 1000000. Behind its last
-value the variable keeps what it is. There are as many scans as the longest word has values (at most 1,000,000),
-and one if there are no words. A name that the drawing uses is a variable; it is written in either case.
+value nothing is set: an input keeps what it is, any other variable is what the drawing stores. There are as many
+scans as the longest word has values (at most 1,000,000), and one if there are no words. A name that the drawing uses
+is a variable; it is written in either case.
 
 After each scan one line of all variables is written, in the order in which they appear in the drawing. With
 --show the drawing follows each of these lines as it stands in the file, with = for a - that has power in this
@@ -25,6 +26,10 @@ after the first scan, and behind a blank after each one that changed it.
 
 A word NAME==VALUES tells what the variable NAME is to be after each scan, and behind its last value nothing.
 The first difference is told on standard error.
+
+With --restart K the ladder restarts before scan K, counted from 1: each variable is again what it is at first, block
+instances and edges too; only variables that no coil and no output pin stores, and with --program those of VAR RETAIN,
+keep what they are. Then the words set theirs. There are at least K scans.
 
 With --program P the file is a plant, and its program type P, in either case, is tried by its declarations: its variables
 in their order, and with --show its drawing, comments as empty rows. Warnings are those of plc check.
@@ -69,7 +74,7 @@ unless a word NAME=BIT holds it at 0 or 1. A claim is a rung: draw a coil that t
 happened. --given NAME leaves out all runs in which a scan leaves NAME FALSE: what is known of the inputs is a rung, too.
 Looked at are the networks that store what claims and givens read, those that store what these read, and so on; of the inputs
 that they read at most 20 may be free. Each scan comes --dt MS after the one before; a drawing with a timer (TON, TOF, TP)
-needs it, above 0.
+needs it, above 0. With --restarts it may restart before any scan, as plc eval --restart has it.
 
 A line is written for each claim, in the order given:
 
@@ -80,7 +85,7 @@ A line is written for each claim, in the order given:
   UNDECIDED  more than N states were met, and the claim is broken in no run of so many scans or fewer
 
 and last, if there is any of that, `given` with what all depend on: --dt, the inputs that are held, each INT and TIME that
-is 0 since nothing stores it, and the names behind --given.
+is 0 since nothing stores it, the names behind --given, and restarts.
 
 Example:
 

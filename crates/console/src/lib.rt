@@ -44,7 +44,7 @@ pub use refusals::{
     WordRefusal, write_difference_line, write_no_event, write_refusal, write_word_refusal,
 };
 pub use request::{
-    AuditRequest, Color, NodeRequest, Pace, Request, RunRequest, SimRequest, Strictness,
+    AuditRequest, Color, NodeRequest, Pace, Request, Restarts, RunRequest, SimRequest, Strictness,
     TextRequest, TraceFiles, VerifyRequest, View,
 };
 pub use schedules::{answer_schedule, obey_lines, obey_schedule};

@@ -1,5 +1,5 @@
 ghost use Rattle.std.specs.Prelude.{◌≡◌, map};
-ghost use Rattle.console.specs.CommandLine.{file_of, files_in, program_in, strictness_of, words_in};
+ghost use Rattle.console.specs.CommandLine.{are_asked, are_left_out, file_of, files_in, program_in, strictness_of, words_in};
 
 use text_commands::PlanForm;
 
@@ -34,6 +34,39 @@ pub enum Strictness {
     Silent,
 }
 
+/// Whether runs with restarts are looked at.
+#[derive(Clone, Copy, Debug, PartialEq, Eq)]
+pub enum Restarts {
+    /// Those of a plant are, those of a drawing aren't.
+    Unsaid,
+    /// They are.
+    Asked,
+    /// They aren't.
+    LeftOut,
+}
+
+impl Restarts {
+    /// Whether they are asked for.
+    pub(crate) fn are_asked(&self) -> bool
+        ensures { result ≡ are_asked self.now }
+    {
+        match self {
+            Restarts::Asked => true,
+            Restarts::Unsaid | Restarts::LeftOut => false,
+        }
+    }
+
+    /// Whether they are left out.
+    pub(crate) fn are_left_out(&self) -> bool
+        ensures { result ≡ are_left_out self.now }
+    {
+        match self {
+            Restarts::LeftOut => true,
+            Restarts::Unsaid | Restarts::Asked => false,
+        }
+    }
+}
+
 /// The files that are written of a trace: a value change dump, and a timing diagram.
 #[derive(Clone, Copy, Debug)]
 pub struct TraceFiles<'a> {
@@ -65,6 +98,8 @@ pub enum TextRequest<'a> {
         words: Vec<&'a str>,
         /// The name of the program type.
         program: Option<&'a str>,
+        /// The scans before which the ladder restarts, counted from 1.
+        restarts: Vec<usize>,
     },
     /// How many resources, tasks, programs and connections a plant has.
     Check {
@@ -134,14 +169,15 @@ impl<'a> TextRequest<'a> {
 }
 
 /// Whether variables of a drawing, or outputs of a plant, are ever TRUE. The claims name them: by names without a dot the
-/// file is a drawing, or with `program` a plant of which that program type is asked about; by names `R.P.V` it is a plant. `dt` is the time between scans or evaluations in ms. What is given, restarts
-/// and `most_waiting` are of plants, warnings of drawings. At most `most_states` states are looked at; the words hold inputs.
+/// file is a drawing, or with `program` a plant of which that program type is asked about; by names `R.P.V` it is a plant.
+/// `dt` is the time between scans or evaluations in ms. `most_waiting` is of plants, warnings are of drawings. At most
+/// `most_states` states are looked at; the words hold inputs.
 #[derive(Drop)]
 pub struct VerifyRequest<'a> {
     pub file: &'a str,
     pub claims: Vec<&'a str>,
     pub given: Vec<&'a str>,
-    pub no_restarts: bool,
+    pub restarts: Restarts,
     pub dt: Option<u32>,
     pub most_states: u32,
     pub most_waiting: Option<u32>,

@@ -66,11 +66,11 @@ fn are_plain(names: &[&str]) -> bool
 fn is_of_drawings(request: &VerifyRequest<'_>) -> bool
     ensures { result ≡ is_of_drawings request.now }
 {
-    !request.no_restarts && request.most_waiting.is_none()
+    !request.restarts.are_left_out() && request.most_waiting.is_none()
 }
 
 /// What a question is about: all names have dots in a plant, none in a drawing or a program type, of which neither restarts
-/// nor waiting images are asked.
+/// are left out nor waiting images asked.
 fn subject_of(request: &VerifyRequest<'_>) -> Subject
     ensures { result ≡ subject_of request.now }
 {
@@ -105,6 +105,7 @@ pub fn obey_verify<W: Write, P: Progress>(
         given: &request.given,
         words: &request.words,
         dt: request.dt.unwrap_or(0),
+        restarts: request.restarts.are_asked(),
         most_states: request.most_states,
     };
     let source = LadderSource {
@@ -211,7 +212,7 @@ pub fn obey_verify_plant<W: Write, P: Progress>(
         given: &request.given,
         words: &request.words,
         dt: request.dt,
-        restarts: !request.no_restarts,
+        restarts: !request.restarts.are_left_out(),
         most_states: request.most_states,
         most_waiting: request.most_waiting.unwrap_or(MOST_WAITING),
     };

@@ -1,4 +1,4 @@
 /// The version of the program, and the sum (SHA-256) over the files that it is built from, all but this one. `run/ship`
 /// writes it.
 pub(crate) const VERSION: &str =
-    "0.1.0 (sources 068905d9218000636a0600a5975098cab25b884ea0907df849f9ec7787642a20)";
+    "0.1.0 (sources 4a8a8a8223a1f6fbeb6680011fbfc076d2b12d45c7fbaa074268b950d57760ef)";

@@ -146,6 +146,7 @@ impl<K: Keeper, N: Notes> FieldNode<K, N> {
         ensures stopped { IfErr result (λ why. IsUnanswered (keeper_gives K.raise_gives self.old.node.keeper)
             (verdict_of (inlets_of self.old.has_field self.old.cycle) origin (word_of_line line.now)) self.old.node.state line.now why
             (N.noted self.old.node.notes) (N.noted self.new.node.notes)) }
+        ensures synced { OnOk result (N.synced self.old.node.notes ≡ N.noted self.old.node.notes → N.synced self.new.node.notes ≡ N.noted self.new.node.notes) }
         ensures kept { OnOk result (K.last self.new.node.keeper ≡ self.new.node.state.core.incarnation) }
         ensures keeps { OnOk result (KeepsCore (K.kept_gives self.old.node.keeper) self.old.node.state.core → KeepsCore (K.kept_gives self.new.node.keeper) self.new.node.state.core) }
         ensures rest { OnErr result (KeepsCore (K.kept_gives self.old.node.keeper) self.old.node.state.core → KeepsAllButOne (K.kept_gives self.new.node.keeper) self.new.node.state.core) }
@@ -194,6 +195,7 @@ impl<K: Keeper, N: Notes> FieldNode<K, N> {
             (N.noted self.old.node.notes) (N.noted self.new.node.notes) (string_bytes out.old) (string_bytes out.new))) }
         ensures stopped { IfErr result (λ why. IsUndone (keeper_gives K.raise_gives self.old.node.keeper) self.old.plant.value self.old.resource (Some asked) self.old.field self.old.node.state why
             (N.noted self.old.node.notes) (N.noted self.new.node.notes)) }
+        ensures synced { OnOk result (N.synced self.old.node.notes ≡ N.noted self.old.node.notes → N.synced self.new.node.notes ≡ N.noted self.new.node.notes) }
         ensures kept { OnOk result (K.last self.new.node.keeper ≡ self.new.node.state.core.incarnation) }
         ensures keeps { OnOk result (KeepsCore (K.kept_gives self.old.node.keeper) self.old.node.state.core → KeepsCore (K.kept_gives self.new.node.keeper) self.new.node.state.core) }
         ensures rest { OnErr result (KeepsCore (K.kept_gives self.old.node.keeper) self.old.node.state.core → KeepsAllButOne (K.kept_gives self.new.node.keeper) self.new.node.state.core) }
@@ -218,6 +220,7 @@ impl<K: Keeper, N: Notes> FieldNode<K, N> {
             (N.noted self.old.node.notes) (N.noted self.new.node.notes) (string_bytes out.old) (string_bytes out.new))) }
         ensures stopped { IfErr result (λ why. StopsAsked (keeper_gives K.raise_gives self.old.node.keeper) self.old.plant.value self.old.resource self.old.cycle self.new.cycle reading self.old.field self.old.node.state why
             (N.noted self.old.node.notes) (N.noted self.new.node.notes)) }
+        ensures synced { OnOk result (N.synced self.old.node.notes ≡ N.noted self.old.node.notes → N.synced self.new.node.notes ≡ N.noted self.new.node.notes) }
         ensures kept { OnOk result (K.last self.new.node.keeper ≡ self.new.node.state.core.incarnation) }
         ensures keeps { OnOk result (KeepsCore (K.kept_gives self.old.node.keeper) self.old.node.state.core → KeepsCore (K.kept_gives self.new.node.keeper) self.new.node.state.core) }
         ensures rest { OnErr result (KeepsCore (K.kept_gives self.old.node.keeper) self.old.node.state.core → KeepsAllButOne (K.kept_gives self.new.node.keeper) self.new.node.state.core) }

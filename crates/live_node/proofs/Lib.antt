@@ -2,8 +2,11 @@ mod KeptLines
 mod LinesRead
 mod LineTaking
 mod NextAnswered
+mod Noted
 mod Opening
 mod Outliving
 mod Standing
 mod Stopping
+mod Syncing
 mod Telling
+mod Together

@@ -1,6 +1,5 @@
 -- One line of a source is answered.
-use Rattle.std.proofs.Common.{◌≡◌, inl, inr, ℕ, ◌+◌, ◌≤◌, true, false, Bool, List, [], Option, Some, None, refl, ap, subst, arith}
-use Rattle.std.specs.Io.KnownBytes.{Appends}
+use Rattle.std.proofs.Common.{◌≡◌, inl, inr, ℕ, ◌+◌, ◌++◌, ◌≤◌, true, false, Bool, List, [], Option, Some, None, refl, ap, arith}
 use Rattle.std.proofs.KnownBytes.{Appends-nil, Keeps-refl}
 use Rattle.evaluation.specs.Messages.{MessageValue}
 use Rattle.exchange_core.specs.declared.accepted.Accepted.{Accepted}
@@ -52,30 +51,30 @@ taken_next raising old new given left noted_old noted_new from to false h = inr 
 pub next_ended : (raising : Raising) (s : NodeValue) (given left noted from : Option (List ℕ)) (line : List ℕ) → Takes given left line End → HasAnsweredNext raising s s given left noted noted from from false
 next_ended raising s given left noted from line h = inl (record { same = refl; none = h.0; end = h.1; unnoted = Keeps-refl noted; unwritten = Keeps-refl from })
 
--- a line was taken and answered, and its answer handed on
-pub next_answered : (raising : Raising) (old new : NodeValue) (given left noted_old noted_new from to : Option (List ℕ)) (line text : List ℕ) (fed : Bool) → Takes given left line (Line fed) → IsAnswered raising old new line noted_old noted_new [] text → Appends from to text
-    → HasAnsweredNext raising old new given left noted_old noted_new from to fed
-next_answered raising old new given left noted_old noted_new from to line text fed t h w =
-    taken_next raising old new given left noted_old noted_new from to fed (record {
+-- a line was taken and answered, and its answer waits
+pub next_answered : (raising : Raising) (old new : NodeValue) (given left noted_old noted_new : Option (List ℕ)) (line waited waiting : List ℕ) (fed : Bool) → Takes given left line (Line fed) → IsAnswered raising old new line noted_old noted_new waited waiting
+    → HasAnsweredNext raising old new given left noted_old noted_new (Some waited) (Some waiting) fed
+next_answered raising old new given left noted_old noted_new line waited waiting fed t h =
+    taken_next raising old new given left noted_old noted_new (Some waited) (Some waiting) fed (record {
       line = line;
       taken = t.1;
       note = h.note;
       text = h.text;
       answered = inl (t.0, h.answers);
       noted = h.noted;
-      written = subst (Appends from to) h.written w;
+      written = h.written;
     })
 
--- a line that is too long was taken, and its refusal handed on
-pub next_too_long : (raising : Raising) (s : NodeValue) (given left noted from to : Option (List ℕ)) (line text : List ℕ) (fed : Bool) → Takes given left line (TooLong fed) → text ≡ refused_line refusal.TooLong → Appends from to text
-    → HasAnsweredNext raising s s given left noted noted from to fed
-next_too_long raising s given left noted from to line text fed t is w =
-    taken_next raising s s given left noted noted from to fed (record {
+-- a line that is too long was taken, and its refusal waits
+pub next_too_long : (raising : Raising) (s : NodeValue) (given left noted : Option (List ℕ)) (line waited waiting : List ℕ) (fed : Bool) → Takes given left line (TooLong fed) → waiting ≡ waited ++ refused_line refusal.TooLong
+    → HasAnsweredNext raising s s given left noted noted (Some waited) (Some waiting) fed
+next_too_long raising s given left noted line waited waiting fed t is =
+    taken_next raising s s given left noted noted (Some waited) (Some waiting) fed (record {
       line = t.0;
       taken = t.2;
       note = [];
-      text = text;
-      answered = inr (t.1, record { same = refl; unnoted = refl; text_is = is });
+      text = refused_line refusal.TooLong;
+      answered = inr (t.1, record { same = refl; unnoted = refl; text_is = refl });
       noted = Appends-nil noted;
-      written = w;
+      written = is;
     })

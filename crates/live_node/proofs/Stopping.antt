@@ -1,8 +1,7 @@
 -- A node stops: what was noted and written for the line that it read last.
-use Rattle.std.proofs.Common.{◌≡◌, ◌⊎◌, Result, Ok, Err, IfErr, OnErr, inl, inr, ℕ, ◌++◌, ◌<◌, true, false, Bool, List, [], ◌∷◌, Option, refl, sym, ap, ◌∙◌, subst, append_assoc, append-nil, arith}
-use Rattle.std.specs.List.{flat_map}
+use Rattle.std.proofs.Common.{◌≡◌, ◌⊎◌, Result, Ok, Err, IfErr, OnErr, inl, inr, ℕ, ◌<◌, true, false, Bool, List, [], Option, refl, sym, ap, subst, arith}
 use Rattle.std.specs.Result.{IsErrAnd}
-use Rattle.std.specs.Io.KnownBytes.{Appends, Consumes}
+use Rattle.std.specs.Io.KnownBytes.{Appends}
 use Rattle.std.proofs.KnownBytes.{Appends-nil, Consumes-nil, Keeps-refl}
 use Rattle.std_blocks.specs.declared.value.Value.{Value}
 use Rattle.task_codes.specs.declared.task_ref.TaskRef.{TaskRef}
@@ -19,13 +18,10 @@ use Rattle.text_lines.specs.Sending.{SendsPart}
 use Rattle.text_lines.proofs.Sending.{begins}
 use Rattle.text_lines.specs.declared.read_fault.ReadFault.{ReadFault}
 use Rattle.text_lines.specs.declared.read_fault.ReadFault.TheVariants as reading
-use Rattle.world.proofs.LinesRead.{fed}
 use Rattle.live_node.specs.declared.node_line.NodeLine.{NodeLine}
 use Rattle.live_node.specs.declared.node_line.NodeLine.TheVariants.{Evaluate, Restart}
-use Rattle.live_node.specs.Answers.{refused_line}
 use Rattle.live_node.specs.NodeJournal.{line_note, start_note, restart_note}
 use Rattle.live_node.specs.NodeLines.{Spells}
-use Rattle.live_node.specs.declared.line_refusal.LineRefusal.TheVariants as refusal
 use Rattle.live_node.specs.NodeValue.{NodeValue}
 use Rattle.live_node.specs.NodeSteps.{IsNotRefused}
 use Rattle.live_node.specs.declared.live_lines.TakenLine.TheVariants.{Line, TooLong}
@@ -33,12 +29,12 @@ use Rattle.live_node.specs.declared.live_stop.LiveStop.{LiveStop}
 use Rattle.live_node.specs.declared.live_stop.LiveStop.TheVariants.{Node, Read, Write, Memory}
 use Rattle.live_node.specs.declared.node_stop.NodeStop.{NodeStop}
 use Rattle.live_node.specs.declared.node_stop.NodeStop.TheVariants as ends
-use Rattle.live_node.specs.NodeAnswers.{Raising, IsAnswered}
+use Rattle.live_node.specs.NodeAnswers.{Raising}
 use Rattle.live_node.specs.Stops.{IsNotedAsked, NotesPart, NotesStart, NotesUnanswered, ReadsWhole, StopsBeginning, StopsWithin, StopsNode}
 use Rattle.live_node.specs.Steps.Answering.{IsNotKeepers, NotesRestartPart, NotesUndone, NotesUnevaluated, NotesUnrisen, TellsNothing, stop_for, stop_of}
 use Rattle.live_node.specs.Steps.Sent.{all_sent}
 use Rattle.live_node.specs.TakenLines.{Takes, TakesLine, TakesWithin}
-use Rattle.live_node.proofs.Standing.{Stands}
+use Rattle.live_node.proofs.Syncing.{synced_same}
 
 -- nothing is a beginning
 pub none_sent : (text : List ℕ) (old : Option (List ℕ)) → SendsPart text old old
@@ -173,13 +169,24 @@ part_undone why r s asked line old new is own unrefused part = kept_fault why (�
     by ends.Note own = (unrefused, part)
     by ends.Memory own = inr (unrefused, part)
 
--- one whose values the keeper doesn't keep
+-- one whose values the keeper doesn't keep, or isn't asked to
 pub unkept : {T : Type 0} (why : NodeStop) (r : Result T NodeStop) (core : MessageCoreValue) (t : TaskRef) (line : List ℕ) (old new : Option (List ℕ)) → IsErrAnd r (λ found. found ≡ why)
-    → (why ≡ stop_for keeping.Unwritable) ⊎ (why ≡ stop_for keeping.Memory) → IsNotRefused core t → Appends old new (line_note line) → IfErr r (λ found. NotesUnevaluated core t line found old new)
+    → (why ≡ stop_for keeping.Unwritable) ⊎ IsNotKeepers why → IsNotRefused core t → Appends old new (line_note line) → IfErr r (λ found. NotesUnevaluated core t line found old new)
 unkept why r core t line old new is (inl same) unrefused noted =
     kept_fault why (λ found. NotesUnevaluated core t line found old new) r is (subst (λ found. NotesUnevaluated core t line found old new) (sym same) (refl, unrefused, noted))
-unkept why r core t line old new is (inr same) unrefused noted =
-    kept_fault why (λ found. NotesUnevaluated core t line found old new) r is (subst (λ found. NotesUnevaluated core t line found old new) (sym same) (inr (unrefused, all_sent (line_note line) old new noted)))
+unkept why r core t line old new is (inr own) unrefused noted = part_unevaluated why r core t line old new is own unrefused (all_sent (line_note line) old new noted)
+
+-- what was noted before a keeper was asked still is
+pub noted_then : {N : Type 0} (noted : N → Option (List ℕ)) (first then last : N) (line : List ℕ) → noted last ≡ noted then → Appends (noted first) (noted then) (line_note line) → Appends (noted first) (noted last) (line_note line)
+noted_then noted first then last line same h = subst (λ n. Appends (noted first) n (line_note line)) (sym same) h
+
+-- why nothing is kept: the keeper's cause, or another one
+pub keeper_stop : {T : Type 0} (f : KeeperFault) (r : Result T NodeStop) → IsErrAnd r (λ found. found ≡ stop_for f) → (f ≡ keeping.Unwritable) ⊎ (f ≡ keeping.Memory) → IfErr r (λ stop. (stop ≡ stop_for keeping.Unwritable) ⊎ IsNotKeepers stop)
+keeper_stop f r is (inl same) = kept_fault (stop_for f) (λ stop. (stop ≡ stop_for keeping.Unwritable) ⊎ IsNotKeepers stop) r is (inl (ap stop_for same))
+keeper_stop f r is (inr same) = kept_fault (stop_for f) (λ stop. (stop ≡ stop_for keeping.Unwritable) ⊎ IsNotKeepers stop) r is (inr (subst (λ k. IsNotKeepers (stop_for k)) (sym same) tt))
+
+pub other_stop : {T : Type 0} (why : NodeStop) (r : Result T NodeStop) → IsErrAnd r (λ found. found ≡ why) → IsNotKeepers why → IfErr r (λ stop. (stop ≡ stop_for keeping.Unwritable) ⊎ IsNotKeepers stop)
+other_stop why r is own = kept_fault why (λ stop. (stop ≡ stop_for keeping.Unwritable) ⊎ IsNotKeepers stop) r is (inr own)
 
 -- a whole line was read
 whole_read : (given left : Option (List ℕ)) (line : List ℕ) (fed : Bool) → TakesLine given left line fed → ReadsWhole line given left
@@ -187,68 +194,26 @@ whole_read given left line true t = inl t.2
 whole_read given left line false t = inr t.2
 
 -- the next line can't be read
-pub stops_unread : (raising : Raising) (s : NodeValue) (given left noted from : Option (List ℕ)) (found : ReadFault) → TakesWithin 1000001 found given left → StopsWithin raising s given left noted noted from from (stop_of found)
-stops_unread raising s given left noted from reading.Read t = record { line = t.0; plain = t.1; read = t.2; leaves = (Keeps-refl noted, Keeps-refl from) }
-stops_unread raising s given left noted from reading.Memory (inl t) = record { line = t.0; plain = t.1; read = inl t.2; leaves = (Keeps-refl noted, Keeps-refl from) }
-stops_unread raising s given left noted from reading.Memory (inr t) = record { line = t.0; plain = t.2; read = inr (omega (arith, t.1), t.3); leaves = (Keeps-refl noted, Keeps-refl from) }
+pub stops_unread : (raising : Raising) (s : NodeValue) (given left noted : Option (List ℕ)) (found : ReadFault) → TakesWithin 1000001 found given left → StopsWithin raising s given left noted noted (stop_of found)
+stops_unread raising s given left noted reading.Read t = record { line = t.0; plain = t.1; read = t.2; leaves = Keeps-refl noted }
+stops_unread raising s given left noted reading.Memory (inl t) = record { line = t.0; plain = t.1; read = inl t.2; leaves = Keeps-refl noted }
+stops_unread raising s given left noted reading.Memory (inr t) = record { line = t.0; plain = t.2; read = inr (omega (arith, t.1), t.3); leaves = Keeps-refl noted }
 
 -- a line isn't answered
-pub stops_unanswered : (raising : Raising) (s : NodeValue) (given left noted_old noted_new from : Option (List ℕ)) (line : List ℕ) (fed : Bool) (why : NodeStop) → Takes given left line (Line fed) → NotesUnanswered raising s line why noted_old noted_new
-    → StopsWithin raising s given left noted_old noted_new from from (Node why)
-stops_unanswered raising s given left noted_old noted_new from line fed why t h = record { line = line; plain = t.1.0; read = whole_read given left line fed t.1; leaves = (t.0, h, Keeps-refl from) }
-
--- an answer isn't written
-pub stops_unwritten : (raising : Raising) (s last : NodeValue) (given left noted_old noted_new from to : Option (List ℕ)) (line text : List ℕ) (fed : Bool) → Takes given left line (Line fed) → IsAnswered raising s last line noted_old noted_new [] text → SendsPart text from to
-    → StopsWithin raising s given left noted_old noted_new from to Write
-stops_unwritten raising s last given left noted_old noted_new from to line text fed t h sent = record {
-  line = line;
-  plain = t.1.0;
-  read = whole_read given left line fed t.1;
-  leaves = record { last = last; note = h.note; text = h.text; answered = inl (t.0, h.answers); noted = h.noted; sent = subst (λ l. SendsPart l from to) h.written sent };
-}
+pub stops_unanswered : (raising : Raising) (s : NodeValue) (given left noted_old noted_new : Option (List ℕ)) (line : List ℕ) (fed : Bool) (why : NodeStop) → Takes given left line (Line fed) → NotesUnanswered raising s line why noted_old noted_new
+    → StopsWithin raising s given left noted_old noted_new (Node why)
+stops_unanswered raising s given left noted_old noted_new line fed why t h = record { line = line; plain = t.1.0; read = whole_read given left line fed t.1; leaves = (t.0, h) }
 
 -- a line is too long, and there is no memory for the refusal
-pub stops_unrefused : (raising : Raising) (s : NodeValue) (given left noted from : Option (List ℕ)) (line : List ℕ) (fed : Bool) → Takes given left line (TooLong fed) → StopsWithin raising s given left noted noted from from Memory
-stops_unrefused raising s given left noted from line true t = record { line = t.0; plain = t.2.0; read = inr (omega (arith, t.1), t.2.2); leaves = (Keeps-refl noted, Keeps-refl from) }
-stops_unrefused raising s given left noted from line false t = record { line = t.0; plain = t.2.0; read = inl t.2.2.0; leaves = (Keeps-refl noted, Keeps-refl from) }
-
--- the refusal isn't written
-pub stops_too_long : (raising : Raising) (s : NodeValue) (given left noted from to : Option (List ℕ)) (line text : List ℕ) (fed : Bool) → Takes given left line (TooLong fed) → text ≡ refused_line refusal.TooLong → SendsPart text from to
-    → StopsWithin raising s given left noted noted from to Write
-stops_too_long raising s given left noted from to line text fed t is sent = record {
-  line = t.0;
-  plain = t.2.0;
-  read = whole_read given left t.0 fed t.2;
-  leaves = record { last = s; note = []; text = text; answered = inr (t.1, record { same = refl; unnoted = refl; text_is = is }); noted = Appends-nil noted; sent = sent };
-}
-
-fed_each : (lines : List (List ℕ)) → fed lines ≡ flat_map (λ line. line ++ 10 ∷ []) lines
-fed_each [] = refl
-fed_each (line ∷ lines) = ap (λ t. line ++ 10 ∷ t) (fed_each lines) ∙ sym (append_assoc line (10 ∷ []) (flat_map (λ l. l ++ 10 ∷ []) lines))
-
--- behind whole lines that were answered
-pub stops_behind : (raising : Raising) (first mid : NodeValue) (begun : List ℕ) (lines : List (List ℕ)) (given now left noted_old noted_mid noted_new from mid_to to : Option (List ℕ)) (stop : LiveStop) → Stands raising first mid begun lines given now noted_old noted_mid from mid_to
-    → StopsWithin raising mid now left noted_mid noted_new mid_to to stop → StopsNode raising first begun given left noted_old noted_new from to stop
-stops_behind raising first mid begun lines given now left noted_old noted_mid noted_new from mid_to to stop s h = inr (record {
-  lines = lines;
-  whole = s.whole;
-  now = now;
-  read = subst (Consumes given now) (fed_each lines) s.read;
-  last = mid;
-  notes = s.notes;
-  text = s.text;
-  answered = s.answered;
-  noted_mid = noted_mid;
-  noted = s.noted;
-  mid = mid_to;
-  written = s.written;
-  stops = h;
-})
+pub stops_unrefused : (raising : Raising) (s : NodeValue) (given left noted : Option (List ℕ)) (line : List ℕ) (fed : Bool) → Takes given left line (TooLong fed) → StopsWithin raising s given left noted noted Memory
+stops_unrefused raising s given left noted line true t = record { line = t.0; plain = t.2.0; read = inr (omega (arith, t.1), t.2.2); leaves = Keeps-refl noted }
+stops_unrefused raising s given left noted line false t = record { line = t.0; plain = t.2.0; read = inl t.2.2.0; leaves = Keeps-refl noted }
 
 -- no line more is read
-pub stops_endless : (raising : Raising) (s : NodeValue) (given noted from : Option (List ℕ)) → StopsWithin raising s given given noted noted from from Read
-stops_endless raising s given noted from = record { line = []; plain = λ j d lt. absurd (omega (arith, lt)); read = Consumes-nil given; leaves = (Keeps-refl noted, Keeps-refl from) }
+pub stops_endless : (raising : Raising) (s : NodeValue) (given noted : Option (List ℕ)) → StopsWithin raising s given given noted noted Read
+stops_endless raising s given noted = record { line = []; plain = λ j d lt. absurd (omega (arith, lt)); read = Consumes-nil given; leaves = Keeps-refl noted }
 
 -- before the first line
-pub stops_at_start : (raising : Raising) (first : NodeValue) (begun : List ℕ) (given noted from to : Option (List ℕ)) (stop : LiveStop) → stop ≡ Write → SendsPart begun from to → StopsNode raising first begun given given noted noted from to stop
-stops_at_start raising first begun given noted from to stop is sent = inl (record { cause = is; unread = Consumes-nil given; unnoted = Keeps-refl noted; sent = sent })
+pub stops_at_start : (raising : Raising) (first : NodeValue) (begun : List ℕ) (given noted synced from to : Option (List ℕ)) (stop : LiveStop) → stop ≡ Write → synced ≡ noted → SendsPart begun from to → StopsNode raising first begun given given noted noted synced from to stop
+stops_at_start raising first begun given noted synced from to stop is all sent =
+    inl (record { cause = is; unread = Consumes-nil given; unnoted = Keeps-refl noted; synced_are = synced_same noted synced all; sent = sent })

@@ -10,5 +10,6 @@ pub mod TooHigh
 pub mod TakenLines
 pub mod LiveNode
 pub mod NodeAnswers
+pub mod Syncing
 pub mod Stops
 pub mod Steps

@@ -6,3 +6,4 @@ pub mod ByOne
 pub mod LineTaking
 pub mod Keeping
 pub mod Sent
+pub mod Together

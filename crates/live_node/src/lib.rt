@@ -1,5 +1,5 @@
-//! One resource of a plant on a machine of its own: it reads lines, notes and does each of them, and answers it before
-//! the next one is read.
+//! One resource of a plant on a machine of its own: it reads lines, notes and does each of them, and answers those that came
+//! together once their notes are on the disk.
 #![tactic(auto)]
 
 mod answering;
@@ -7,6 +7,7 @@ mod answers;
 mod file_notes;
 mod journal_lines;
 mod line_refusal;
+mod lines_at_hand;
 mod live_lines;
 mod live_stop;
 mod no_notes;
@@ -23,6 +24,7 @@ pub use answering::live;
 pub use file_notes::{FileNotes, JournalFault};
 pub use journal_lines::{note_of_restart, note_of_start};
 pub use line_refusal::LineRefusal;
+pub use lines_at_hand::LinesAtHand;
 pub use live_lines::{TakenLine, take_line};
 pub use live_stop::LiveStop;
 pub use no_notes::NoNotes;

@@ -9,9 +9,17 @@ pub struct NoNotes;
 impl Notes for NoNotes {
     ghost noted = { λ _. None };
 
+    ghost synced = { λ _. None };
+
     fn note(&mut self, _bytes: &[u8]) -> Result<(), NoteFault>
         ensures { result ≡ Ok tt }
     {
         Ok(())
+    }
+
+    fn sync(&mut self) -> Result<(), NoteFault>
+        ensures { result ≡ Ok tt }
+    {
+        self.note(&[])
     }
 }

@@ -19,6 +19,7 @@ ghost use Rattle.live_node.specs.declared.node_line.NodeLine.TheVariants as aske
 ghost use Rattle.live_node.specs.NodeAnswers.{is_told, keeper_gives, own_hello, stray_hello, IsAnswered, HasBegun};
 ghost use Rattle.live_node.specs.declared.node_stop.NodeStop.TheVariants as ends;
 ghost use Rattle.live_node.specs.Stops.{NotesUnanswered, StopsBeginning};
+ghost use Rattle.live_node.specs.Syncing.{Grows, IsIdleOrDone, IsNotedFirst};
 ghost use Rattle.live_node.specs.Steps.Answering.{HasRisenTo, IsAnsweredBy, IsNotKeepers, NotesUndone, NotesUnevaluated, NotesUnrisen, TellsNothing, stop_for};
 ghost use Rattle.live_node.specs.NodeJournal.{line_note, restart_note};
 ghost use Rattle.live_node.specs.NodeSteps.{CanBeHeard};
@@ -32,7 +33,7 @@ use crate::line_refusal::LineRefusal;
 use crate::node_core::NodeCore;
 use crate::node_line::NodeLine;
 use crate::node_stop::NodeStop;
-use crate::notes::Notes;
+use crate::notes::{NoteFault, Notes};
 use crate::partners::takes_from_resource;
 use crate::reading::read_node_line;
 use crate::sends::{push_greetings, push_hello_to, push_message_sends};
@@ -80,23 +81,30 @@ fn kept_opening<K: Keeper>(
     Ok(kept)
 }
 
-/// Keeps what an evaluation left in the retained variables of its task. Of a task without any the keeper isn't asked.
-fn keep_after<K: Keeper>(
+/// Keeps what an evaluation left in the retained variables of its task, once all that is noted is on the disk. Of a task
+/// without any the keeper isn't asked.
+#[tactic(auto, using(crate::proofs::Syncing::same_first))]
+fn keep_after<K: Keeper, N: Notes>(
     alloc: Global,
     keeper: &mut K,
+    notes: &mut N,
     evaluation: &Evaluation,
 ) -> Result<(), NodeStop>
+    ensures noted { N.noted notes.new ≡ N.noted notes.old }
+    ensures stays { Grows (N.synced notes.old) (N.synced notes.new) }
+    ensures first { IsNotedFirst (K.kept_gives keeper.old) (K.kept_gives keeper.new) (N.noted notes.new) (N.synced notes.new) }
     ensures last { K.last keeper.new ≡ K.last keeper.old }
     ensures kept { OnOk result (TellsLeft (K.kept_gives keeper.new) evaluation.now) }
     ensures either { OnErr result (LeavesEither (K.kept_gives keeper.old) (K.kept_gives keeper.new) evaluation.now) }
     ensures others { KeepsOthers (K.kept_gives keeper.old) (K.kept_gives keeper.new) evaluation.now.name.task.task }
     ensures unasked { evaluation.now.code.retained ≡ [] → keeper.new ≡ keeper.old }
-    ensures fault { IfErr result (λ stop. (stop ≡ stop_for keeping.Unwritable) ⊎ (stop ≡ stop_for keeping.Memory)) }
+    ensures fault { IfErr result (λ stop. (stop ≡ stop_for keeping.Unwritable) ⊎ IsNotKeepers stop) }
 {
     let code = evaluation.code();
     if code.retained().is_empty() {
         return Ok(());
     }
+    notes.sync()?;
     let retained = Retained::of(alloc, code, evaluation.after())?;
     keeper.keep(evaluation.name().task.task, code, &retained)?;
     Ok(())
@@ -126,7 +134,17 @@ fn refuse_unraised(fault: KeeperFault, out: &mut String) -> Result<(), NodeStop>
     }
 }
 
-/// Raises the incarnation of a resource, notes the start with what was kept of its tasks, and starts it. `out` is what it writes, behind what is there.
+/// Notes these bytes behind those before, on the disk.
+fn note_on_disk<N: Notes>(notes: &mut N, bytes: &[u8]) -> Result<(), NoteFault>
+    ensures whole { OnOk result (Appends (N.noted notes.old) (N.noted notes.new) bytes.now) }
+    ensures part { OnErr result (SendsPart bytes.now (N.noted notes.old) (N.noted notes.new)) }
+    ensures synced { OnOk result (N.synced notes.new ≡ N.noted notes.new) }
+{
+    notes.note(bytes)?;
+    notes.sync()
+}
+
+/// Raises the incarnation of a resource, notes the start with what was kept of its tasks, on the disk, and starts it. `out` is what it writes, behind what is there.
 fn open<K: Keeper, N: Notes>(
     alloc: Global,
     plant: Arc<Plant>,
@@ -142,13 +160,14 @@ fn open<K: Keeper, N: Notes>(
     ensures keeps { IfOk result (λ s. KeepsCore (K.kept_gives keeper.new) s.core) }
     ensures above { IfOk result (λ s. K.last keeper.old < s.core.incarnation) }
     ensures fresh { IfOk result (λ s. s.lines ≡ 0) }
+    ensures synced { OnOk result (N.synced notes.new ≡ N.noted notes.new) }
     ensures stopped { IfErr result (λ why. StopsBeginning (K.raise_gives keeper.old) (K.kept_gives keeper.old) plant.value resource (K.last keeper.old) why
         (N.noted notes.old) (N.noted notes.new)) }
 {
     let incarnation = keeper.raise()?;
     let opening = kept_opening(alloc, &plant, resource, keeper)?;
     let note = note_of_start(alloc, &plant, resource, incarnation, opening.as_slice())?;
-    notes.note(note.as_bytes())?;
+    note_on_disk(notes, note.as_bytes())?;
     let state = NodeCore::start(alloc, plant, resource, opening.as_slice(), incarnation)?;
     push_greetings(alloc, out, state.plant(), resource, incarnation)?;
     push_risen(out, "START", state.plant(), resource, incarnation)?;
@@ -156,7 +175,7 @@ fn open<K: Keeper, N: Notes>(
 }
 
 impl<K: Keeper, N: Notes> Node<K, N> {
-    /// Raises the incarnation of a resource of the plant, notes the start with what was kept of its tasks, and starts it. `out` is what it writes, behind what is there: its hellos, and `START R i`. After a stop the notes come back, with nothing or a beginning of the start's note; a keeper that isn't raised or tells nothing stops it before that.
+    /// Raises the incarnation of a resource of the plant, notes the start with what was kept of its tasks, on the disk, and starts it. `out` is what it writes, behind what is there: its hellos, and `START R i`. After a stop the notes come back, with nothing or a beginning of the start's note; a keeper that isn't raised or tells nothing stops it before that.
     pub fn begin(
         alloc: Global,
         plant: Arc<Plant>,
@@ -172,6 +191,7 @@ impl<K: Keeper, N: Notes> Node<K, N> {
         ensures keeps { IfOk result (λ node. KeepsCore (K.kept_gives node.keeper) node.state.core) }
         ensures above { IfOk result (λ node. K.last keeper < node.state.core.incarnation) }
         ensures fresh { IfOk result (λ node. node.state.lines ≡ 0) }
+        ensures synced { IfOk result (λ node. N.synced node.notes ≡ N.noted node.notes) }
         ensures stopped { IfErr result (λ e. StopsBeginning (K.raise_gives keeper) (K.kept_gives keeper) plant.value resource (K.last keeper) e.1
             (N.noted notes) (N.noted e.0)) }
     {
@@ -199,6 +219,7 @@ impl<K: Keeper, N: Notes> Node<K, N> {
         ensures noted { OnOk result (Appends (N.noted self.old.notes) (N.noted self.new.notes) (line_note line.now)) }
         ensures part { OnErr result (SendsPart (line_note line.now) (N.noted self.old.notes) (N.noted self.new.notes)) }
         ensures stopped { IfErr result IsNotKeepers }
+        ensures stays { Grows (N.synced self.old.notes) (N.synced self.new.notes) }
         ensures state { self.new.state ≡ self.old.state }
         ensures keeper { self.new.keeper ≡ self.old.keeper }
     {
@@ -208,7 +229,7 @@ impl<K: Keeper, N: Notes> Node<K, N> {
     }
 
     /// Answers a line `EVAL`.
-    #[tactic(auto, using(crate::proofs::Telling::refused_evaluate))]
+    #[tactic(auto, using(crate::proofs::Telling::refused_evaluate, crate::proofs::Syncing::same_first))]
     fn answer_evaluate(
         &mut self,
         line: &[u8],
@@ -221,6 +242,9 @@ impl<K: Keeper, N: Notes> Node<K, N> {
         ensures answered { OnOk result (IsAnsweredBy (keeper_gives K.raise_gives self.old.keeper) self.old.state self.new.state line.now (Some (asked.Evaluate task dt inputs.now))
             (N.noted self.old.notes) (N.noted self.new.notes) (string_bytes out.old) (string_bytes out.new)) }
         ensures stopped { IfErr result (λ why. NotesUnevaluated self.old.state.core task line.now why (N.noted self.old.notes) (N.noted self.new.notes)) }
+        ensures stays { Grows (N.synced self.old.notes) (N.synced self.new.notes) }
+        ensures idle { OnOk result (IsIdleOrDone self.old.notes self.new.notes self.old.state.lines self.new.state.lines) }
+        ensures first { IsNotedFirst (K.kept_gives self.old.keeper) (K.kept_gives self.new.keeper) (N.noted self.new.notes) (N.synced self.new.notes) }
         ensures kept { OnOk result (K.last self.new.keeper ≡ K.last self.old.keeper) }
         ensures keeps { OnOk result (KeepsCore (K.kept_gives self.old.keeper) self.old.state.core → KeepsCore (K.kept_gives self.new.keeper) self.new.state.core) }
         ensures rest { OnErr result (KeepsCore (K.kept_gives self.old.keeper) self.old.state.core → KeepsAllButOne (K.kept_gives self.new.keeper) self.new.state.core) }
@@ -233,7 +257,12 @@ impl<K: Keeper, N: Notes> Node<K, N> {
         let Ok(frame) = self.state.evaluate(self.alloc, task.task, dt, inputs) else {
             return Err(NodeStop::Memory);
         };
-        keep_after(self.alloc, &mut self.keeper, frame.evaluation())?;
+        keep_after(
+            self.alloc,
+            &mut self.keeper,
+            &mut self.notes,
+            frame.evaluation(),
+        )?;
         let plant = self.state.plant();
         push_message_sends(self.alloc, out, plant, frame.message())?;
         push_evaluation(out, plant, self.state.made(), frame.evaluation())?;
@@ -254,6 +283,8 @@ impl<K: Keeper, N: Notes> Node<K, N> {
         ensures answered { OnOk result (IsAnsweredBy (keeper_gives K.raise_gives self.old.keeper) self.old.state self.new.state line.now (Some (asked.Take message))
             (N.noted self.old.notes) (N.noted self.new.notes) (string_bytes out.old) (string_bytes out.new)) }
         ensures stopped { IfErr result (λ why. NotesUndone self.old.state (asked.Take message) line.now why (N.noted self.old.notes) (N.noted self.new.notes)) }
+        ensures stays { Grows (N.synced self.old.notes) (N.synced self.new.notes) }
+        ensures idle { OnOk result (IsIdleOrDone self.old.notes self.new.notes self.old.state.lines self.new.state.lines) }
         ensures kept { self.new.keeper ≡ self.old.keeper }
         ensures keeps { KeepsCore (K.kept_gives self.old.keeper) self.old.state.core → KeepsCore (K.kept_gives self.new.keeper) self.new.state.core }
     {
@@ -291,6 +322,8 @@ impl<K: Keeper, N: Notes> Node<K, N> {
         ensures answered { OnOk result (IsAnsweredBy (keeper_gives K.raise_gives self.old.keeper) self.old.state self.new.state line.now (Some (asked.Take message))
             (N.noted self.old.notes) (N.noted self.new.notes) (string_bytes out.old) (string_bytes out.new)) }
         ensures stopped { IfErr result (λ why. NotesUndone self.old.state (asked.Take message) line.now why (N.noted self.old.notes) (N.noted self.new.notes)) }
+        ensures stays { Grows (N.synced self.old.notes) (N.synced self.new.notes) }
+        ensures idle { OnOk result (IsIdleOrDone self.old.notes self.new.notes self.old.state.lines self.new.state.lines) }
         ensures kept { self.new.keeper ≡ self.old.keeper }
         ensures keeps { KeepsCore (K.kept_gives self.old.keeper) self.old.state.core → KeepsCore (K.kept_gives self.new.keeper) self.new.state.core }
     {
@@ -344,6 +377,8 @@ impl<K: Keeper, N: Notes> Node<K, N> {
         ensures answered { OnOk result (IsAnsweredBy (keeper_gives K.raise_gives self.old.keeper) self.old.state self.new.state line.now (Some (asked.Hello of incarnation))
             (N.noted self.old.notes) (N.noted self.new.notes) (string_bytes out.old) (string_bytes out.new)) }
         ensures stopped { IfErr result (λ why. NotesUndone self.old.state (asked.Hello of incarnation) line.now why (N.noted self.old.notes) (N.noted self.new.notes)) }
+        ensures stays { Grows (N.synced self.old.notes) (N.synced self.new.notes) }
+        ensures idle { OnOk result (IsIdleOrDone self.old.notes self.new.notes self.old.state.lines self.new.state.lines) }
         ensures kept { self.new.keeper ≡ self.old.keeper }
         ensures keeps { KeepsCore (K.kept_gives self.old.keeper) self.old.state.core → KeepsCore (K.kept_gives self.new.keeper) self.new.state.core }
     {
@@ -368,6 +403,8 @@ impl<K: Keeper, N: Notes> Node<K, N> {
         ensures answered { OnOk result (IsAnsweredBy (keeper_gives K.raise_gives self.old.keeper) self.old.state self.new.state line.now (Some (asked.Hello of incarnation))
             (N.noted self.old.notes) (N.noted self.new.notes) (string_bytes out.old) (string_bytes out.new)) }
         ensures stopped { IfErr result (λ why. NotesUndone self.old.state (asked.Hello of incarnation) line.now why (N.noted self.old.notes) (N.noted self.new.notes)) }
+        ensures stays { Grows (N.synced self.old.notes) (N.synced self.new.notes) }
+        ensures idle { OnOk result (IsIdleOrDone self.old.notes self.new.notes self.old.state.lines self.new.state.lines) }
         ensures kept { self.new.keeper ≡ self.old.keeper }
         ensures keeps { KeepsCore (K.kept_gives self.old.keeper) self.old.state.core → KeepsCore (K.kept_gives self.new.keeper) self.new.state.core }
     {
@@ -383,7 +420,7 @@ impl<K: Keeper, N: Notes> Node<K, N> {
     }
 
     /// Answers a line `RESTART`.
-    #[tactic(auto, using(crate::proofs::Telling::refused_place, crate::proofs::Telling::risen_restart))]
+    #[tactic(auto, using(crate::proofs::Telling::refused_place, crate::proofs::Telling::risen_restart, crate::proofs::Syncing::same_first))]
     fn answer_restart(
         &mut self,
         line: &[u8],
@@ -395,6 +432,9 @@ impl<K: Keeper, N: Notes> Node<K, N> {
         ensures answered { OnOk result (IsAnsweredBy (keeper_gives K.raise_gives self.old.keeper) self.old.state self.new.state line.now (Some (asked.Restart resource))
             (N.noted self.old.notes) (N.noted self.new.notes) (string_bytes out.old) (string_bytes out.new)) }
         ensures stopped { IfErr result (λ why. NotesUnrisen (keeper_gives K.raise_gives self.old.keeper) self.old.state resource why (N.noted self.old.notes) (N.noted self.new.notes)) }
+        ensures stays { Grows (N.synced self.old.notes) (N.synced self.new.notes) }
+        ensures idle { OnOk result (IsIdleOrDone self.old.notes self.new.notes self.old.state.lines self.new.state.lines) }
+        ensures first { IsNotedFirst (K.kept_gives self.old.keeper) (K.kept_gives self.new.keeper) (N.noted self.new.notes) (N.synced self.new.notes) }
         ensures kept { OnOk result (K.last self.new.keeper ≡ self.new.state.core.incarnation) }
         ensures keeps { KeepsCore (K.kept_gives self.old.keeper) self.old.state.core → KeepsCore (K.kept_gives self.new.keeper) self.new.state.core }
     {
@@ -418,6 +458,8 @@ impl<K: Keeper, N: Notes> Node<K, N> {
             (SendsPart (restart_note self.old.state.core.plant self.old.state.core.resource incarnation)
             (N.noted self.old.notes) (N.noted self.new.notes)) }
         ensures stopped { IfErr result IsNotKeepers }
+        ensures stays { Grows (N.synced self.old.notes) (N.synced self.new.notes) }
+        ensures idle { OnOk result (IsIdleOrDone self.old.notes self.new.notes self.old.state.lines self.new.state.lines) }
         ensures keeper { self.new.keeper ≡ self.old.keeper }
     {
         let resource = self.state.resource();
@@ -430,14 +472,17 @@ impl<K: Keeper, N: Notes> Node<K, N> {
         Ok(())
     }
 
-    /// Answers a line, without its line feed: notes it, does it, keeps what it left, and writes its answer behind what is there. A line that is refused, a message that isn't taken, a hello that is no news, a blank line and a comment change nothing, and aren't noted. After a stop there is no answer, and the node is at its end: a line `EVAL` is noted whole, where the keeper can't keep what it left, else no more than a beginning of the line's note.
-    #[tactic(auto, using(crate::proofs::Telling::idle_answer, crate::proofs::Telling::line_answered))]
-    pub fn answer(&mut self, line: &[u8], out: &mut String) -> Result<(), NodeStop>
+    /// Does a line, without its line feed: notes it, does it, keeps what it left, and writes its answer behind what is there, which may be told once its note is on the disk. A line that is refused, a message that isn't taken, a hello that is no news, a blank line and a comment change nothing, and aren't noted. After a stop there is no answer, and the node is at its end: a line `EVAL` is noted whole, on the disk, where the keeper can't keep what it left, else no more than a beginning of the line's note.
+    #[tactic(auto, using(crate::proofs::Telling::idle_answer, crate::proofs::Telling::line_answered, crate::proofs::Syncing::same_first))]
+    pub fn do_line(&mut self, line: &[u8], out: &mut String) -> Result<(), NodeStop>
         requires few { self.old.state.lines < 18446744073709551615 }
         requires kept { K.last self.old.keeper ≡ self.old.state.core.incarnation }
         ensures answered { OnOk result (IsAnswered (keeper_gives K.raise_gives self.old.keeper) self.old.state self.new.state line.now
             (N.noted self.old.notes) (N.noted self.new.notes) (string_bytes out.old) (string_bytes out.new)) }
         ensures stopped { IfErr result (λ why. NotesUnanswered (keeper_gives K.raise_gives self.old.keeper) self.old.state line.now why (N.noted self.old.notes) (N.noted self.new.notes)) }
+        ensures stays { Grows (N.synced self.old.notes) (N.synced self.new.notes) }
+        ensures idle { OnOk result (IsIdleOrDone self.old.notes self.new.notes self.old.state.lines self.new.state.lines) }
+        ensures first { IsNotedFirst (K.kept_gives self.old.keeper) (K.kept_gives self.new.keeper) (N.noted self.new.notes) (N.synced self.new.notes) }
         ensures kept { OnOk result (K.last self.new.keeper ≡ self.new.state.core.incarnation) }
         ensures keeps { OnOk result (KeepsCore (K.kept_gives self.old.keeper) self.old.state.core → KeepsCore (K.kept_gives self.new.keeper) self.new.state.core) }
         ensures rest { OnErr result (KeepsCore (K.kept_gives self.old.keeper) self.old.state.core → KeepsAllButOne (K.kept_gives self.new.keeper) self.new.state.core) }
@@ -457,5 +502,41 @@ impl<K: Keeper, N: Notes> Node<K, N> {
             }
             Some(NodeLine::Restart { resource }) => self.answer_restart(line, resource, out),
         }
+    }
+
+    /// Brings all that is noted to the disk.
+    pub fn sync(&mut self) -> Result<(), NodeStop>
+        ensures noted { N.noted self.new.notes ≡ N.noted self.old.notes }
+        ensures synced { OnOk result (N.synced self.new.notes ≡ N.noted self.new.notes) }
+        ensures stays { Grows (N.synced self.old.notes) (N.synced self.new.notes) }
+        ensures stopped { IfErr result (λ why. why ≡ ends.Note) }
+        ensures state { self.new.state ≡ self.old.state }
+        ensures keeper { self.new.keeper ≡ self.old.keeper }
+    {
+        self.notes.sync()?;
+        Ok(())
+    }
+
+    /// Answers a line as [`Node::do_line`] does it; all that is noted is on the disk then, if it was before.
+    #[tactic(auto, using(crate::proofs::Noted::idle_synced))]
+    pub fn answer(&mut self, line: &[u8], out: &mut String) -> Result<(), NodeStop>
+        requires few { self.old.state.lines < 18446744073709551615 }
+        requires kept { K.last self.old.keeper ≡ self.old.state.core.incarnation }
+        ensures answered { OnOk result (IsAnswered (keeper_gives K.raise_gives self.old.keeper) self.old.state self.new.state line.now
+            (N.noted self.old.notes) (N.noted self.new.notes) (string_bytes out.old) (string_bytes out.new)) }
+        ensures synced { OnOk result (N.synced self.old.notes ≡ N.noted self.old.notes → N.synced self.new.notes ≡ N.noted self.new.notes) }
+        ensures stopped { IfErr result (λ why. NotesUnanswered (keeper_gives K.raise_gives self.old.keeper) self.old.state line.now why (N.noted self.old.notes) (N.noted self.new.notes)) }
+        ensures stays { Grows (N.synced self.old.notes) (N.synced self.new.notes) }
+        ensures first { IsNotedFirst (K.kept_gives self.old.keeper) (K.kept_gives self.new.keeper) (N.noted self.new.notes) (N.synced self.new.notes) }
+        ensures kept { OnOk result (K.last self.new.keeper ≡ self.new.state.core.incarnation) }
+        ensures keeps { OnOk result (KeepsCore (K.kept_gives self.old.keeper) self.old.state.core → KeepsCore (K.kept_gives self.new.keeper) self.new.state.core) }
+        ensures rest { OnErr result (KeepsCore (K.kept_gives self.old.keeper) self.old.state.core → KeepsAllButOne (K.kept_gives self.new.keeper) self.new.state.core) }
+    {
+        let before = self.state.lines();
+        self.do_line(line, out)?;
+        if self.state.lines() == before {
+            return Ok(());
+        }
+        self.sync()
     }
 }

@@ -109,6 +109,13 @@ impl NodeCore {
         self.core.incarnation()
     }
 
+    /// How many lines were done since the start.
+    pub fn lines(&self) -> u64
+        ensures { result ≡ self.now.lines }
+    {
+        self.lines
+    }
+
     /// How many evaluations were made since the start.
     pub fn made(&self) -> u64
         ensures { result ≡ self.now.made }

@@ -9,7 +9,7 @@ pub enum NodeStop {
     /// Its keeper didn't raise the incarnation at the start, or didn't tell or keep retained variables.
     #[error("{0}")]
     Keeper(KeeperFault),
-    /// What it was to do isn't noted.
+    /// What it was to do isn't noted, or not on the disk.
     #[error("the journal can't be written")]
     Note,
     /// There was no memory left.

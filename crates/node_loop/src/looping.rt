@@ -82,8 +82,13 @@ impl Took {
     }
 }
 
-/// Writes an answer, and hands it on.
-fn hand_on<W: Write>(answer: &str, out: &mut W) -> Result<(), LoopStop>
+/// Writes an answer, and hands it on: only where all that is noted is on the disk.
+fn hand_on<K: Keeper, N: Notes, W: Write>(
+    _node: &FieldNode<K, N>,
+    answer: &str,
+    out: &mut W,
+) -> Result<(), LoopStop>
+    requires synced { N.synced _node.now.node.notes ≡ N.noted _node.now.node.notes }
     ensures whole { OnOk result (Appends (W.contents out.old) (W.contents out.new) answer.now) }
     ensures part { IfErr result (IsUnwritten answer.now (W.contents out.old) (W.contents out.new)) }
 {
@@ -106,6 +111,7 @@ fn push_evaluation<K: Keeper, N: Notes>(
     ensures made { OnOk result (MadeOf (a_keeper_gives K.last K.raise_gives) node.old node.new (Reads reading)
         (N.noted node.old.node.notes) (N.noted node.new.node.notes) (string_bytes answer.new)) }
     ensures stopped { IfErr result (NotMadeOf (a_keeper_gives K.last K.raise_gives) node.old (Reads reading) (N.noted node.old.node.notes) (N.noted node.new.node.notes)) }
+    ensures synced { OnOk result (N.synced node.old.node.notes ≡ N.noted node.old.node.notes → N.synced node.new.node.notes ≡ N.noted node.new.node.notes) }
     ensures kept { OnOk result (K.last node.new.node.keeper ≡ node.new.node.state.core.incarnation) }
     ensures keeps { OnOk result (KeepsCore (K.kept_gives node.old.node.keeper) node.old.node.state.core → KeepsCore (K.kept_gives node.new.node.keeper) node.new.node.state.core) }
     ensures rest { OnErr result (KeepsCore (K.kept_gives node.old.node.keeper) node.old.node.state.core → KeepsAllButOne (K.kept_gives node.new.node.keeper) node.new.node.state.core) }
@@ -125,12 +131,14 @@ fn look<K: Keeper, N: Notes, S: TurnSource, W: Write>(
 ) -> Result<Looked, LoopStop>
     requires few { node.old.node.state.lines < 18446744073709551615 }
     requires kept { K.last node.old.node.keeper ≡ node.old.node.state.core.incarnation }
+    requires synced { N.synced node.old.node.notes ≡ N.noted node.old.node.notes }
     ensures looked { IfOk result (λ looked. HasTurned (a_keeper_gives K.last K.raise_gives) ending node.old node.new
         (S.given source.old) (S.given source.new) (N.noted node.old.node.notes) (N.noted node.new.node.notes)
         (W.contents out.old) (W.contents out.new) (not (is_over looked))) }
     ensures stopped { IfErr result (Stops (a_keeper_gives K.last K.raise_gives) ending node.old
         (S.given source.old) (S.given source.new) (N.noted node.old.node.notes) (N.noted node.new.node.notes)
         (W.contents out.old) (W.contents out.new)) }
+    ensures synced { OnOk result (N.synced node.new.node.notes ≡ N.noted node.new.node.notes) }
     ensures kept { OnOk result (K.last node.new.node.keeper ≡ node.new.node.state.core.incarnation) }
     ensures keeps { OnOk result (KeepsCore (K.kept_gives node.old.node.keeper) node.old.node.state.core → KeepsCore (K.kept_gives node.new.node.keeper) node.new.node.state.core) }
     ensures rest { OnErr result (KeepsCore (K.kept_gives node.old.node.keeper) node.old.node.state.core → KeepsAllButOne (K.kept_gives node.new.node.keeper) node.new.node.state.core) }
@@ -141,7 +149,7 @@ fn look<K: Keeper, N: Notes, S: TurnSource, W: Write>(
         return Ok(Looked::Over);
     }
     let evaluated = push_evaluation(node, reading, answer)?;
-    hand_on(answer.as_str(), out)?;
+    hand_on(node, answer.as_str(), out)?;
     Ok(if evaluated {
         Looked::Evaluated
     } else {
@@ -161,6 +169,7 @@ fn push_answer<K: Keeper, N: Notes>(
     ensures made { OnOk result (MadeOf (a_keeper_gives K.last K.raise_gives) node.old node.new (Takes origin told.now)
         (N.noted node.old.node.notes) (N.noted node.new.node.notes) (string_bytes answer.new)) }
     ensures stopped { IfErr result (NotMadeOf (a_keeper_gives K.last K.raise_gives) node.old (Takes origin told.now) (N.noted node.old.node.notes) (N.noted node.new.node.notes)) }
+    ensures synced { OnOk result (N.synced node.old.node.notes ≡ N.noted node.old.node.notes → N.synced node.new.node.notes ≡ N.noted node.new.node.notes) }
     ensures kept { OnOk result (K.last node.new.node.keeper ≡ node.new.node.state.core.incarnation) }
     ensures keeps { OnOk result (KeepsCore (K.kept_gives node.old.node.keeper) node.old.node.state.core → KeepsCore (K.kept_gives node.new.node.keeper) node.new.node.state.core) }
     ensures rest { OnErr result (KeepsCore (K.kept_gives node.old.node.keeper) node.old.node.state.core → KeepsAllButOne (K.kept_gives node.new.node.keeper) node.new.node.state.core) }
@@ -198,12 +207,14 @@ fn take_one<K: Keeper, N: Notes, S: TurnSource, W: Write>(
 ) -> Result<Took, LoopStop>
     requires few { node.old.node.state.lines < 18446744073709551615 }
     requires kept { K.last node.old.node.keeper ≡ node.old.node.state.core.incarnation }
+    requires synced { N.synced node.old.node.notes ≡ N.noted node.old.node.notes }
     ensures taken { IfOk result (λ took. Follows (a_keeper_gives K.last K.raise_gives) ending node.old node.new (goes_on took)
         (S.given source.old) (S.given source.new) (N.noted node.old.node.notes) (N.noted node.new.node.notes)
         (W.contents out.old) (W.contents out.new)) }
     ensures stopped { IfErr result (Stops (a_keeper_gives K.last K.raise_gives) ending node.old
         (S.given source.old) (S.given source.new) (N.noted node.old.node.notes) (N.noted node.new.node.notes)
         (W.contents out.old) (W.contents out.new)) }
+    ensures synced { OnOk result (N.synced node.new.node.notes ≡ N.noted node.new.node.notes) }
     ensures kept { OnOk result (K.last node.new.node.keeper ≡ node.new.node.state.core.incarnation) }
     ensures keeps { OnOk result (KeepsCore (K.kept_gives node.old.node.keeper) node.old.node.state.core → KeepsCore (K.kept_gives node.new.node.keeper) node.new.node.state.core) }
     ensures rest { OnErr result (KeepsCore (K.kept_gives node.old.node.keeper) node.old.node.state.core → KeepsAllButOne (K.kept_gives node.new.node.keeper) node.new.node.state.core) }
@@ -213,7 +224,7 @@ fn take_one<K: Keeper, N: Notes, S: TurnSource, W: Write>(
         return Ok(Took::Nothing);
     };
     push_answer(node, origin, &told, answer)?;
-    hand_on(answer.as_str(), out)?;
+    hand_on(node, answer.as_str(), out)?;
     Ok(taken_of(ending, origin, &told))
 }
 
@@ -227,12 +238,14 @@ fn take_both<K: Keeper, N: Notes, S: TurnSource, W: Write>(
 ) -> Result<Took, LoopStop>
     requires few { node.old.node.state.lines < 18446744073709551614 }
     requires kept { K.last node.old.node.keeper ≡ node.old.node.state.core.incarnation }
+    requires synced { N.synced node.old.node.notes ≡ N.noted node.old.node.notes }
     ensures taken { IfOk result (λ took. Follows (a_keeper_gives K.last K.raise_gives) ending node.old node.new (goes_on took)
         (S.given source.old) (S.given source.new) (N.noted node.old.node.notes) (N.noted node.new.node.notes)
         (W.contents out.old) (W.contents out.new)) }
     ensures stopped { IfErr result (Stops (a_keeper_gives K.last K.raise_gives) ending node.old
         (S.given source.old) (S.given source.new) (N.noted node.old.node.notes) (N.noted node.new.node.notes)
         (W.contents out.old) (W.contents out.new)) }
+    ensures synced { OnOk result (N.synced node.new.node.notes ≡ N.noted node.new.node.notes) }
     ensures kept { OnOk result (K.last node.new.node.keeper ≡ node.new.node.state.core.incarnation) }
     ensures keeps { OnOk result (KeepsCore (K.kept_gives node.old.node.keeper) node.old.node.state.core → KeepsCore (K.kept_gives node.new.node.keeper) node.new.node.state.core) }
     ensures rest { OnErr result (KeepsCore (K.kept_gives node.old.node.keeper) node.old.node.state.core → KeepsAllButOne (K.kept_gives node.new.node.keeper) node.new.node.state.core) }
@@ -276,12 +289,14 @@ fn turn<K: Keeper, N: Notes, S: TurnSource, W: Write>(
 ) -> Result<bool, LoopStop>
     requires few { node.old.node.state.lines < 18446744073709551613 }
     requires kept { K.last node.old.node.keeper ≡ node.old.node.state.core.incarnation }
+    requires synced { N.synced node.old.node.notes ≡ N.noted node.old.node.notes }
     ensures turned { IfOk result (HasTurned (a_keeper_gives K.last K.raise_gives) ending node.old node.new
         (S.given source.old) (S.given source.new) (N.noted node.old.node.notes) (N.noted node.new.node.notes)
         (W.contents out.old) (W.contents out.new)) }
     ensures stopped { IfErr result (Stops (a_keeper_gives K.last K.raise_gives) ending node.old
         (S.given source.old) (S.given source.new) (N.noted node.old.node.notes) (N.noted node.new.node.notes)
         (W.contents out.old) (W.contents out.new)) }
+    ensures synced { OnOk result (N.synced node.new.node.notes ≡ N.noted node.new.node.notes) }
     ensures kept { OnOk result (K.last node.new.node.keeper ≡ node.new.node.state.core.incarnation) }
     ensures keeps { OnOk result (KeepsCore (K.kept_gives node.old.node.keeper) node.old.node.state.core → KeepsCore (K.kept_gives node.new.node.keeper) node.new.node.state.core) }
     ensures rest { OnErr result (KeepsCore (K.kept_gives node.old.node.keeper) node.old.node.state.core → KeepsAllButOne (K.kept_gives node.new.node.keeper) node.new.node.state.core) }
@@ -312,6 +327,7 @@ pub fn run_loop<K: Keeper, N: Notes, S: TurnSource, W: Write>(
 ) -> Result<(), LoopStop>
     requires fresh { node.old.node.state.lines ≡ 0 }
     requires kept { K.last node.old.node.keeper ≡ node.old.node.state.core.incarnation }
+    requires synced { N.synced node.old.node.notes ≡ N.noted node.old.node.notes }
     ensures ok { OnOk result (RunsLoop (a_keeper_gives K.last K.raise_gives) (setting_of node.old) ending begun.now
         (condition_of node.old (N.noted node.old.node.notes)) (condition_of node.new (N.noted node.new.node.notes))
         (S.given source.old) (S.given source.new) (W.contents out.old) (W.contents out.new)) }
@@ -319,12 +335,13 @@ pub fn run_loop<K: Keeper, N: Notes, S: TurnSource, W: Write>(
     ensures stopped { IfErr result (StopsLoop (a_keeper_gives K.last K.raise_gives) (setting_of node.old) ending begun.now
         (condition_of node.old (N.noted node.old.node.notes)) (S.given source.old) (S.given source.new)
         (N.noted node.new.node.notes) (W.contents out.old) (W.contents out.new)) }
+    ensures synced { OnOk result (N.synced node.new.node.notes ≡ N.noted node.new.node.notes) }
     ensures kept { OnOk result (K.last node.new.node.keeper ≡ node.new.node.state.core.incarnation) }
     ensures keeps { OnOk result (KeepsCore (K.kept_gives node.old.node.keeper) node.old.node.state.core → KeepsCore (K.kept_gives node.new.node.keeper) node.new.node.state.core) }
     ensures rest { OnErr result (KeepsCore (K.kept_gives node.old.node.keeper) node.old.node.state.core → KeepsAllButOne (K.kept_gives node.new.node.keeper) node.new.node.state.core) }
 {
     let mut answer = String::new(alloc);
-    hand_on(begun, out)?;
+    hand_on(node, begun, out)?;
     source.start()?;
     for _ in 0..TURNS {
         if !turn(node, ending, &mut answer, source, out)? {

@@ -39,6 +39,7 @@ fn begin<K: Keeper, N: Notes>(
         (condition_of begun.0 (N.noted begun.0.node.notes)) (N.noted notes) (string_bytes begun.1)) }
     ensures setting { IfOk result (λ begun. setting_of begun.0 ≡ setting plant.value resource alone) }
     ensures fresh { IfOk result (λ begun. begun.0.node.state.lines ≡ 0) }
+    ensures synced { IfOk result (λ begun. N.synced begun.0.node.notes ≡ N.noted begun.0.node.notes) }
     ensures kept { IfOk result (λ begun. K.last begun.0.node.keeper ≡ begun.0.node.state.core.incarnation) }
     ensures keeps { IfOk result (λ begun. KeepsCore (K.kept_gives begun.0.node.keeper) begun.0.node.state.core) }
     ensures stopped { IfErr result (IsUnbegun K.last K.raise_gives K.kept_gives keeper plant.value resource (N.noted notes)) }
@@ -69,6 +70,7 @@ pub fn run_turns<K: Keeper, N: Notes, S: TurnSource, W: Write>(
     ensures ok { IfOk result (λ node. RunsAlone K.last K.raise_gives K.kept_gives keeper plant.value resource alone
         (condition_of node (N.noted node.node.notes)) (S.given source.old) (S.given source.new)
         (N.noted notes) (W.contents out.old) (W.contents out.new)) }
+    ensures synced { IfOk result (λ node. N.synced node.node.notes ≡ N.noted node.node.notes) }
     ensures keeps { IfOk result (λ node. KeepsCore (K.kept_gives node.node.keeper) node.node.state.core) }
     ensures stopped { IfErr result (StopsAlone K.last K.raise_gives K.kept_gives keeper plant.value resource alone
         (S.given source.old) (S.given source.new) (N.noted notes) (W.contents out.old) (W.contents out.new)) }

@@ -35,18 +35,18 @@ pub record HasNotBegun {K : Type 0} (last : K → ℕ) (raises : K → Result �
 
 -- a node of this resource began, which it noted, and stopped then
 pub record HasStopped {K : Type 0} (last : K → ℕ) (raises : K → Result ℕ KeeperFault → Type 0) (tells : K → Telling)
-    (keeper : K) (plant : PlantValue) (resource : ℕ) (given left noted_old noted_new from to : Option (List ℕ))
+    (keeper : K) (plant : PlantValue) (resource : ℕ) (given left noted_old noted_new synced from to : Option (List ℕ))
     (stop : LiveStop) : Type 0 where
   pub first : NodeValue
   pub begun : List ℕ
   pub noted : Option (List ℕ)
   pub begins : HasBegun (raises keeper) (tells keeper) plant resource first noted_old noted [] begun
-  pub stops : StopsNode (a_keeper_gives last raises) first begun given left noted noted_new from to stop
+  pub stops : StopsNode (a_keeper_gives last raises) first begun given left noted noted_new synced from to stop
 
--- why a node isn't run to the end of its lines, and what was read, noted and written before
+-- why a node isn't run to the end of its lines, and what was read, noted and written before; what it noted is on the disk so far
 abbrev pub StopsRunning : {K : Type 0} → (K → ℕ) → (K → Result ℕ KeeperFault → Type 0) → (K → Telling) → K → PlantValue → ℕ
-    → Option (List ℕ) → Option (List ℕ) → Option (List ℕ) → Option (List ℕ) → Option (List ℕ) → Option (List ℕ) → LiveStop
-    → Type 0
-StopsRunning last raises tells keeper plant resource given left noted_old noted_new from to stop =
+    → Option (List ℕ) → Option (List ℕ) → Option (List ℕ) → Option (List ℕ) → Option (List ℕ) → Option (List ℕ)
+    → Option (List ℕ) → LiveStop → Type 0
+StopsRunning last raises tells keeper plant resource given left noted_old noted_new synced from to stop =
     HasNotBegun last raises tells keeper plant resource given left noted_old noted_new from to stop
-    ⊎ HasStopped last raises tells keeper plant resource given left noted_old noted_new from to stop
+    ⊎ HasStopped last raises tells keeper plant resource given left noted_old noted_new synced from to stop

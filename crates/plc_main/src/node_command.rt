@@ -13,7 +13,9 @@ use crate::running_alone::{Inputs, is_alone, run_alone};
 use crate::{keeper_in, print_lock_fault, print_no_folder, print_resource_faults};
 use console::{FAILED, NodeRequest, PreparedNode, prepare_node};
 use keepers::{Keeper, MemoryKeeper, ResourceLock};
-use live_node::{FileNotes, JournalFault, LiveStop, NoNotes, Node, NodeStop, Notes, live};
+use live_node::{
+    FileNotes, JournalFault, LinesAtHand, LiveStop, NoNotes, Node, NodeStop, Notes, live,
+};
 use node_loop::{LoopStop, NoClock, ReaderEnds};
 use std::alloc::{AllocError, Global};
 use std::io::{BufReader, Read, Write};
@@ -61,7 +63,7 @@ impl From<LiveStop> for NodeFault {
 
 /// Writes what a node that begun writes at its start, and answers the lines of a reader, to its end; it answers with the
 /// node as it is then, or with its notes and why it stopped.
-fn run_begun<K: Keeper, N: Notes, I: Read, W: Write>(
+fn run_begun<K: Keeper, N: Notes, I: Read + LinesAtHand, W: Write>(
     alloc: Global,
     node: Node<K, N>,
     begun: &str,
@@ -71,13 +73,15 @@ fn run_begun<K: Keeper, N: Notes, I: Read, W: Write>(
     requires fresh { node.state.lines ≡ 0 }
     requires kept { K.last node.keeper ≡ node.state.core.incarnation }
     requires keeps { KeepsCore (K.kept_gives node.keeper) node.state.core }
+    requires synced { N.synced node.notes ≡ N.noted node.notes }
     ensures ok { IfOk result (λ last. WritesNode (a_keeper_gives K.last K.raise_gives) node.state last.state begun.now
         (I.remaining input.old) (I.remaining input.new) (N.noted node.notes) (N.noted last.notes)
         (W.contents writer.old) (W.contents writer.new)) }
     ensures kept { IfOk result (λ last. K.last last.keeper ≡ last.state.core.incarnation) }
     ensures keeps { IfOk result (λ last. KeepsCore (K.kept_gives last.keeper) last.state.core) }
+    ensures synced { IfOk result (λ last. N.synced last.notes ≡ N.noted last.notes) }
     ensures stopped { IfErr result (λ e. StopsNode (a_keeper_gives K.last K.raise_gives) node.state begun.now
-        (I.remaining input.old) (I.remaining input.new) (N.noted node.notes) (N.noted e.0)
+        (I.remaining input.old) (I.remaining input.new) (N.noted node.notes) (N.noted e.0) (N.synced e.0)
         (W.contents writer.old) (W.contents writer.new) e.1) }
 {
     let mut node = node;
@@ -89,9 +93,9 @@ fn run_begun<K: Keeper, N: Notes, I: Read, W: Write>(
 
 /// Starts a node, and answers the lines of a reader, to its end; it answers with the node as it is then.
 ///
-/// Before a stop all lines but the one that was read last are answered. After `Node` nothing is written of the answer to
-/// that line, or of what a node writes that doesn't start. The notes come back then.
-fn run_node<K: Keeper, N: Notes, I: Read, W: Write>(
+/// Before a stop all lines are answered but the one that was read last, and but those that came together with it, where they
+/// can't be. Nothing is written of what a node writes that doesn't start. The notes come back then.
+fn run_node<K: Keeper, N: Notes, I: Read + LinesAtHand, W: Write>(
     alloc: Global,
     prepared: PreparedNode,
     keeper: K,
@@ -105,8 +109,9 @@ fn run_node<K: Keeper, N: Notes, I: Read, W: Write>(
         (W.contents writer.old) (W.contents writer.new)) }
     ensures kept { IfOk result (λ node. K.last node.keeper ≡ node.state.core.incarnation) }
     ensures keeps { IfOk result (λ node. KeepsCore (K.kept_gives node.keeper) node.state.core) }
+    ensures synced { IfOk result (λ node. N.synced node.notes ≡ N.noted node.notes) }
     ensures stopped { IfErr result (λ e. StopsRunning K.last K.raise_gives K.kept_gives keeper prepared.plant.value prepared.resource
-        (I.remaining input.old) (I.remaining input.new) (N.noted notes) (N.noted e.0)
+        (I.remaining input.old) (I.remaining input.new) (N.noted notes) (N.noted e.0) (N.synced e.0)
         (W.contents writer.old) (W.contents writer.new) e.1) }
 {
     let PreparedNode { plant, resource } = prepared;

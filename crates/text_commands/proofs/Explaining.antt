@@ -9,6 +9,7 @@ use Rattle.text_lines.specs.declared.send_fault.SendFault.{SendFault}
 use Rattle.text_lines.specs.declared.send_fault.SendFault.TheVariants as sending
 use Rattle.text_commands.specs.Giving.{sending_fault}
 use Rattle.text_commands.specs.Series.{SeriesValue, SpellSettings, scans_of}
+use Rattle.text_commands.specs.Restarts.{without_restarts}
 use Rattle.text_commands.specs.declared.text_command_fault.TextCommandFault.{TextCommandFault}
 use Rattle.text_commands.specs.declared.text_command_fault.TextCommandFault.TheVariants.{Text, Word, Write, Memory}
 use Rattle.text_commands.specs.EvalText.{IsLadderOfDrawing, Asked, WritesAll, WritesScans, StopsScans, Explains}
@@ -30,7 +31,7 @@ explain_rows drawing words dt old ds networks Write ladder refused = absurd refu
 explain_rows drawing words dt old ds networks Memory ladder refused = inl (Keeps-refl old)
 
 explain_scans : (drawing : List ℕ) (words : List (List ℕ)) (dt : ℕ) (old new : Option (List ℕ)) (asked : Asked drawing words) (found : SendFault)
-    → StopsScans asked.declarations asked.networks dt asked.rows (scans_of asked.rows) found old new → Explains drawing words dt old new (sending_fault found)
+    → StopsScans asked.declarations asked.networks dt (without_restarts asked.rows) (scans_of asked.rows) found old new → Explains drawing words dt old new (sending_fault found)
 explain_scans drawing words dt old new asked sending.Write written = (asked, written)
 explain_scans drawing words dt old new asked sending.Memory written = inr (asked, written)
 
@@ -39,12 +40,12 @@ asked_of : (drawing : List ℕ) (words : List (List ℕ)) (ds : List Declaration
 asked_of drawing words ds networks rows ladder read = record { declarations = ds; networks = networks; ladder = ladder; rows = rows; read = read }
 
 pub all_written : (drawing : List ℕ) (words : List (List ℕ)) (dt : ℕ) (old new : Option (List ℕ)) (ds : List Declaration) (networks : List Diagram) (rows : List SeriesValue)
-    → IsLadderOfDrawing drawing ds networks → SpellSettings ds words rows → WritesScans ds networks dt rows (scans_of rows) old new → WritesAll drawing words dt old new
+    → IsLadderOfDrawing drawing ds networks → SpellSettings ds words rows → WritesScans ds networks dt (without_restarts rows) (scans_of rows) old new → WritesAll drawing words dt old new
 unfolding asked_of
 all_written drawing words dt old new ds networks rows ladder read written = (asked_of drawing words ds networks rows ladder read, written)
 
 pub part_written : {T : Type 0} (drawing : List ℕ) (words : List (List ℕ)) (dt : ℕ) (old new : Option (List ℕ)) (ds : List Declaration) (networks : List Diagram) (rows : List SeriesValue) (found : SendFault) (r : Result T TextCommandFault)
-    → IsErrAnd r (λ fault. fault ≡ sending_fault found) → IsLadderOfDrawing drawing ds networks → SpellSettings ds words rows → StopsScans ds networks dt rows (scans_of rows) found old new → IfErr r (Explains drawing words dt old new)
+    → IsErrAnd r (λ fault. fault ≡ sending_fault found) → IsLadderOfDrawing drawing ds networks → SpellSettings ds words rows → StopsScans ds networks dt (without_restarts rows) (scans_of rows) found old new → IfErr r (Explains drawing words dt old new)
 unfolding asked_of
 part_written drawing words dt old new ds networks rows found r is ladder read written =
     kept_fault (sending_fault found) (Explains drawing words dt old new) r is (explain_scans drawing words dt old new (asked_of drawing words ds networks rows ladder read) found written)

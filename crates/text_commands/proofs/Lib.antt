@@ -20,3 +20,7 @@ pub mod TestAnswers
 pub mod TracedAnswers
 pub mod Joining
 pub mod SourceLadders
+pub mod KeptVariables
+pub mod OpenedScans
+pub mod Storing
+pub mod StoredMarks

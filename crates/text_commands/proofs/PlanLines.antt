@@ -1,6 +1,5 @@
 -- The lines for the entries of a plan are made one by one.
-use Rattle.std.proofs.Common.{◌≡◌, ℕ, ◌+◌, ◌<◌, ◌≤◌, ◌++◌, ◌||◌, Bool, true, false, List, [], ◌∷◌, length, take, get_or, filter, cond, Option, Some, None, inl, inr, sym, ap, ap₂, subst, ◌∙◌, append_assoc, arith}
-use Rattle.std.specs.Prelude.{slice_get}
+use Rattle.std.proofs.Common.{◌≡◌, ℕ, ◌+◌, ◌<◌, ◌≤◌, ◌++◌, ◌||◌, Bool, true, false, List, [], ◌∷◌, length, take, get_or, filter, cond, Option, inl, inr, sym, ap, ap₂, subst, ◌∙◌, append_assoc, arith}
 use Rattle.std.specs.List.{flat_map, list_any, enumerate_from, range_with_len}
 use Rattle.std.specs.Option.{option_map}
 use Rattle.std.specs.Io.KnownBytes.{Appends}
@@ -17,7 +16,7 @@ use Rattle.task_codes.specs.declared.due.Due.{Due}
 use Rattle.task_codes.specs.declared.task_ref.TaskRef.{TaskRef}
 use Rattle.task_codes.specs.CodeValue.{CodeValue}
 use Rattle.evaluation.specs.Last.{same_task}
-use Rattle.plant.specs.PlantValue.{PlantValue, codes_at, code_at, producers_at}
+use Rattle.plant.specs.PlantValue.{PlantValue, codes_at, producers_at}
 use Rattle.text_lines.specs.Sending.{Sends}
 use Rattle.text_lines.proofs.Sending.{line_made}
 use Rattle.text_commands.specs.declared.plan_form.PlanForm.{PlanForm}

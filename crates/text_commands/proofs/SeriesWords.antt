@@ -1,10 +1,11 @@
 -- Names and VALUES are read as series.
 use Rattle.std.proofs.Common.{◌≡◌, ℕ, ◌+◌, ◌<◌, ◌≤◌, ◌++◌, List, [], ◌∷◌, inl, inr, length, take, get_or, refl, sym, ap, ap₂, ◌∙◌, subst, arith}
-use Rattle.std.proofs.lemmas.List.{length-map, take_more}
+use Rattle.std.proofs.lemmas.List.{append-nil, length-map, map-append, take_more}
+use Rattle.std.proofs.lemmas.List.Concat.{flat_map-append}
 use Rattle.std.proofs.lemmas.Option.{slice_get-get_or, same_Some}
 use Rattle.std.specs.Borrow.{Bor}
 use Rattle.std.specs.Prelude.{Some, slice_get}
-use Rattle.std.specs.List.{AllZip, slice_split}
+use Rattle.std.specs.List.{AllZip, flat_map, slice_split}
 use Rattle.lists.proofs.Zips.{zip_at, zip_push}
 use Rattle.std_blocks.specs.declared.value.Value.{Value}
 use Rattle.declared_names.specs.declared.declarations.Declaration.{Declaration}
@@ -15,22 +16,34 @@ use Rattle.text_commands.specs.Series.{ItemValue, AreItems, IsBad, IsItem, IsRef
 use Rattle.text_commands.specs.Steps.Series.{bad_values}
 use Rattle.text_commands.proofs.WordRows.{word_at}
 
--- one part is no item
-pub no_item : (k : Kind) (words : List (Bor (List ℕ))) (n : ℕ) (d : Bor (List ℕ)) → n < length words → ((item : ItemValue) → IsItem k (get_or words n d).now item → ⊥)
-    → (items : List ItemValue) → AllZip (IsItem k) (texts words) items → ⊥
-no_item k words n d lt never items are =
+-- one part reads as nothing
+pub no_part : {A : Type 0} (Reads : List ℕ → A → Type 0) (words : List (Bor (List ℕ))) (n : ℕ) (d : Bor (List ℕ)) → n < length words → ((x : A) → Reads (get_or words n d).now x → ⊥)
+    → (xs : List A) → AllZip Reads (texts words) xs → ⊥
+no_part Reads words n d lt never xs are =
     let long = length-map words (λ (w : Bor (List ℕ)). w.now) in
     let at : slice_get (texts words) n ≡ Some (get_or words n d).now = slice_get-get_or (texts words) n [] (omega arith) ∙ ap (λ w. Some w) (word_at words n d lt) in
-    let found = zip_at (IsItem k) (texts words) items are n (get_or words n d).now at in
+    let found = zip_at Reads (texts words) xs are n (get_or words n d).now at in
     never found.0 found.2
 
--- one part more is an item
-pub one_item : (k : Kind) (words : List (Bor (List ℕ))) (n : ℕ) (d : Bor (List ℕ)) (items : List ItemValue) (item : ItemValue) → n < length words
-    → AllZip (IsItem k) (take n (texts words)) items → IsItem k (get_or words n d).now item → AllZip (IsItem k) (take (n + 1) (texts words)) (items ++ item ∷ [])
-one_item k words n d items item lt before is =
+-- one part more reads as something
+pub one_part : {A : Type 0} (Reads : List ℕ → A → Type 0) (words : List (Bor (List ℕ))) (n : ℕ) (d : Bor (List ℕ)) (xs : List A) (x : A) → n < length words
+    → AllZip Reads (take n (texts words)) xs → Reads (get_or words n d).now x → AllZip Reads (take (n + 1) (texts words)) (xs ++ x ∷ [])
+one_part Reads words n d xs x lt before is =
     let long = length-map words (λ (w : Bor (List ℕ)). w.now) in
     let inside : n < length (texts words) = omega arith in
-    rw (take_more (texts words) n [] inside, word_at words n d lt) (zip_push (IsItem k) (take n (texts words)) items (get_or words n d).now item before is)
+    rw (take_more (texts words) n [] inside, word_at words n d lt) (zip_push Reads (take n (texts words)) xs (get_or words n d).now x before is)
+
+-- what stands between the commas of one word more
+pub parts_more : (words : List (Bor (List ℕ))) (n : ℕ) (d : Bor (List ℕ)) (old more new : List (Bor (List ℕ))) → n < length words → texts old ≡ flat_map (slice_split is_comma) (take n (texts words))
+    → texts more ≡ slice_split is_comma (get_or words n d).now → new ≡ old ++ more → texts new ≡ flat_map (slice_split is_comma) (take (n + 1) (texts words))
+parts_more words n d old more new lt before is added =
+    let long = length-map words (λ (w : Bor (List ℕ)). w.now) in
+    let inside : n < length (texts words) = omega arith in
+    let word = (get_or words n d).now in
+    let parts = slice_split is_comma in
+    let grown : flat_map parts (take n (texts words) ++ word ∷ []) ≡ flat_map parts (take n (texts words)) ++ parts word =
+    flat_map-append parts (take n (texts words)) (word ∷ []) ∙ ap (λ l. flat_map parts (take n (texts words)) ++ l) (append-nil (parts word)) in
+    rw (added, take_more (texts words) n [] inside, word_at words n d lt) (map-append (λ (w : Bor (List ℕ)). w.now) old more ∙ ap₂ (λ a b. a ++ b) before is ∙ sym grown)
 
 one_saying : (k : Kind) (text : List ℕ) (a b : List Value) → Says k text a → Says k text b → a ≡ b
 one_saying kind.Bool text a b one other = one.1 ∙ sym other.1

@@ -17,13 +17,14 @@ use Rattle.traces.specs.ValueChanges.{dump_of}
 use Rattle.traces.specs.Diagram.{diagram_of}
 use Rattle.traces.specs.Wanted.{AreTexts, is_nothing}
 use Rattle.text_commands.specs.Series.{SeriesValue}
+use Rattle.text_commands.specs.Restarts.{GivenValue, kept_places}
 use Rattle.text_commands.specs.Expectations.{SpellTest, test_scans}
-use Rattle.text_commands.specs.Sources.{IsDrawingFrom, IsLadderFrom, SourceValue}
+use Rattle.text_commands.specs.Sources.{AreRetainedFrom, IsDrawingFrom, IsLadderFrom, SourceValue}
 use Rattle.text_commands.specs.TestText.{IsOutcome}
 use Rattle.text_commands.specs.declared.form.Form.{Form}
 use Rattle.text_commands.specs.declared.traced.Traced.{Traced}
 use Rattle.text_commands.specs.Traced.{WritesTraced, step_of, tracks_of}
-use Rattle.text_commands.specs.Steps.Testing.{IsFormTrace, slots_of}
+use Rattle.text_commands.specs.Steps.Testing.{IsFormTrace, given_for, slots_of}
 use Rattle.text_commands.specs.Steps.Tracing.{IsTracedTest}
 
 no_dump : (b : Bool) (x : Option (List ℕ)) → not b ≡ true → (if b then x else None) ≡ None
@@ -44,11 +45,11 @@ untraced wanted time moments tracks texts is dump diagram =
     }
 
 -- the parts of a trace, with its texts
-pub traced_whole : (drawing : List ℕ) (ds : List Declaration) (networks : List Diagram) (dt : ℕ) (form : Form) (wanted : Wanted) (rows expected : List SeriesValue) (scans : ℕ) (states : List StateValue) (text : List ℕ)
-    (traced : Traced) → scans ≡ test_scans rows expected → IsFormTrace form drawing ds networks dt rows scans states text → IsOutcome ds expected (slots_of states) traced.difference
-    → AreTexts wanted (each (step_of dt)) (length states) (tracks_of ds (slots_of states)) traced.texts → IsTracedTest drawing ds networks dt form wanted rows expected text traced
-traced_whole drawing ds networks dt form wanted rows expected scans states text traced many is outcome texts =
-    let t = subst (λ n. IsFormTrace form drawing ds networks dt rows n states text) many is in
+pub traced_whole : (drawing : List ℕ) (ds : List Declaration) (networks : List Diagram) (dt : ℕ) (form : Form) (wanted : Wanted) (given : GivenValue) (expected : List SeriesValue) (scans : ℕ) (states : List StateValue) (text : List ℕ)
+    (traced : Traced) → scans ≡ test_scans given expected → IsFormTrace form drawing ds networks dt given scans states text → IsOutcome ds expected (slots_of states) traced.difference
+    → AreTexts wanted (each (step_of dt)) (length states) (tracks_of ds (slots_of states)) traced.texts → IsTracedTest drawing ds networks dt form wanted given expected text traced
+traced_whole drawing ds networks dt form wanted given expected scans states text traced many is outcome texts =
+    let t = subst (λ n. IsFormTrace form drawing ds networks dt given n states text) many is in
     let long : length states ≡ length t.0.0.states = sym (ap length t.0.1 ∙ length-map states (λ (s : StateValue). s.slots)) in
     record {
       test = record {
@@ -61,18 +62,19 @@ traced_whole drawing ds networks dt form wanted rows expected scans states text 
     }
 
 -- a test of which all was traced and written
-pub traced_written : (source : SourceValue) (drawing : List ℕ) (words : List (List ℕ)) (dt : ℕ) (form : Form) (wanted : Wanted) (old new : Option (List ℕ)) (ds : List Declaration) (networks : List Diagram) (rows expected : List SeriesValue)
-    (text : List ℕ) (traced : Traced) → IsLadderFrom source ds networks × IsDrawingFrom source drawing → SpellTest ds words rows expected → IsTracedTest drawing ds networks dt form wanted rows expected text traced → Appends old new text
-    → WritesTraced source words dt form wanted old new traced
-traced_written source drawing words dt form wanted old new ds networks rows expected text traced ladder read is appended = record {
-  test = record {
-    asked = record { declarations = ds; networks = networks; ladder = ladder.0; drawing = drawing; drawn = ladder.1; rows = rows; expected = expected; read = read };
-    made = is.test.made;
-    all = is.test.all;
-    text = text;
-    text_is = is.test.text_is;
-    appended = appended;
-    outcome = is.test.outcome;
-  };
-  texts = is.texts;
-}
+pub traced_written : (source : SourceValue) (drawing : List ℕ) (words : List (List ℕ)) (restarts : List ℕ) (dt : ℕ) (form : Form) (wanted : Wanted) (old new : Option (List ℕ)) (ds : List Declaration) (networks : List Diagram) (rows expected : List SeriesValue) (kept retained : List ℕ)
+    (text : List ℕ) (traced : Traced) → IsLadderFrom source ds networks × IsDrawingFrom source drawing × AreRetainedFrom source retained → kept ≡ kept_places ds networks retained → SpellTest ds words rows expected → IsTracedTest drawing ds networks dt form wanted (given_for rows restarts kept) expected text traced → Appends old new text
+    → WritesTraced source words restarts dt form wanted old new traced
+traced_written source drawing words restarts dt form wanted old new ds networks rows expected kept retained text traced ladder are read is appended = let t = subst (λ places. IsTracedTest drawing ds networks dt form wanted (given_for rows restarts places) expected text traced) are is in
+    record {
+      test = record {
+        asked = record { declarations = ds; networks = networks; ladder = ladder.0; drawing = drawing; drawn = ladder.1; rows = rows; expected = expected; read = read; retained = retained; retained_are = ladder.2 };
+        made = t.test.made;
+        all = t.test.all;
+        text = text;
+        text_is = t.test.text_is;
+        appended = appended;
+        outcome = t.test.outcome;
+      };
+      texts = t.texts;
+    }

@@ -26,6 +26,7 @@ use Rattle.text_commands.specs.declared.text_command_fault.TextCommandFault.TheV
 use Rattle.text_commands.specs.declared.text_fault.TextFault.{TextFault}
 use Rattle.text_commands.specs.declared.text_fault.TextFault.TheVariants.{Draw, Graph, Bind, Plant, TooLong}
 use Rattle.text_commands.specs.Series.{SeriesValue, SpellSettings, SpellNoSettings, IsFirstRefusedSetting, scans_of}
+use Rattle.text_commands.specs.Restarts.{GivenValue, without_restarts}
 use Rattle.text_commands.specs.Trace.{SomeTrace}
 use Rattle.text_commands.specs.Lines.{line_of}
 use Rattle.text_commands.specs.Comments.{without_comments}
@@ -57,16 +58,16 @@ IsLadderOfDrawing drawing ds networks =
     ⊎ (IsIllDrawn (rows_of drawing) × IsLadderOfText (without_comments drawing) ds networks)
 
 -- so many scans were made, and a line of the variables was written after each
-pub record WritesScans (ds : List Declaration) (networks : List Diagram) (dt : ℕ) (rows : List SeriesValue) (scans : ℕ)
+pub record WritesScans (ds : List Declaration) (networks : List Diagram) (dt : ℕ) (given : GivenValue) (scans : ℕ)
     (old new : Option (List ℕ)) : Type 0 where
-  pub made : SomeTrace ds networks dt rows scans
+  pub made : SomeTrace ds networks dt given scans
   pub all : length made.states ≡ scans
   pub appended : Appends old new (flat_map (line_of ds) made.states)
 
 -- the lines of some scans didn't go out whole
-pub record StopsScans (ds : List Declaration) (networks : List Diagram) (dt : ℕ) (rows : List SeriesValue) (scans : ℕ)
+pub record StopsScans (ds : List Declaration) (networks : List Diagram) (dt : ℕ) (given : GivenValue) (scans : ℕ)
     (fault : SendFault) (old new : Option (List ℕ)) : Type 0 where
-  pub made : SomeTrace ds networks dt rows scans
+  pub made : SomeTrace ds networks dt given scans
   pub stopped : Stops fault (flat_map (line_of ds) made.states) old new
 
 -- the ladder of the drawing, and the variables that the words set before its scans
@@ -81,13 +82,13 @@ pub record Asked (drawing : List ℕ) (words : List (List ℕ)) : Type 0 where
 abbrev pub WritesAll : List ℕ → List (List ℕ) → ℕ → Option (List ℕ) → Option (List ℕ) → Type 0
 WritesAll drawing words dt old new =
     (asked : Asked drawing words)
-    × WritesScans asked.declarations asked.networks dt asked.rows (scans_of asked.rows) old new
+    × WritesScans asked.declarations asked.networks dt (without_restarts asked.rows) (scans_of asked.rows) old new
 
 -- the text of some of its scans didn't go out whole
 abbrev pub StopsSome : SendFault → List ℕ → List (List ℕ) → ℕ → Option (List ℕ) → Option (List ℕ) → Type 0
 StopsSome fault drawing words dt old new =
     (asked : Asked drawing words)
-    × StopsScans asked.declarations asked.networks dt asked.rows (scans_of asked.rows) fault old new
+    × StopsScans asked.declarations asked.networks dt (without_restarts asked.rows) (scans_of asked.rows) fault old new
 
 -- the words set nothing that the drawing's ladder has, and this is the first fault
 pub record RefusesSettings (drawing : List ℕ) (words : List (List ℕ)) (fault : WordFault) : Type 0 where
@@ -126,7 +127,8 @@ RefusesText text (Bind fault) = RefusesNamesOf text fault
 RefusesText text (Plant fault) = ⊥
 RefusesText text TooLong = ⊥
 
--- What holds after a refusal by a drawing: of its text as it stands, if it is well drawn; else with its comments emptied.
+-- What holds after a refusal by a drawing: of its text as it stands, if it is well drawn; else with its comments
+-- emptied.
 abbrev pub RefusesDrawing : List ℕ → TextFault → Type 0
 RefusesDrawing drawing fault =
     (IsWellDrawn (rows_of drawing) × RefusesText drawing fault)

@@ -6,6 +6,7 @@ use Rattle.text_commands.specs.declared.word_fault.WordFault.{WordFault}
 use Rattle.text_commands.specs.declared.word_fault.WordFaultKind.{WordFaultKind}
 use Rattle.text_commands.specs.Rows.{name_in, digits_in}
 use Rattle.text_commands.specs.Series.{SeriesValue, IsSeries, SpellSettings, AreOfDistinct, IsRefusedSeries, IsRefusedSetting, scans_of}
+use Rattle.text_commands.specs.Restarts.{GivenValue, last_restart}
 
 -- right behind the first `=` of the word stands another one
 abbrev pub is_expectation : List ℕ → Bool
@@ -19,16 +20,16 @@ expected_in word = digits_in (digits_in word)
 abbrev pub IsExpected : List Declaration → List ℕ → SeriesValue → Type 0
 IsExpected ds word series = IsSeries ds (name_in word) (expected_in word) series
 
--- The words NAME=VALUES set these variables, and the words NAME==VALUES tell what is expected, one by one. No two of the one
--- kind are of the same variable, nor of the other.
+-- The words NAME=VALUES set these variables, and the words NAME==VALUES tell what is expected, one by one. No two of
+-- the one kind are of the same variable, nor of the other.
 pub record SpellTest (ds : List Declaration) (words : List (List ℕ)) (rows expected : List SeriesValue) : Type 0 where
   pub set : SpellSettings ds (filter (λ w. not (is_expectation w)) words) rows
   pub each : AllZip (IsExpected ds) (filter is_expectation words) expected
   pub apart : AreOfDistinct expected
 
--- as many scans as the longest of all has values, and one if there are no words
-abbrev pub test_scans : List SeriesValue → List SeriesValue → ℕ
-test_scans rows expected = max (scans_of rows) (scans_of expected)
+-- as many scans as the longest of all words has values, but at least one, and those up to the last restart
+abbrev pub test_scans : GivenValue → List SeriesValue → ℕ
+test_scans given expected = max (max (scans_of given.rows) (scans_of expected)) (last_restart given.restarts)
 
 -- why a word of either kind is refused behind others
 abbrev pub IsRefusedBehind : List Declaration → List SeriesValue → List SeriesValue → List ℕ → WordFaultKind → Type 0

@@ -6,6 +6,8 @@ pub mod EvalText
 pub mod CheckText
 pub mod PlanText
 pub mod Expectations
+pub mod Stores
+pub mod Restarts
 pub mod Trace
 pub mod Chart
 pub mod LiveDrawing

@@ -1,8 +1,9 @@
 -- What a ladder is read from: the text of a drawing; or, with the name of a program type, that of a plant.
-use Rattle.std.specs.Prelude.{◌≡◌, ℕ, ◌⊎◌, List, Option, Some, None}
+use Rattle.std.specs.Prelude.{◌≡◌, ℕ, ◌⊎◌, List, [], Option, Some, None}
 use Rattle.std.specs.Option.{option_map}
 use Rattle.network.specs.Links.{Diagram}
 use Rattle.declared_names.specs.declared.declarations.Declaration.{Declaration}
+use Rattle.plant_grammar.specs.Retained.{retained_places}
 use Rattle.plant.specs.PlantText.{IsNoPlant}
 use Rattle.plant.specs.ProgramText.{IsProgramOfText}
 use Rattle.plant.specs.ProgramTypes.{TypeValue}
@@ -17,6 +18,7 @@ use Rattle.text_commands.specs.declared.text_fault.TextFault.{TextFault}
 use Rattle.text_commands.specs.declared.word_fault.WordFault.{WordFault}
 use Rattle.text_commands.specs.declared.word_fault.WordFaultKind.TheVariants.{NoProgram}
 
+-- the text of a drawing; or that of a plant, and the name of a program type
 pub record SourceValue : Type 0 where
   pub text : List ℕ
   pub program : Option (List ℕ)
@@ -38,6 +40,12 @@ pub record IsBodyOfProgram (text name drawing : List ℕ) : Type 0 where
   pub found : IsProgramOfText text name (Some type)
   pub drawing_is : drawing ≡ type.program.body
 
+-- the variables at these places are retained
+pub record AreRetainedOfProgram (text name : List ℕ) (retained : List ℕ) : Type 0 where
+  pub type : TypeValue
+  pub found : IsProgramOfText text name (Some type)
+  pub retained_are : retained ≡ retained_places type.program
+
 -- It holds of the text of a plant: as it stands; or, where that is no plant, with its comments emptied.
 abbrev pub HoldsOfPlant : (List ℕ → Type 0) → List ℕ → Type 0
 HoldsOfPlant Holds text = Holds text ⊎ (IsNoPlant text × Holds (without_comments text))
@@ -57,6 +65,14 @@ IsDrawingBy (Some name) text drawing = HoldsOfPlant (λ t. IsBodyOfProgram t nam
 
 abbrev pub IsDrawingFrom : SourceValue → List ℕ → Type 0
 IsDrawingFrom s drawing = IsDrawingBy s.program s.text drawing
+
+-- the places of the retained variables: a drawing has none, a program type those of VAR RETAIN
+abbrev pub AreRetainedBy : Option (List ℕ) → List ℕ → List ℕ → Type 0
+AreRetainedBy None text retained = retained ≡ []
+AreRetainedBy (Some name) text retained = HoldsOfPlant (λ t. AreRetainedOfProgram t name retained) text
+
+abbrev pub AreRetainedFrom : SourceValue → List ℕ → Type 0
+AreRetainedFrom s retained = AreRetainedBy s.program s.text retained
 
 -- what holds after a refusal by the text: a drawing is refused, or there is no plant
 abbrev pub RefusesBy : Option (List ℕ) → List ℕ → TextFault → Type 0

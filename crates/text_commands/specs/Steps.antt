@@ -8,5 +8,7 @@ pub mod Testing
 pub mod Showing
 pub mod Tracing
 pub mod Setting
+pub mod Opening
+pub mod Marks
 pub mod PlantRefusing
 pub mod Sources

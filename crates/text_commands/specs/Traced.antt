@@ -33,8 +33,8 @@ step_of dt = if dt == 0 then 1 else dt
 
 -- all scans were made, their text was written, what came of what was expected is this; and these are the texts that are
 -- wanted, over the scans and their variables
-pub record WritesTraced (source : SourceValue) (words : List (List ℕ)) (dt : ℕ) (form : Form) (wanted : Wanted)
-    (old new : Option (List ℕ)) (traced : Traced) : Type 0 where
-  pub test : WritesTest source words dt form old new traced.difference
+pub record WritesTraced (source : SourceValue) (words : List (List ℕ)) (restarts : List ℕ) (dt : ℕ) (form : Form)
+    (wanted : Wanted) (old new : Option (List ℕ)) (traced : Traced) : Type 0 where
+  pub test : WritesTest source words restarts dt form old new traced.difference
   pub texts : AreTexts wanted (each (step_of dt)) (length test.made.states)
       (tracks_of test.asked.declarations test.made.states) traced.texts

@@ -1,8 +1,6 @@
-ghost use Rattle.std.specs.Prelude.{◌≡◌, List, OnOk, IfOk, IfErr, All, slice_get};
-ghost use Rattle.declared_names.specs.declared.declarations.Declaration.{Declaration};
-ghost use Rattle.scan_steps.specs.Slots.{AreSlotsOf};
+ghost use Rattle.std.specs.Prelude.{OnOk, IfOk, IfErr, All};
 ghost use Rattle.text_commands.specs.Rows.{texts};
-ghost use Rattle.text_commands.specs.Series.{IsOfVariable, set_before, set_value};
+ghost use Rattle.text_commands.specs.Series.{IsOfVariable};
 ghost use Rattle.text_commands.specs.EvalText.{IsLadderOfDrawing, IsLadderOfText, StopsScans, WritesAll, Explains};
 ghost use Rattle.text_commands.specs.Steps.Testing.{WritesRun};
 ghost use Rattle.text_commands.specs.Steps.Refusing.{RefusesLadder, RefusesLadderOfText};
@@ -10,7 +8,9 @@ ghost use Rattle.text_commands.specs.Steps.Refusing.{RefusesLadder, RefusesLadde
 use crate::comments::without_comments;
 use crate::difference::Difference;
 use crate::expectations::found_after;
+use crate::given::Given;
 use crate::line::state_line;
+use crate::opening::open_scan;
 use crate::series::Series;
 use crate::settings::{read_settings, scan_count};
 use crate::text_command_fault::TextCommandFault;
@@ -20,7 +20,7 @@ use drawings::Drawing;
 use ladder_text::ReadText;
 use name_faults::Guess;
 use network::Graph;
-use power_flow::{Ladder, State};
+use power_flow::Ladder;
 use std::alloc::Global;
 use std::io::Write;
 use text_lines::{SendFault, write_text};
@@ -36,8 +36,8 @@ fn ladder_of_text(alloc: Global, drawing: &str) -> Result<Ladder, TextCommandFau
     Ok(Ladder::bind(alloc, graph, declarations)?)
 }
 
-/// The ladder of a drawing, its names declared by their use. A text that is ill drawn is read with its comments emptied:
-/// rows that begin with `(*` and end with `*)`.
+/// The ladder of a drawing, its names declared by their use. A text that is ill drawn is read with its comments
+/// emptied: rows that begin with `(*` and end with `*)`.
 pub fn read_ladder(alloc: Global, drawing: &str) -> Result<Ladder, TextCommandFault>
     ensures ok { IfOk result (λ ladder. IsLadderOfDrawing drawing.now ladder.declarations ladder.networks) }
     ensures err { IfErr result (RefusesLadder drawing.now) }
@@ -51,52 +51,29 @@ pub fn read_ladder(alloc: Global, drawing: &str) -> Result<Ladder, TextCommandFa
     }
 }
 
-/// Sets a variable to its value for scan k, counted from 0, if it has one.
-fn set_row(row: &Series<'_>, k: usize, state: &mut State)
-    requires { (ds : List Declaration) × AreSlotsOf ds state.old.slots × IsOfVariable ds row.now }
-    ensures slots { state.new
-        ≡ record state.old { slots = set_value state.old.slots row.now.place (slice_get row.now.values k) } }
-    ensures declared { (ds : List Declaration) → AreSlotsOf ds state.old.slots → AreSlotsOf ds state.new.slots }
-{
-    if let Some(value) = row.value(k) {
-        let _set = state.set(row.place(), value);
-    }
-}
-
-/// Sets each variable to its value for scan k, counted from 0, if it has one.
-pub fn set_rows(rows: &[Series<'_>], k: usize, state: &mut State)
-    requires { (ds : List Declaration) × AreSlotsOf ds state.old.slots × All (IsOfVariable ds) rows.now }
-    ensures slots { state.new ≡ record state.old { slots = set_before rows.now k state.old.slots } }
-    ensures declared { (ds : List Declaration) → AreSlotsOf ds state.old.slots → AreSlotsOf ds state.new.slots }
-{
-    for row in rows {
-        set_row(row, k, state);
-    }
-}
-
 /// Makes so many scans, and writes a line after each; the first difference from what is expected, if there is one.
 pub fn write_scans<W: Write>(
     alloc: Global,
     ladder: &Ladder,
-    rows: &[Series<'_>],
+    given: &Given<'_>,
     expected: &[Series<'_>],
     scans: usize,
     dt: u32,
     writer: &mut W,
 ) -> Result<Option<Difference>, SendFault>
-    requires rows { All (IsOfVariable ladder.now.declarations) rows.now }
+    requires rows { All (IsOfVariable ladder.now.declarations) given.now.rows }
     requires expected { All (IsOfVariable ladder.now.declarations) expected.now }
     ensures ok { IfOk result
-        (WritesRun ladder.now.declarations ladder.now.networks dt rows.now expected.now scans
+        (WritesRun ladder.now.declarations ladder.now.networks dt given.now expected.now scans
         (W.contents writer.old) (W.contents writer.new)) }
     ensures stopped { IfErr result
-        (λ fault. StopsScans ladder.now.declarations ladder.now.networks dt rows.now scans fault
+        (λ fault. StopsScans ladder.now.declarations ladder.now.networks dt given.now scans fault
         (W.contents writer.old) (W.contents writer.new)) }
 {
     let mut state = ladder.initial(alloc)?;
     let mut found = None;
     for k in 0..scans {
-        set_rows(rows, k, &mut state);
+        open_scan(alloc, ladder, given, k, &mut state)?;
         ladder.scan(&mut state, dt);
         let line = state_line(alloc, ladder.declarations(), &state)?;
         write_text(writer, line.as_str())?;
@@ -107,12 +84,11 @@ pub fn write_scans<W: Write>(
 
 /// Writes the values of all variables after each scan of a drawing, one line a scan.
 ///
-/// A word NAME=VALUES sets its variable before scan k to the k-th value, and behind the last one sets nothing. VALUES are
-/// items with commas between, V or V*COUNT; V is 1 to 1,000 digits 0 or 1 for a BOOL, a value each, a number for an INT, a
-/// duration for a TIME. A word has at most 1,000,000 values. There are as many scans as the longest has values, and one
-/// without words. `dt` is the time between two scans in milliseconds.
-/// `Text` and `Word` come before anything is written. After `Write` what went out is a prefix and
-/// not all, after `Memory` a prefix.
+/// A word NAME=VALUES sets its variable before scan k to the k-th value, and behind the last one sets nothing. VALUES
+/// are items with commas between, V or V*COUNT; V is 1 to 1,000 digits 0 or 1 for a BOOL, a value each, a number for an
+/// INT, a duration for a TIME. A word has at most 1,000,000 values. There are as many scans as the longest has values,
+/// and one without words. `dt` is the time between two scans in milliseconds. `Text` and `Word` come before anything is
+/// written. After `Write` what went out is a prefix and not all, after `Memory` a prefix.
 pub fn eval<W: Write>(
     alloc: Global,
     drawing: &str,
@@ -128,6 +104,11 @@ pub fn eval<W: Write>(
     let ladder = read_ladder(alloc, drawing)?;
     let rows = read_settings(alloc, ladder.declarations(), words)?;
     let scans = scan_count(&rows);
-    write_scans(alloc, &ladder, &rows, &[], scans, dt, writer)?;
+    let given = Given {
+        rows: &rows,
+        restarts: &[],
+        kept: &[],
+    };
+    write_scans(alloc, &ladder, &given, &[], scans, dt, writer)?;
     Ok(())
 }

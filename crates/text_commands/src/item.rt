@@ -50,7 +50,7 @@ impl<'a> Item<'a> {
 pub(crate) const MOST_VALUES: u64 = 1_000_000;
 
 /// How many times an item's values come: decimal digits, from 1 to 1,000,000.
-fn count_of(digits: &[u8]) -> Option<usize>
+pub(crate) fn count_of(digits: &[u8]) -> Option<usize>
     ensures read { MatchOption result ((times : ℕ) → IsCount digits.now times → ⊥) (IsCount digits.now) }
     ensures limited { IfSome result (λ times. times ≤ 1000000) }
 {

@@ -75,7 +75,7 @@ impl<'a> Items<'a> {
 }
 
 /// What stands between the commas of a text.
-fn parts_of(alloc: Global, text: &str) -> Result<Vec<&str>, AllocError>
+pub(crate) fn parts_of(alloc: Global, text: &str) -> Result<Vec<&str>, AllocError>
     ensures { IfOk result (λ parts. texts parts.items ≡ slice_split is_comma text.now) }
 {
     let mut parts = Vec::new(alloc);

@@ -4,12 +4,12 @@ ghost use Rattle.text_commands.specs.Series.{IsOfVariable};
 ghost use Rattle.text_commands.specs.Steps.Showing.{IsShownScan, IsShownTrace, StopsShown, WritesShown};
 
 use crate::difference::Difference;
-use crate::eval_command::set_rows;
 use crate::expectations::found_after;
+use crate::given::Given;
 use crate::line::state_line;
 use crate::live_drawing::push_drawing;
+use crate::opening::open_scan;
 use crate::series::Series;
-use crate::test_words::TestWords;
 use power_flow::{Ladder, State};
 use std::alloc::{AllocError, Global};
 use std::io::Write;
@@ -40,20 +40,20 @@ pub fn trace_drawings(
     alloc: Global,
     ladder: &Ladder,
     drawing: &str,
-    rows: &[Series<'_>],
+    given: &Given<'_>,
     scans: usize,
     dt: u32,
     color: bool,
 ) -> Result<(Vec<State>, String), AllocError>
-    requires { All (IsOfVariable ladder.now.declarations) rows.now }
-    ensures { IfOk result (λ made. IsShownTrace drawing.now color ladder.now.declarations ladder.now.networks dt rows.now
+    requires { All (IsOfVariable ladder.now.declarations) given.now.rows }
+    ensures { IfOk result (λ made. IsShownTrace drawing.now color ladder.now.declarations ladder.now.networks dt given.now
         scans made.0.items (string_bytes made.1)) }
 {
     let mut states = Vec::new(alloc);
     let mut text = String::new(alloc);
     let mut state = ladder.initial(alloc)?;
     for k in 0..scans {
-        set_rows(rows, k, &mut state);
+        open_scan(alloc, ladder, given, k, &mut state)?;
         let shown = shown_scan(alloc, ladder, drawing, &mut state, dt, color)?;
         text.push_str(shown.as_str())?;
         states.push(state.try_copy()?)?;
@@ -61,41 +61,35 @@ pub fn trace_drawings(
     Ok((states, text))
 }
 
-/// Makes so many scans, and writes after each its line and its drawing; the first difference from what is expected, if there
-/// is one.
+/// Makes so many scans, and writes after each its line and its drawing; the first difference from what is expected, if
+/// there is one.
 pub fn write_drawings<W: Write>(
     alloc: Global,
     ladder: &Ladder,
     drawing: &str,
-    test: &TestWords<'_>,
+    given: &Given<'_>,
+    expected: &[Series<'_>],
     scans: usize,
     dt: u32,
     color: bool,
     writer: &mut W,
 ) -> Result<Option<Difference>, SendFault>
-    requires rows { All (IsOfVariable ladder.now.declarations) test.now.rows.items }
-    requires expected { All (IsOfVariable ladder.now.declarations) test.now.expected.items }
+    requires rows { All (IsOfVariable ladder.now.declarations) given.now.rows }
+    requires expected { All (IsOfVariable ladder.now.declarations) expected.now }
     ensures ok { IfOk result
-        (WritesShown drawing.now color ladder.now.declarations ladder.now.networks dt test.now.rows.items
-        test.now.expected.items scans (W.contents writer.old) (W.contents writer.new)) }
+        (WritesShown drawing.now color ladder.now.declarations ladder.now.networks dt given.now expected.now
+        scans (W.contents writer.old) (W.contents writer.new)) }
     ensures stopped { IfErr result
-        (λ fault. StopsShown drawing.now color ladder.now.declarations ladder.now.networks dt test.now.rows.items scans fault
+        (λ fault. StopsShown drawing.now color ladder.now.declarations ladder.now.networks dt given.now scans fault
         (W.contents writer.old) (W.contents writer.new)) }
 {
     let mut state = ladder.initial(alloc)?;
     let mut found = None;
     for k in 0..scans {
-        set_rows(&test.rows, k, &mut state);
+        open_scan(alloc, ladder, given, k, &mut state)?;
         let text = shown_scan(alloc, ladder, drawing, &mut state, dt, color)?;
         write_text(writer, text.as_str())?;
-        found = found_after(
-            found,
-            alloc,
-            ladder.declarations(),
-            &test.expected,
-            k,
-            &state,
-        )?;
+        found = found_after(found, alloc, ladder.declarations(), expected, k, &state)?;
     }
     Ok(found)
 }

@@ -4,6 +4,7 @@ ghost use Rattle.text_commands.specs.Series.{IsRefusedSeries};
 ghost use Rattle.text_commands.specs.Expectations.{IsExpected, IsRefusedBehind, SpellTest, expected_in, is_expectation, test_scans};
 ghost use Rattle.text_commands.specs.Steps.Testing.{AddsWord, IsNewPlace, RefusesWord, RefusesTest};
 
+use crate::given::Given;
 use crate::row::split_at_equals;
 use crate::series::Series;
 use crate::settings::{next_series, next_setting, scan_count};
@@ -86,9 +87,11 @@ pub fn read_test_words<'a>(
     Ok(TestWords { rows, expected })
 }
 
-/// As many scans as the longest of all words has values, and one if there are none.
-pub fn test_scan_count(test: &TestWords<'_>) -> usize
-    ensures { result ≡ test_scans test.now.rows.items test.now.expected.items }
+/// As many scans as the longest of all words has values, but at least one, and those up to the last restart.
+pub(crate) fn test_scan_count(given: &Given<'_>, expected: &[Series<'_>]) -> usize
+    ensures { result ≡ test_scans given.now expected.now }
 {
-    scan_count(&test.rows).max(scan_count(&test.expected))
+    scan_count(given.rows)
+        .max(scan_count(expected))
+        .max(given.last_restart())
 }

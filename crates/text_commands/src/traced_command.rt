@@ -8,10 +8,13 @@ ghost use Rattle.text_commands.specs.Steps.Tracing.{IsTracedTest};
 
 use crate::expectations::first_difference;
 use crate::form::Form;
+use crate::given::Given;
 use crate::ladder_source::LadderSource;
+use crate::restarting::kept_places;
+use crate::series::Series;
 use crate::source_ladder::read_source;
 use crate::test_command::{eval_test, trace_form};
-use crate::test_words::{TestWords, read_test_words, test_scan_count};
+use crate::test_words::{read_test_words, test_scan_count};
 use crate::text_command_fault::TextCommandFault;
 use crate::traced::Traced;
 use crate::tracks::state_texts;
@@ -26,19 +29,20 @@ fn trace_whole(
     alloc: Global,
     ladder: &Ladder,
     drawing: &str,
-    test: &TestWords<'_>,
+    given: &Given<'_>,
+    expected: &[Series<'_>],
     dt: u32,
     form: Form,
     wanted: Wanted<'_>,
 ) -> Result<(String, Traced), AllocError>
-    requires rows { All (IsOfVariable ladder.now.declarations) test.now.rows.items }
-    requires expected { All (IsOfVariable ladder.now.declarations) test.now.expected.items }
-    ensures { IfOk result (λ made. IsTracedTest drawing.now ladder.now.declarations ladder.now.networks dt form wanted.entry
-        test.now.rows.items test.now.expected.items (string_bytes made.0) made.1) }
+    requires rows { All (IsOfVariable ladder.now.declarations) given.now.rows }
+    requires expected { All (IsOfVariable ladder.now.declarations) expected.now }
+    ensures { IfOk result (λ made. IsTracedTest drawing.now ladder.now.declarations ladder.now.networks dt form
+        wanted.entry given.now expected.now (string_bytes made.0) made.1) }
 {
-    let scans = test_scan_count(test);
-    let (states, text) = trace_form(alloc, ladder, drawing, &test.rows, scans, dt, form)?;
-    let difference = first_difference(alloc, ladder.declarations(), &test.expected, &states)?;
+    let scans = test_scan_count(given, expected);
+    let (states, text) = trace_form(alloc, ladder, drawing, given, scans, dt, form)?;
+    let difference = first_difference(alloc, ladder.declarations(), expected, &states)?;
     let texts = state_texts(alloc, ladder.declarations(), &states, dt, wanted)?;
     Ok((text, Traced { difference, texts }))
 }
@@ -48,48 +52,62 @@ fn eval_whole<W: Write>(
     alloc: Global,
     source: LadderSource<'_>,
     words: &[&str],
+    restarts: &[usize],
     dt: u32,
     form: Form,
     wanted: Wanted<'_>,
     writer: &mut W,
 ) -> Result<Traced, TextCommandFault>
     ensures ok { IfOk result
-        (WritesTraced (source_of source.entry) (texts words.now) dt form wanted.entry (W.contents writer.old) (W.contents writer.new)) }
+        (WritesTraced (source_of source.entry) (texts words.now) restarts.now dt form wanted.entry
+        (W.contents writer.old) (W.contents writer.new)) }
     ensures fault { IfErr result
-        (ExplainsTest (source_of source.entry) (texts words.now) dt form (W.contents writer.old) (W.contents writer.new)) }
+        (ExplainsTest (source_of source.entry) (texts words.now) restarts.now dt form (W.contents writer.old)
+        (W.contents writer.new)) }
 {
     let drawn = read_source(alloc, source)?;
     let ladder: &Ladder = &drawn.ladder;
     let drawing = drawn.drawing.as_str();
     let test = read_test_words(alloc, ladder.declarations(), words)?;
-    let (text, traced) = trace_whole(alloc, ladder, drawing, &test, dt, form, wanted)?;
+    let kept = kept_places(alloc, ladder, &drawn.retained)?;
+    let given = Given {
+        rows: &test.rows,
+        restarts,
+        kept: &kept,
+    };
+    let expected: &[Series<'_>] = &test.expected;
+    let (text, traced) = trace_whole(alloc, ladder, drawing, &given, expected, dt, form, wanted)?;
     write_text(writer, text.as_str())?;
     Ok(traced)
 }
 
-/// Evaluates the ladder of a source as `eval_test` does, and makes the texts of its trace that are wanted: of all its variables, with
-/// the value after each scan. A scan is shown for `dt` milliseconds, and for one where that is 0. The first one begins at 0.
+/// Evaluates the ladder of a source as `eval_test` does, and makes the texts of its trace that are wanted: of all its
+/// variables, with the value after each scan. A scan is shown for `dt` milliseconds, and for one where that is 0. The
+/// first one begins at 0.
 ///
-/// Where a text is wanted nothing is written before the last scan. After a fault there are no texts; `Text` and `Word` come
-/// before anything is written, after `Write` what went out is a prefix and not all, after `Memory` a prefix.
+/// Where a text is wanted nothing is written before the last scan. After a fault there are no texts; `Text` and `Word`
+/// come before anything is written, after `Write` what went out is a prefix and not all, after `Memory` a prefix.
 pub fn eval_traced<W: Write>(
     alloc: Global,
     source: LadderSource<'_>,
     words: &[&str],
+    restarts: &[usize],
     dt: u32,
     form: Form,
     wanted: Wanted<'_>,
     writer: &mut W,
 ) -> Result<Traced, TextCommandFault>
     ensures ok { IfOk result
-        (WritesTraced (source_of source.entry) (texts words.now) dt form wanted.entry (W.contents writer.old) (W.contents writer.new)) }
+        (WritesTraced (source_of source.entry) (texts words.now) restarts.now dt form wanted.entry
+        (W.contents writer.old) (W.contents writer.new)) }
     ensures fault { IfErr result
-        (ExplainsTest (source_of source.entry) (texts words.now) dt form (W.contents writer.old) (W.contents writer.new)) }
+        (ExplainsTest (source_of source.entry) (texts words.now) restarts.now dt form (W.contents writer.old)
+        (W.contents writer.new)) }
 {
     if !wanted.is_nothing() {
-        return eval_whole(alloc, source, words, dt, form, wanted, writer);
+        return eval_whole(alloc, source, words, restarts, dt, form, wanted, writer);
     }
-    match eval_test(alloc, source, words, dt, form, writer) {
+    match eval_test(alloc, source, words, restarts, dt, form, writer) {
         Ok(difference) => Ok(Traced {
             difference,
             texts: TraceTexts::none(),

@@ -1,21 +1,22 @@
 -- From marks to what is stored, and from parts of a question to the whole.
-use Rattle.std.proofs.Common.{◌≡◌, ℕ, Option, Some, None, Result, Ok, Err, IfOk, IfErr, zero, suc, ◌<◌, ◌≤◌, List, [], ◌∷◌, Bool, inl, inr, All, length, take, get_or, refl, sym, ap, ◌∙◌, subst, arith}
+use Rattle.std.proofs.Common.{◌≡◌, ℕ, Option, Some, None, Result, Ok, Err, IfOk, IfErr, zero, suc, ◌<◌, ◌≤◌, List, [], ◌∷◌, Bool, inl, inr, All, length, take, get_or, slice_get, refl, sym, ap, ◌∙◌, subst, arith}
 use Rattle.std.specs.Borrow.{Bor}
 use Rattle.std.specs.Global.{Vec}
 use Rattle.std.specs.List.{AllZip}
 use Rattle.std.proofs.lemmas.List.{length-map, get_or_default}
-use Rattle.std.proofs.lemmas.Option.{slice_get-get_or, slice_get_within}
+use Rattle.std.proofs.lemmas.Option.{none-some, same_Some, slice_get-get_or, slice_get_within}
 use Rattle.std.proofs.KnownBytes.{Keeps-refl}
 use Rattle.std.proofs.lemmas.List.Elements.{All-map}
 use Rattle.std.specs.Option.{option_map}
 use Rattle.lists.proofs.Members.{all_from_places}
+use Rattle.lists.proofs.Places.{element_at}
 use Rattle.lists.proofs.Zips.{zip_back, zip_length}
 use Rattle.verifying.proofs.SetInputs.{declared_bool}
 use Rattle.verifying.proofs.Premising.{constants_of}
-use Rattle.verifying.proofs.Slicing.{length-whole_row}
+use Rattle.verifying.proofs.Slicing.{whole_long}
 use Rattle.network.specs.Links.{Diagram}
 use Rattle.declared_names.specs.declared.declarations.Declaration.{Declaration}
-use Rattle.text_commands.specs.Sources.{IsLadderFrom, SourceValue}
+use Rattle.text_commands.specs.Sources.{AreRetainedFrom, IsLadderFrom, SourceValue}
 use Rattle.text_commands.specs.Rows.{RowValue, IsRow, SpellRows, texts}
 use Rattle.text_commands.specs.Steps.Sources.{RefusesFrom}
 use Rattle.text_commands.specs.Steps.Refusing.{RefusesRows}
@@ -31,14 +32,15 @@ use Rattle.verifying.specs.declared.setup.Setting.{Setting}
 use Rattle.verifying.specs.declared.verdict.Verdict.{Verdict}
 use Rattle.verifying.specs.declared.verdict.Verdict.TheVariants.{Holds, Fails, Undecided}
 use Rattle.power_flow.specs.LadderValue.{LadderValue}
-use Rattle.verifying.specs.Runs.{HasInputs, IsBoolAt, SetupValue}
+use Rattle.power_flow.specs.Meaning.{Moment}
+use Rattle.verifying.specs.Runs.{HasInputs, IsBoolAt, Leads, SetupValue, first, width}
 use Rattle.verifying.specs.Needed.{AreIdle, IsSearched, needed_places, whole_row}
-use Rattle.verifying.specs.Verdicts.{AreVerdicts}
+use Rattle.verifying.specs.Verdicts.{AreVerdicts, IsVerdict}
 use Rattle.verifying.specs.Inputs.{AreFree, AreInputs, IsInput}
-use Rattle.verifying.specs.Stores.{stored_places}
+use Rattle.text_commands.specs.Stores.{stored_places}
 use Rattle.verifying.specs.Premises.{HasTimer, IsTimed}
 use Rattle.verifying.specs.Questions.{HoldsInput, HoldsNoInput, IsClaim, IsNoClaim, QuestionValue}
-use Rattle.verifying.specs.VerifyText.{ExplainsAnswer, IsSetup}
+use Rattle.verifying.specs.VerifyText.{ExplainsAnswer, IsSetup, restarts_of}
 use Rattle.verifying.specs.Steps.Adding.{AreWholeRows, FitsSetup}
 use Rattle.verifying.specs.Steps.Asking.{AreHeldBy, IsAsked, IsPrepared, RefusesAsking, RefusesHolding, RefusesPreparing}
 use Rattle.verifying.specs.Steps.Wholes.{AreWholeVerdicts, IsMarkedLadder, IsSliced, IsSliceOrAll, IsWholeVerdict, RefusesFew, needed_count, searched_of, slice_setup}
@@ -272,12 +274,12 @@ pub asked_has_inputs : (ds : List Declaration) (networks : List Diagram) (marks 
 asked_has_inputs ds networks marks q a are asked = has_inputs ds networks a.free.items a.held.items (asked_inputs ds networks marks q a are asked)
 
 -- the ladder with what is asked
-abbrev pub setup_of : LadderValue → ℕ → Asked → SetupValue
-setup_of l dt a = record { ladder = l; dt = dt; free = a.free.items; held = a.held.items; given = a.given.items }
+abbrev pub setup_of : LadderValue → ℕ → Asked → Option (List ℕ) → SetupValue
+setup_of l dt a restarts = record { ladder = l; dt = dt; free = a.free.items; held = a.held.items; given = a.given.items; restarts = restarts }
 
-asked_setup : (source : SourceValue) (q : QuestionValue) (l : LadderValue) (marks : List Bool) (a : Asked) → IsLadderFrom source l.declarations l.networks
-    → AreLadderMarks l.declarations l.networks marks → IsAsked l.declarations marks q a → IsSetup source q (setup_of l q.dt a)
-asked_setup source q l marks a ladder are asked = record {
+asked_setup : (source : SourceValue) (q : QuestionValue) (l : LadderValue) (marks : List Bool) (retained : List ℕ) (a : Asked) (restarts : Option (List ℕ)) → IsLadderFrom source l.declarations l.networks → AreRetainedFrom source retained
+    → restarts ≡ restarts_of q.restarts l.declarations l.networks retained → AreLadderMarks l.declarations l.networks marks → IsAsked l.declarations marks q a → IsSetup source q (setup_of l q.dt a restarts)
+asked_setup source q l marks retained a restarts ladder kept are_restarts are asked = record {
   ladder = ladder;
   dt = refl;
   rows = asked.by.rows;
@@ -285,6 +287,9 @@ asked_setup source q l marks a ladder are asked = record {
   held = held_of l.declarations l.networks marks q.words asked.by.rows a.held.items are asked.by.read.each asked.by.each;
   inputs = asked_inputs l.declarations l.networks marks q a are asked;
   given = claims_of l.declarations l.networks marks q.given a.given.items are asked.givens;
+  retained = retained;
+  are_retained = kept;
+  restarts = are_restarts;
 }
 
 -- where nothing is idle, all is needed
@@ -313,14 +318,14 @@ idle_of l claims given idle None is = subst (AreIdle l.declarations l.networks c
 idle_of l claims given idle (Some s) is = is.are_idle
 
 -- what is searched
-searched_by : (l : LadderValue) (dt : ℕ) (a : Asked) (idle : List Bool) (slice : Option Slice) (needed : List ℕ) → IsSliceOrAll l a.claims.items a.given.items idle slice
+searched_by : (l : LadderValue) (dt : ℕ) (a : Asked) (restarts : Option (List ℕ)) (idle : List Bool) (slice : Option Slice) (needed : List ℕ) → IsSliceOrAll l a.claims.items a.given.items idle slice
     → needed ≡ needed_places idle a.free.items → length needed ≤ 20
-    → IsSearched (setup_of l dt a) a.claims.items idle (searched_of (option_map (slice_setup dt needed a.held.items a.given.items) slice) (setup_of l dt a))
+    → IsSearched (setup_of l dt a restarts) a.claims.items idle (searched_of (option_map (slice_setup dt needed a.held.items a.given.items restarts) slice) (setup_of l dt a restarts))
 unfolding all_needed
-searched_by l dt a idle None needed is same few =
+searched_by l dt a restarts idle None needed is same few =
     let free : needed ≡ a.free.items = same ∙ ap (λ i. needed_places i a.free.items) is ∙ needed_all a.free.items in
     let long : length needed ≡ length a.free.items = ap length free in
-    subst (λ i. IsSearched (setup_of l dt a) a.claims.items i (setup_of l dt a)) (sym is) (record {
+    subst (λ i. IsSearched (setup_of l dt a restarts) a.claims.items i (setup_of l dt a restarts)) (sym is) (record {
       are_idle = all_needed l.declarations l.networks a.claims.items a.given.items;
       declarations = refl;
       networks = sym (kept_all l.networks);
@@ -328,9 +333,10 @@ searched_by l dt a idle None needed is same few =
       free = sym (needed_all a.free.items);
       held = refl;
       given = refl;
+      restarts = refl;
       few = omega arith;
     })
-searched_by l dt a idle (Some s) needed is same few = record {
+searched_by l dt a restarts idle (Some s) needed is same few = record {
   are_idle = is.are_idle;
   declarations = is.declarations;
   networks = is.networks;
@@ -338,27 +344,28 @@ searched_by l dt a idle (Some s) needed is same few = record {
   free = same;
   held = refl;
   given = refl;
+  restarts = refl;
   few = few;
 }
 
-needed_by : (l : LadderValue) (dt : ℕ) (a : Asked) (idle : List Bool) (slice : Option Slice) (needed : List ℕ) (networks : ℕ) → IsSliceOrAll l a.claims.items a.given.items idle slice
+needed_by : (l : LadderValue) (dt : ℕ) (a : Asked) (restarts : Option (List ℕ)) (idle : List Bool) (slice : Option Slice) (needed : List ℕ) (networks : ℕ) → IsSliceOrAll l a.claims.items a.given.items idle slice
     → networks ≡ length l.networks
-    → needed_count slice networks ≡ length (searched_of (option_map (slice_setup dt needed a.held.items a.given.items) slice) (setup_of l dt a)).ladder.networks
-needed_by l dt a idle None needed networks is count = count
-needed_by l dt a idle (Some s) needed networks is count = is.count
+    → needed_count slice networks ≡ length (searched_of (option_map (slice_setup dt needed a.held.items a.given.items restarts) slice) (setup_of l dt a restarts)).ladder.networks
+needed_by l dt a restarts idle None needed networks is count = count
+needed_by l dt a restarts idle (Some s) needed networks is count = is.count
 
-pub asked_prepared : (source : SourceValue) (q : QuestionValue) (m : Marked) (a : Asked) (s : Sliced) (needed constants : List ℕ) → IsLadderFrom source m.ladder.declarations m.ladder.networks
-    → IsMarkedLadder m → IsAsked m.ladder.declarations m.marks.items q a → IsSliced m.ladder a.claims.items a.given.items s → needed ≡ needed_places s.idle.items a.free.items → length needed ≤ 20
+pub asked_prepared : (source : SourceValue) (q : QuestionValue) (m : Marked) (a : Asked) (restarts : Option (List ℕ)) (s : Sliced) (needed constants : List ℕ) → IsLadderFrom source m.ladder.declarations m.ladder.networks
+    → AreRetainedFrom source m.retained.items → restarts ≡ restarts_of q.restarts m.ladder.declarations m.ladder.networks m.retained.items → IsMarkedLadder m → IsAsked m.ladder.declarations m.marks.items q a → IsSliced m.ladder a.claims.items a.given.items s → needed ≡ needed_places s.idle.items a.free.items → length needed ≤ 20
     → IsTimed m.ladder.declarations q.dt → AreConstantsOf m.ladder.declarations m.marks.items (length m.ladder.declarations) constants
-    → IsPrepared source q (setup_of m.ladder q.dt a) s.idle.items (searched_of (option_map (slice_setup q.dt needed a.held.items a.given.items) s.slice) (setup_of m.ladder q.dt a)) a.claims.items constants
+    → IsPrepared source q (setup_of m.ladder q.dt a restarts) s.idle.items (searched_of (option_map (slice_setup q.dt needed a.held.items a.given.items restarts) s.slice) (setup_of m.ladder q.dt a restarts)) a.claims.items constants
     (needed_count s.slice m.networks) m.networks
-asked_prepared source q m a s needed constants ladder marked asked sliced same few timed found = record {
-  is = asked_setup source q m.ladder m.marks.items a ladder marked.marks asked;
+asked_prepared source q m a restarts s needed constants ladder kept are_restarts marked asked sliced same few timed found = record {
+  is = asked_setup source q m.ladder m.marks.items m.retained.items a restarts ladder kept are_restarts marked.marks asked;
   claims = claims_of m.ladder.declarations m.ladder.networks m.marks.items q.claims a.claims.items marked.marks asked.claimed;
-  searched = searched_by m.ladder q.dt a s.idle.items s.slice needed sliced same few;
+  searched = searched_by m.ladder q.dt a restarts s.idle.items s.slice needed sliced same few;
   timed = timed;
   are_constants = constants_of m.ladder.declarations m.ladder.networks m.marks.items constants marked.marks found;
-  needed_is = needed_by m.ladder q.dt a s.idle.items s.slice needed m.networks sliced marked.count;
+  needed_is = needed_by m.ladder q.dt a restarts s.idle.items s.slice needed m.networks sliced marked.count;
   networks_is = marked.count;
 }
 
@@ -392,13 +399,14 @@ few_refused source q m a s (TooManyInputs count) ladder marked asked sliced refu
 
 -- a timer stands still where no time passes
 pub time_refused : (source : SourceValue) (q : QuestionValue) (m : Marked) (a : Asked) (s : Sliced) (needed : List ℕ) (fault : VerifyFault) → IsLadderFrom source m.ladder.declarations m.ladder.networks
-    → IsMarkedLadder m → IsAsked m.ladder.declarations m.marks.items q a → IsSliced m.ladder a.claims.items a.given.items s → needed ≡ needed_places s.idle.items a.free.items → length needed ≤ 20
+    → AreRetainedFrom source m.retained.items → IsMarkedLadder m → IsAsked m.ladder.declarations m.marks.items q a → IsSliced m.ladder a.claims.items a.given.items s → needed ≡ needed_places s.idle.items a.free.items → length needed ≤ 20
     → (fault ≡ NoTime) × (q.dt ≡ 0) × HasTimer m.ladder.declarations → RefusesPreparing source q fault
-time_refused source q m a s needed fault ladder marked asked sliced same few (none, still, timer) =
+time_refused source q m a s needed fault ladder kept marked asked sliced same few (none, still, timer) =
+    let restarts = restarts_of q.restarts m.ladder.declarations m.ladder.networks m.retained.items in
     let long : length needed ≡ length (needed_places s.idle.items a.free.items) = ap length same in
     subst (RefusesPreparing source q) (sym none) (record {
-      setup = setup_of m.ladder q.dt a;
-      is = asked_setup source q m.ladder m.marks.items a ladder marked.marks asked;
+      setup = setup_of m.ladder q.dt a restarts;
+      is = asked_setup source q m.ladder m.marks.items m.retained.items a restarts ladder kept refl marked.marks asked;
       places = a.claims.items;
       claims = claims_of m.ladder.declarations m.ladder.networks m.marks.items q.claims a.claims.items marked.marks asked.claimed;
       idle = s.idle.items;
@@ -408,19 +416,29 @@ time_refused source q m a s needed fault ladder marked asked sliced same few (no
       timer = timer;
     })
 
--- each row of a run of the whole has a value for each free input
-fits_of : (u : SetupValue) (idle : List Bool) (found told : Verdict) → IsWholeVerdict idle u.free found told → FitsSetup u told
-fits_of u idle found Holds is = tt
-fits_of u idle found (Undecided depth) is = tt
-fits_of u idle Holds (Fails whole) is = absurd cc
-fits_of u idle (Undecided depth) (Fails whole) is = absurd cc
-fits_of u idle (Fails rows) (Fails whole) is =
-    subst (AreWholeRows u) (sym is) (All-map (λ (row : List Bool). length row ≡ length u.free) (whole_row idle u.free) rows.items (λ k d lt. length-whole_row idle u.free (get_or rows.items k d)))
+-- each row of a run has all its digits
+leads_whole : (v : SetupValue) (rows : List (List Bool)) (s t : Moment) → Leads v s rows t → (k : ℕ) (row : List Bool) → slice_get rows k ≡ Some row → length row ≡ width v
+leads_whole v [] s t leads k row at = absurd (none-some row at)
+leads_whole v (r ∷ rows) s t (between, step, rest) zero row at = subst (λ (x : List Bool). length x ≡ width v) (same_Some r row at) step.scan.whole
+leads_whole v (r ∷ rows) s t (between, step, rest) (suc k) row at = leads_whole v rows between t rest k row at
 
-pub verdicts_fit : (u : SetupValue) (idle : List Bool) (found told : List Verdict) → AreWholeVerdicts idle u.free found told → All (FitsSetup u) told
-verdicts_fit u idle found told whole = all_from_places (FitsSetup u) told (λ k verdict at.
+-- so has each of the whole
+fits_of : (u v : SetupValue) (claims : List ℕ) (idle : List Bool) (most scans place : ℕ) (found told : Verdict) → IsSearched u claims idle v → IsVerdict v most scans place found → IsWholeVerdict idle u.free found told → FitsSetup u told
+fits_of u v claims idle most scans place found Holds i verdict is = tt
+fits_of u v claims idle most scans place found (Undecided depth) i verdict is = tt
+fits_of u v claims idle most scans place Holds (Fails whole) i verdict is = absurd cc
+fits_of u v claims idle most scans place (Undecided depth) (Fails whole) i verdict is = absurd cc
+fits_of u v claims idle most scans place (Fails rows) (Fails whole) i verdict is =
+    subst (AreWholeRows u) (sym is) (All-map (λ (row : List Bool). length row ≡ width u) (whole_row idle u.free) rows.items
+    (λ k d lt. whole_long u v claims idle (get_or rows.items k d) i (leads_whole v rows.items (first v) verdict.last verdict.run k (get_or rows.items k d) (slice_get-get_or rows.items k d lt))))
+
+pub verdicts_fit : (u v : SetupValue) (claims places : List ℕ) (idle : List Bool) (most scans : ℕ) (found told : List Verdict) → IsSearched u claims idle v → AreVerdicts v most scans places found
+    → AreWholeVerdicts idle u.free found told → All (FitsSetup u) told
+verdicts_fit u v claims places idle most scans found told i are whole = all_from_places (FitsSetup u) told (λ k verdict at.
     let old = zip_back (IsWholeVerdict idle u.free) found told whole k verdict at in
-    fits_of u idle old.0 verdict old.2)
+    let within : k < length places = let w = slice_get_within found k old.0 old.1 in let long = are.long in omega arith in
+    let place = element_at places k within in
+    fits_of u v claims idle most scans place.0 old.0 verdict i (are.each k place.0 old.0 place.1 old.1) old.2)
 
 -- a verdict for each name
 pub names_long : (u v : SetupValue) (most scans : ℕ) (names : List (Bor (List ℕ))) (places : List ℕ) (idle : List Bool) (found told : List Verdict)

@@ -1,3 +1,4 @@
+pub mod Restarting
 pub mod FreeInputs
 pub mod RowNumbers
 pub mod SetInputs
@@ -11,7 +12,6 @@ pub mod Beginning
 pub mod Exploring
 pub mod Counting
 pub mod Chaining
-pub mod Storing
 pub mod Marking
 pub mod Premising
 pub mod Reading

@@ -1,13 +1,13 @@
 -- Constants are found one after the other, and premises are written one after the other.
-use Rattle.std.proofs.Common.{◌≡◌, ℕ, ◌+◌, ◌<◌, ◌++◌, List, [], ◌∷◌, Bool, inl, inr, Contains, codes, length, map, refl, sym, ap, ◌∙◌, subst, arith}
+use Rattle.std.proofs.Common.{◌≡◌, ℕ, ◌+◌, ◌<◌, ◌++◌, List, [], ◌∷◌, Bool, true, false, Option, Some, None, is_some, inl, inr, Contains, codes, length, map, refl, sym, ap, ◌∙◌, subst, arith}
 use Rattle.std.specs.List.{flat_map, join_by}
 use Rattle.std.proofs.lemmas.Bool.{cases_eq}
 use Rattle.std.proofs.lemmas.List.Elements.{Contains-append_left, Contains-append_right, Contains-append_cases}
 use Rattle.std.proofs.lemmas.Option.{slice_get_within}
 use Rattle.network.specs.Links.{Diagram}
 use Rattle.declared_names.specs.declared.declarations.Declaration.{Declaration}
-use Rattle.verifying.specs.Premises.{AreConstants, IsNumberAt, IsTimerAt, premise_line}
-use Rattle.verifying.specs.Stores.{stored_places}
+use Rattle.verifying.specs.Premises.{AreConstants, IsNumberAt, IsTimerAt, premise_line, restart_premises}
+use Rattle.text_commands.specs.Stores.{stored_places}
 use Rattle.verifying.specs.Steps.Marks.{AreConstantsOf, AreMarksOf, IsConstantOf}
 use Rattle.verifying.proofs.Joining.{three_parts}
 use Rattle.verifying.proofs.Marking.{single, ascending_push}
@@ -81,3 +81,12 @@ line_written f (x ∷ made) all t joined t1 t2 t3 are some is one two three =
     subst (λ a. t3 ≡ t ++ premise_line a) are
     (three_parts t (codes "given ") joined (codes "\n") t1 t2 t3 one two three
     ∙ ap (λ j. t ++ (codes "given " ++ j ++ codes "\n")) (is ∙ joined_texts f (codes ", ") (x ∷ made)))
+
+-- whether runs may restart
+pub no_restarts : (restarts : Option (List ℕ)) → is_some restarts ≡ false → restart_premises restarts ≡ []
+no_restarts None none = refl
+no_restarts (Some kept) none = absurd cc
+
+pub some_restarts : (restarts : Option (List ℕ)) → is_some restarts ≡ true → restart_premises restarts ≡ codes "restarts before any scan" ∷ []
+some_restarts None some = absurd cc
+some_restarts (Some kept) some = refl

@@ -1,9 +1,11 @@
 -- Words are written one after the other.
-use Rattle.std.proofs.Common.{◌≡◌, ℕ, ◌+◌, ◌<◌, ◌≤◌, ◌++◌, List, [], ◌∷◌, Bool, false, Option, length, take, get_or, map, slice_get, unwrap_or, codes, refl, sym, ap, ◌∙◌, arith, zero, suc, append_assoc}
+use Rattle.std.proofs.Common.{◌≡◌, ℕ, ◌+◌, ◌<◌, ◌≤◌, ◌++◌, List, [], ◌∷◌, Bool, true, false, Option, length, take, get_or, map, slice_get, unwrap_or, codes, refl, sym, ap, ◌∙◌, arith, zero, suc, append_assoc}
+use Rattle.std.specs.Prelude.{if◌then◌else◌}
 use Rattle.std.specs.List.{enumerate_from, flat_map}
 use Rattle.std.proofs.lemmas.List.{append-nil, flat_map_more, take_all, take_more}
 use Rattle.declared_names.specs.declared.declarations.Declaration.{Declaration}
-use Rattle.verifying.specs.VerdictLines.{digit_of, digits_of_free, free_words, input_word, name_at}
+use Rattle.verifying.specs.Runs.{restarts_in}
+use Rattle.verifying.specs.VerdictLines.{digit_of, digits_of_free, free_words, input_word, name_at, restart_scans}
 
 map_push : {X Y : Type 0} (f : X → Y) (xs : List X) (x : X) → map f (xs ++ x ∷ []) ≡ map f xs ++ f x ∷ []
 map_push f [] x = refl
@@ -25,11 +27,11 @@ digit_step rows input i d on found init old new within is on_is before added =
     = ap (λ t. digits_of_free t input) (take_more rows i d within) ∙ map_push (λ (row : List Bool). digit_of (get_or row input false)) (take i rows) (get_or rows i d) in
     added ∙ ap (λ t. t ++ digit_of on ∷ []) before ∙ append_assoc init digits (digit_of on ∷ []) ∙ ap (λ b. init ++ (digits ++ digit_of b ∷ [])) value ∙ ap (λ t. init ++ t) (sym more)
 
-length-numbered : (n : ℕ) (xs : List ℕ) → length (enumerate_from n xs) ≡ length xs
+length-numbered : {X : Type 0} (n : ℕ) (xs : List X) → length (enumerate_from n xs) ≡ length xs
 length-numbered n [] = refl
 length-numbered n (x ∷ xs) = ap suc (length-numbered (n + 1) xs)
 
-numbered_at : (n : ℕ) (xs : List ℕ) (i d : ℕ) → i < length xs → get_or (enumerate_from n xs) i (0, d) ≡ (n + i, get_or xs i d)
+numbered_at : {X : Type 0} (n : ℕ) (xs : List X) (i : ℕ) (d : X) → i < length xs → get_or (enumerate_from n xs) i (0, d) ≡ (n + i, get_or xs i d)
 numbered_at n [] i d within = absurd (omega arith)
 numbered_at n (x ∷ xs) zero d within = let e : n ≡ n + 0 = omega arith in ap (λ m. (m, x)) e
 numbered_at n (x ∷ xs) (suc i) d within =
@@ -65,3 +67,38 @@ words_done ds free rows i init old past before =
     let word : ℕ × ℕ → List ℕ = λ e. input_word (name_at ds e.1) (digits_of_free rows e.0) in
     let long = length-numbered 0 free in
     before ∙ ap (λ t. init ++ flat_map word t) (take_all i (enumerate_from 0 free) (omega arith))
+
+-- the scan of one more row, if the run restarts before it
+scan_step : (inputs : ℕ) (rows : List (List Bool)) (k : ℕ) (d : List Bool) (old new : List ℕ) → k < length rows
+    → old ≡ flat_map (λ (e : ℕ × List Bool). if restarts_in inputs e.1 then e.0 ∷ [] else []) (take k (enumerate_from 1 rows))
+    → new ≡ old ++ (if restarts_in inputs (get_or rows k d) then (1 + k) ∷ [] else [])
+    → new ≡ flat_map (λ (e : ℕ × List Bool). if restarts_in inputs e.1 then e.0 ∷ [] else []) (take (k + 1) (enumerate_from 1 rows))
+scan_step inputs rows k d old new within before added =
+    let scan : ℕ × List Bool → List ℕ = λ e. if restarts_in inputs e.1 then e.0 ∷ [] else [] in
+    let numbered = enumerate_from 1 rows in
+    let long = length-numbered 1 rows in
+    let inside : k < length numbered = omega arith in
+    let here : ℕ × List Bool = (1 + k, get_or rows k d) in
+    let more : take (k + 1) numbered ≡ take k numbered ++ here ∷ [] = take_more numbered k (0, d) inside ∙ ap (λ e. take k numbered ++ e ∷ []) (numbered_at 1 rows k d within) in
+    added ∙ ap (λ t. t ++ scan here) before ∙ flat_map_more scan [] (take k numbered) here ∙ ap (flat_map scan) (sym more)
+
+pub scan_pushed : (inputs : ℕ) (rows : List (List Bool)) (k : ℕ) (d : List Bool) (old new : List ℕ) → k < length rows → restarts_in inputs (get_or rows k d) ≡ true
+    → old ≡ flat_map (λ (e : ℕ × List Bool). if restarts_in inputs e.1 then e.0 ∷ [] else []) (take k (enumerate_from 1 rows)) → new ≡ old ++ (k + 1) ∷ []
+    → new ≡ flat_map (λ (e : ℕ × List Bool). if restarts_in inputs e.1 then e.0 ∷ [] else []) (take (k + 1) (enumerate_from 1 rows))
+scan_pushed inputs rows k d old new within on before added =
+    let e : k + 1 ≡ 1 + k = omega arith in
+    scan_step inputs rows k d old new within before
+    (added ∙ ap (λ n. old ++ n ∷ []) e ∙ ap (λ b. old ++ (if b then (1 + k) ∷ [] else [])) (sym on))
+
+pub scan_same : (inputs : ℕ) (rows : List (List Bool)) (k : ℕ) (d : List Bool) (old new : List ℕ) → k < length rows → restarts_in inputs (get_or rows k d) ≡ false
+    → old ≡ flat_map (λ (e : ℕ × List Bool). if restarts_in inputs e.1 then e.0 ∷ [] else []) (take k (enumerate_from 1 rows)) → new ≡ old
+    → new ≡ flat_map (λ (e : ℕ × List Bool). if restarts_in inputs e.1 then e.0 ∷ [] else []) (take (k + 1) (enumerate_from 1 rows))
+scan_same inputs rows k d old new within off before same =
+    scan_step inputs rows k d old new within before
+    (same ∙ sym (append-nil old) ∙ ap (λ b. old ++ (if b then (1 + k) ∷ [] else [])) (sym off))
+
+pub scans_done : (inputs : ℕ) (rows : List (List Bool)) (k : ℕ) (old : List ℕ) → length rows ≤ k
+    → old ≡ flat_map (λ (e : ℕ × List Bool). if restarts_in inputs e.1 then e.0 ∷ [] else []) (take k (enumerate_from 1 rows)) → old ≡ restart_scans inputs rows
+scans_done inputs rows k old past before =
+    let long = length-numbered 1 rows in
+    before ∙ ap (flat_map (λ (e : ℕ × List Bool). if restarts_in inputs e.1 then e.0 ∷ [] else [])) (take_all k (enumerate_from 1 rows) (omega arith))

@@ -3,7 +3,6 @@ pub mod Meeting
 pub mod Verdicts
 pub mod Counts
 pub mod Needed
-pub mod Stores
 pub mod Inputs
 pub mod Questions
 pub mod VerdictLines

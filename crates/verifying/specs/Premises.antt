@@ -1,5 +1,5 @@
 -- What the answers about a drawing depend on, beside the drawing and its free inputs.
-use Rattle.std.specs.Prelude.{◌≡◌, ◌↔◌, ℕ, ◌==◌, ◌<◌, ◌++◌, if◌then◌else◌, List, [], ◌∷◌, Bool, true, false, IsTrue, Some, Contains, codes, map, slice_get}
+use Rattle.std.specs.Prelude.{◌≡◌, ◌↔◌, ℕ, ◌==◌, ◌<◌, ◌++◌, if◌then◌else◌, List, [], ◌∷◌, Bool, true, false, IsTrue, Option, Some, None, Contains, codes, map, slice_get}
 use Rattle.std.specs.Fmt.{decimal}
 use Rattle.std.specs.List.{AllPairs, join_by}
 use Rattle.std.specs.Option.{option_map_or}
@@ -16,7 +16,7 @@ use Rattle.network.specs.Links.{Diagram}
 use Rattle.text_commands.specs.Lines.{item_text}
 use Rattle.verifying.specs.declared.setup.Setting.{Setting}
 use Rattle.verifying.specs.Runs.{SetupValue}
-use Rattle.verifying.specs.Stores.{IsStored}
+use Rattle.text_commands.specs.Stores.{IsStored}
 use Rattle.verifying.specs.VerdictLines.{name_at}
 
 -- the blocks that stand still while no time passes
@@ -92,11 +92,17 @@ first_of (Instance block) name = []
 abbrev pub constant_premise : List Declaration → ℕ → List ℕ
 constant_premise ds place = option_map_or (λ (e : Declaration). first_of e.declared e.name) (slice_get ds place) []
 
--- the time, the inputs that are held, in the order of the words, the constants, in that of their declarations, and the
--- names that are given
+-- that runs may restart, if they may
+abbrev pub restart_premises : Option (List ℕ) → List (List ℕ)
+restart_premises None = []
+restart_premises (Some kept) = codes "restarts before any scan" ∷ []
+
+-- the time, the inputs that are held, in the order of the words, the constants, in that of their declarations, the
+-- names that are given, and that runs may restart
 abbrev pub premises : SetupValue → List ℕ → List (List ℕ)
 premises u constants = dt_premises u.dt ++ map (held_premise u.ladder.declarations) u.held
     ++ map (constant_premise u.ladder.declarations) constants ++ map (name_at u.ladder.declarations) u.given
+    ++ restart_premises u.restarts
 
 -- a line of them, if there are any
 abbrev pub premise_line : List (List ℕ) → List ℕ

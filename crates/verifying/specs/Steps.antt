@@ -4,4 +4,5 @@ pub mod Table
 pub mod Marks
 pub mod Asking
 pub mod Adding
+pub mod Keeping
 pub mod Wholes

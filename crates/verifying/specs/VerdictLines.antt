@@ -10,7 +10,7 @@ use Rattle.verifying.specs.declared.setup.Setting.{Setting}
 use Rattle.verifying.specs.declared.verdict.Tally.{Tally}
 use Rattle.verifying.specs.declared.verdict.Verdict.{Verdict}
 use Rattle.verifying.specs.declared.verdict.Verdict.TheVariants.{Holds, Fails, Undecided}
-use Rattle.verifying.specs.Runs.{SetupValue, ScansWith, first}
+use Rattle.verifying.specs.Runs.{SetupValue, ScansWith, first, restarts_in}
 
 -- a number of things: `1 scan`, `2 scans`
 abbrev pub counted : ℕ → List ℕ → List ℕ
@@ -81,11 +81,21 @@ held_words ds held rows =
 abbrev pub dt_words : ℕ → List ℕ
 dt_words dt = if dt == 0 then [] else codes " --dt " ++ decimal dt
 
+-- the scans before which a run restarts, counted from 1; so many digits stand before that which tells
+abbrev pub restart_scans : ℕ → List (List Bool) → List ℕ
+restart_scans inputs rows =
+    flat_map (λ (e : ℕ × List Bool). if restarts_in inputs e.1 then e.0 ∷ [] else []) (enumerate_from 1 rows)
+
+-- the option of `plc eval` for them, where there are any
+abbrev pub restart_words : List ℕ → List ℕ
+restart_words [] = []
+restart_words (scan ∷ scans) = codes " --restart " ++ join_by decimal (codes ",") (scan ∷ scans)
+
 -- the words that have `plc eval` make a run
 abbrev pub eval_line : SetupValue → List ℕ → List (List Bool) → List ℕ
 eval_line u file rows =
-    codes "plc eval " ++ file ++ dt_words u.dt ++ free_words u.ladder.declarations u.free rows
-    ++ held_words u.ladder.declarations u.held rows ++ codes "\n"
+    codes "plc eval " ++ file ++ dt_words u.dt ++ restart_words (restart_scans (length u.free) rows)
+    ++ free_words u.ladder.declarations u.free rows ++ held_words u.ladder.declarations u.held rows ++ codes "\n"
 
 -- what `plc eval` can make: a run of 1,000 scans at most, and of one where there is no input
 abbrev pub can_be_words : SetupValue → ℕ → Bool

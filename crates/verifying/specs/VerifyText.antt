@@ -1,11 +1,12 @@
 -- What `plc verify` writes.
-use Rattle.std.specs.Prelude.{◌≡◌, ◌↔◌, ◌⊎◌, ℕ, ◌<◌, ◌≤◌, ◌++◌, List, Bool, All, IsTrue, Option, length}
+use Rattle.std.specs.Prelude.{◌≡◌, ◌↔◌, ◌⊎◌, ℕ, ◌<◌, ◌≤◌, ◌++◌, if◌then◌else◌, List, Bool, All, IsTrue, Option, Some, None, length}
 use Rattle.std.specs.List.{AllZip}
 use Rattle.std.specs.Io.KnownBytes.{Appends, Keeps}
 use Rattle.network.specs.Links.{Diagram}
 use Rattle.declared_names.specs.declared.declarations.Declaration.{Declaration}
 use Rattle.text_lines.specs.Sending.{SendsLess}
-use Rattle.text_commands.specs.Sources.{IsLadderFrom, RefusesName, RefusesSource, RefusesWords, SourceValue}
+use Rattle.text_commands.specs.Restarts.{kept_places}
+use Rattle.text_commands.specs.Sources.{AreRetainedFrom, IsLadderFrom, RefusesName, RefusesSource, RefusesWords, SourceValue}
 use Rattle.text_commands.specs.Rows.{RowValue, SpellRows}
 use Rattle.text_commands.specs.declared.text_command_fault.TextCommandFault.TheVariants.{Text, Word, Write, Memory}
 use Rattle.verifying.specs.declared.setup.Setting.{Setting}
@@ -25,7 +26,12 @@ use Rattle.verifying.specs.Summaries.{IsSummary}
 use Rattle.verifying.specs.declared.verify_fault.VerifyFault.{VerifyFault}
 use Rattle.verifying.specs.declared.verify_fault.VerifyFault.TheVariants.{Command, Claim, Given, Held, TooManyInputs, NoTime}
 
--- The ladder of the source with its inputs: those that the words hold, and all others free; and what is given.
+-- the places that are kept where runs may restart, if this is asked: the inputs and the retained variables
+abbrev pub restarts_of : Bool → List Declaration → List Diagram → List ℕ → Option (List ℕ)
+restarts_of asked ds networks retained = if asked then Some (kept_places ds networks retained) else None
+
+-- The ladder of the source with its inputs: those that the words hold, and all others free; what is given; and what is
+-- kept where runs may restart, if this is asked.
 pub record IsSetup (source : SourceValue) (q : QuestionValue) (u : SetupValue) : Type 0 where
   pub ladder : IsLadderFrom source u.ladder.declarations u.ladder.networks
   pub dt : u.dt ≡ q.dt
@@ -34,6 +40,9 @@ pub record IsSetup (source : SourceValue) (q : QuestionValue) (u : SetupValue) :
   pub held : AllZip (HoldsInput u.ladder.declarations u.ladder.networks) rows u.held
   pub inputs : AreInputs u.ladder.declarations u.ladder.networks u.free u.held
   pub given : AllZip (IsClaim u.ladder.declarations u.ladder.networks) q.given u.given
+  pub retained : List ℕ
+  pub are_retained : AreRetainedFrom source retained
+  pub restarts : u.restarts ≡ restarts_of q.restarts u.ladder.declarations u.ladder.networks retained
 
 -- A text that answers the question: the ladder with its inputs, the claims at their places, what is searched in its place, a
 -- verdict for each claim that is proved of all runs of the whole ladder, with the numbers of states and scans, of networks

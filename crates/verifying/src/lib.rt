@@ -18,7 +18,6 @@ mod row;
 mod run_lines;
 mod search;
 mod setup;
-mod stored;
 mod summary;
 mod verdict;
 mod verdict_lines;

@@ -3,7 +3,7 @@
 ghost use Rattle.std.specs.Prelude.{◌≡◌, ◌↔◌, ◌++◌, IsTrue, IfOk, IfErr, OnOk, length, map, string_bytes};
 ghost use Rattle.text_lines.specs.Growing.{GrowsBy};
 ghost use Rattle.text_commands.specs.Lines.{item_text};
-ghost use Rattle.verifying.specs.Premises.{HasTimer, IsNumber, IsNumberAt, IsTimed, IsTimer, IsTimerAt, constant_premise, dt_premises, held_premise, is_number, is_timer, premise_line, premises};
+ghost use Rattle.verifying.specs.Premises.{HasTimer, IsNumber, IsNumberAt, IsTimed, IsTimer, IsTimerAt, constant_premise, dt_premises, held_premise, is_number, is_timer, premise_line, premises, restart_premises};
 ghost use Rattle.verifying.specs.VerdictLines.{name_at};
 ghost use Rattle.verifying.specs.Steps.Marks.{AreConstantsOf, IsConstantOf};
 
@@ -213,7 +213,19 @@ fn push_given(
     Ok(())
 }
 
-/// The time, the inputs that are held, the constants, and what is given.
+/// Adds that runs may restart, if they may.
+fn push_restarts(alloc: Global, made: &mut Vec<String>, setup: &Setup) -> Result<(), AllocError>
+    ensures { OnOk result (map (λ p. string_bytes p) made.new.items
+        ≡ map (λ p. string_bytes p) made.old.items ++ restart_premises setup.now.restarts) }
+{
+    if !setup.restarts() {
+        return Ok(());
+    }
+    made.push(String::from_str(alloc, "restarts before any scan")?)?;
+    Ok(())
+}
+
+/// The time, the inputs that are held, the constants, what is given, and that runs may restart.
 fn premises(alloc: Global, setup: &Setup, constants: &[usize]) -> Result<Vec<String>, AllocError>
     ensures { IfOk result (λ made. map (λ p. string_bytes p) made.items ≡ premises setup.now constants.now) }
 {
@@ -222,6 +234,7 @@ fn premises(alloc: Global, setup: &Setup, constants: &[usize]) -> Result<Vec<Str
     push_held(alloc, &mut made, declarations, setup.held())?;
     push_constants(alloc, &mut made, declarations, constants)?;
     push_given(alloc, &mut made, declarations, setup.given())?;
+    push_restarts(alloc, &mut made, setup)?;
     Ok(made)
 }
 

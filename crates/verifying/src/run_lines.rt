@@ -18,7 +18,7 @@ pub(crate) fn run_lines(alloc: Global, setup: &Setup, rows: &[Row]) -> Result<St
     let mut text = String::new(alloc);
     let mut state = setup.begin(alloc)?;
     for row in rows {
-        setup.step(row, &mut state);
+        setup.step(alloc, row, &mut state)?;
         let line = state_line(alloc, setup.ladder().declarations(), &state)?;
         text.push_str(line.as_str())?;
     }

@@ -150,7 +150,7 @@ fn push_run(
 {
     push_fails(text, name, rows.len())?;
     if can_be_words(setup, rows.len()) {
-        push_eval_line(text, setup, file, rows)?;
+        push_eval_line(alloc, text, setup, file, rows)?;
     }
     let lines = run_lines(alloc, setup, rows)?;
     text.push_str(lines.as_str())

@@ -1,14 +1,14 @@
 //! The words that have `plc eval` make a run.
 
-ghost use Rattle.std.specs.Prelude.{◌≡◌, [], ◌∷◌, OnOk};
+ghost use Rattle.std.specs.Prelude.{◌≡◌, [], ◌∷◌, IfOk, OnOk, length};
 ghost use Rattle.text_lines.specs.Growing.{GrowsBy};
-ghost use Rattle.verifying.specs.VerdictLines.{can_be_words, digit_of, digits_of_free, digits_of_held, dt_words, eval_line, free_words, held_words, input_word, name_at};
+ghost use Rattle.verifying.specs.VerdictLines.{can_be_words, digit_of, digits_of_free, digits_of_held, dt_words, eval_line, free_words, held_words, input_word, name_at, restart_scans, restart_words};
 
 use crate::names::name_at;
 use crate::row::Row;
 use crate::setup::{Setting, Setup};
 use declared_names::Declarations;
-use std::alloc::AllocError;
+use std::alloc::{AllocError, Global};
 use std::fmt::Write;
 
 fn push_digit(text: &mut String, on: bool) -> Result<(), AllocError>
@@ -85,6 +85,32 @@ fn push_dt(text: &mut String, dt: u32) -> Result<(), AllocError>
     }
 }
 
+/// The scans before which a run of these rows restarts, counted from 1.
+fn restart_scans(alloc: Global, setup: &Setup, rows: &[Row]) -> Result<Vec<usize>, AllocError>
+    ensures { IfOk result (λ scans. scans.items ≡ restart_scans (length setup.now.free) rows.now) }
+{
+    let mut scans = Vec::new(alloc);
+    for (k, row) in rows.iter().enumerate() {
+        if setup.restarts_in(row) {
+            scans.push(k + 1)?;
+        }
+    }
+    Ok(scans)
+}
+
+fn push_restarts(text: &mut String, scans: &[usize]) -> Result<(), AllocError>
+    ensures { OnOk result (GrowsBy text.old text.new (restart_words scans.now)) }
+{
+    let [first, others @ ..] = scans else {
+        return Ok(());
+    };
+    write!(text, " --restart {first}")?;
+    for scan in others {
+        write!(text, ",{scan}")?;
+    }
+    Ok(())
+}
+
 /// Whether `plc eval` can make a run of so many scans.
 pub(crate) fn can_be_words(setup: &Setup, scans: usize) -> bool
     ensures { result ≡ can_be_words setup.now scans }
@@ -94,6 +120,7 @@ pub(crate) fn can_be_words(setup: &Setup, scans: usize) -> bool
 
 /// Writes the words that have `plc eval` make a run, and a line feed.
 pub(crate) fn push_eval_line(
+    alloc: Global,
     text: &mut String,
     setup: &Setup,
     file: &str,
@@ -104,6 +131,8 @@ pub(crate) fn push_eval_line(
     let declarations = setup.ladder().declarations();
     write!(text, "plc eval {file}")?;
     push_dt(text, setup.dt())?;
+    let scans = restart_scans(alloc, setup, rows)?;
+    push_restarts(text, &scans)?;
     push_free_words(text, declarations, setup.free(), rows)?;
     push_held_words(text, declarations, setup.held(), rows)?;
     text.push_str("\n")

@@ -1,12 +1,14 @@
-ghost use Rattle.std.specs.Prelude.{◌≡◌, ◌↔◌, ℕ, List, IfOk, IfErr, IsTrue, Some, string_bytes};
+ghost use Rattle.std.specs.Prelude.{◌≡◌, ◌↔◌, ℕ, List, [], IfOk, IfErr, IsTrue, Some, string_bytes};
 ghost use Rattle.std.specs.Option.{option_map};
 ghost use Rattle.needed_networks.specs.declared.slice.Slice.{Slice as SliceValue};
 ghost use Rattle.text_commands.specs.EvalText.{IsLadderOfDrawing, IsLadderOfText};
-ghost use Rattle.text_commands.specs.Sources.{IsLadderFrom, source_of};
+ghost use Rattle.plant_grammar.specs.Retained.{retained_places};
+ghost use Rattle.text_commands.specs.Sources.{AreRetainedFrom, IsLadderFrom, source_of};
 ghost use Rattle.text_commands.specs.Steps.Sources.{RefusesFrom};
 ghost use Rattle.text_commands.specs.Steps.Refusing.{RefusesLadder, RefusesLadderOfText};
 ghost use Rattle.verifying.specs.Questions.{question_of};
-ghost use Rattle.verifying.specs.VerifyText.{ExplainsAnswer, WritesAnswer};
+ghost use Rattle.verifying.specs.VerifyText.{ExplainsAnswer, WritesAnswer, restarts_of};
+ghost use Rattle.verifying.specs.Steps.Keeping.{places_kept};
 ghost use Rattle.verifying.specs.Needed.{IsSearched};
 ghost use Rattle.verifying.specs.Runs.{HasInputs, HasRun};
 ghost use Rattle.verifying.specs.Steps.Wholes.{AreGraphMarks, IsMarkedLadder, needed_count, searched_of, slice_setup};
@@ -23,7 +25,6 @@ use crate::premises::{check_time, constant_places, push_premise_line};
 use crate::question::Question;
 use crate::search::verify;
 use crate::setup::{Setting, Setup};
-use crate::stored::stored_places;
 use crate::summary::{Summary, summary_of};
 use crate::verdict::{Found, Tally};
 use crate::verdict_lines::verdict_texts;
@@ -36,17 +37,18 @@ use name_faults::Guess;
 use needed_networks::{Slice, slices_follow};
 use network::Graph;
 use plant::{ProgramType, program_has_one_ladder};
+use plant_grammar::retained_places;
 use power_flow::Ladder;
 use std::alloc::{AllocError, Global};
 use std::io::Write;
 use text_commands::{
-    LadderSource, TextCommandFault, TextFault, no_program, read_program, read_rows,
-    without_comments,
+    LadderSource, TextCommandFault, TextFault, kept_places, no_program, read_program, read_rows,
+    stored_places, without_comments,
 };
 use text_lines::{Progress, write_text};
 
-/// A ladder, a mark for each name at which it stores, the places of its left rail, how many networks it has, and the text of
-/// its drawing.
+/// A ladder, a mark for each name at which it stores, the places of its left rail, how many networks it has, the text
+/// of its drawing, and the places of its retained variables.
 #[derive(Drop)]
 struct Marked {
     ladder: Ladder,
@@ -54,6 +56,7 @@ struct Marked {
     rails: Vec<Place>,
     networks: usize,
     drawing: String,
+    retained: Vec<usize>,
 }
 
 /// What is known of a graph and the names that are declared for it: a mark for each at which it stores, the places of its
@@ -87,6 +90,7 @@ fn graph_marks(
 fn marked_of_text(alloc: Global, text: &str) -> Result<Marked, TextCommandFault>
     ensures ladder { IfOk result (λ m. IsLadderOfText text.now m.ladder.declarations m.ladder.networks) }
     ensures marked { IfOk result IsMarkedLadder }
+    ensures retained { IfOk result (λ m. m.retained.items ≡ []) }
     ensures err { IfErr result (RefusesLadderOfText text.now) }
 {
     let drawing = Drawing::read(alloc, text, 1)?;
@@ -101,6 +105,7 @@ fn marked_of_text(alloc: Global, text: &str) -> Result<Marked, TextCommandFault>
         rails: known.rails,
         networks: known.networks,
         drawing,
+        retained: Vec::new(alloc),
     })
 }
 
@@ -108,6 +113,7 @@ fn marked_of_text(alloc: Global, text: &str) -> Result<Marked, TextCommandFault>
 fn marked_of_drawing(alloc: Global, drawing: &str) -> Result<Marked, TextCommandFault>
     ensures ladder { IfOk result (λ m. IsLadderOfDrawing drawing.now m.ladder.declarations m.ladder.networks) }
     ensures marked { IfOk result IsMarkedLadder }
+    ensures retained { IfOk result (λ m. m.retained.items ≡ []) }
     ensures err { IfErr result (RefusesLadder drawing.now) }
 {
     match marked_of_text(alloc, drawing) {
@@ -142,6 +148,7 @@ fn same_declarations(alloc: Global, declarations: &Declarations) -> Result<Decla
 fn marked_of_type(alloc: Global, found: &ProgramType) -> Result<Marked, AllocError>
     ensures ladder { IfOk result (λ m. m.ladder ≡ found.now.ladder) }
     ensures marked { IfOk result IsMarkedLadder }
+    ensures retained { IfOk result (λ m. m.retained.items ≡ retained_places found.now.program) }
 {
     program_has_one_ladder();
     let body = found.program().body.as_str();
@@ -157,12 +164,14 @@ fn marked_of_type(alloc: Global, found: &ProgramType) -> Result<Marked, AllocErr
         return Err(AllocError);
     };
     let drawing = String::from_str(alloc, body)?;
+    let retained = retained_places(alloc, found.program())?;
     Ok(Marked {
         ladder,
         marks: known.marks,
         rails: known.rails,
         networks: known.networks,
         drawing,
+        retained,
     })
 }
 
@@ -171,6 +180,7 @@ fn marked_of_program(alloc: Global, text: &str, name: &str) -> Result<Marked, Te
     ensures ladder { IfOk result (λ m. IsLadderFrom (record { text = text.now; program = Some name.now })
         m.ladder.declarations m.ladder.networks) }
     ensures marked { IfOk result IsMarkedLadder }
+    ensures retained { IfOk result (λ m. AreRetainedFrom (record { text = text.now; program = Some name.now }) m.retained.items) }
     ensures err { IfErr result (RefusesFrom (record { text = text.now; program = Some name.now })) }
 {
     match read_program(alloc, text, name)? {
@@ -183,6 +193,7 @@ fn marked_of_program(alloc: Global, text: &str, name: &str) -> Result<Marked, Te
 fn read_marked(alloc: Global, source: LadderSource<'_>) -> Result<Marked, TextCommandFault>
     ensures ladder { IfOk result (λ m. IsLadderFrom (source_of source.entry) m.ladder.declarations m.ladder.networks) }
     ensures marked { IfOk result IsMarkedLadder }
+    ensures retained { IfOk result (λ m. AreRetainedFrom (source_of source.entry) m.retained.items) }
     ensures err { IfErr result (RefusesFrom (source_of source.entry)) }
 {
     match source.program {
@@ -203,6 +214,23 @@ fn held_inputs(
 {
     let rows = read_rows(alloc, declarations, words)?;
     read_settings(alloc, marks, &rows)
+}
+
+/// The places that are kept where runs may restart, if this is asked.
+fn asked_restarts(
+    alloc: Global,
+    ladder: &Ladder,
+    retained: &[usize],
+    restarts: bool,
+) -> Result<Option<Vec<usize>>, AllocError>
+    ensures { IfOk result (λ made. places_kept made
+        ≡ restarts_of restarts ladder.now.declarations ladder.now.networks retained.now) }
+{
+    if restarts {
+        Ok(Some(kept_places(alloc, ladder, retained)?))
+    } else {
+        Ok(None)
+    }
 }
 
 /// The places of the claims, of what is given, and of the inputs.
@@ -227,24 +255,36 @@ fn read_question(
     })
 }
 
-/// A ladder of some networks with its inputs, if there is one.
+/// The same places once more.
+fn same_places(alloc: Global, places: &Option<Vec<usize>>) -> Result<Option<Vec<usize>>, AllocError>
+    ensures { IfOk result (λ copy. places_kept copy ≡ places_kept places.now) }
+{
+    match places {
+        Some(places) => Ok(Some(Vec::from_slice(alloc, places)?)),
+        None => Ok(None),
+    }
+}
+
+/// A ladder of some networks with its inputs, if there is one; what else is asked is as of the whole.
 fn slice_setup(
     alloc: Global,
     slice: Option<Slice>,
     dt: u32,
     free: Vec<usize>,
-    held: &[Setting],
-    given: &[usize],
+    asked: &Asked,
+    restarts: &Option<Vec<usize>>,
 ) -> Result<Option<Setup>, AllocError>
-    requires { (s : SliceValue) → slice ≡ Some s → HasInputs s.ladder.declarations free.items held.now }
-    ensures { IfOk result (λ made. made ≡ option_map (slice_setup dt free.items held.now given.now) slice) }
+    requires { (s : SliceValue) → slice ≡ Some s → HasInputs s.ladder.declarations free.items asked.now.held.items }
+    ensures { IfOk result (λ made. made ≡ option_map
+        (slice_setup dt free.items asked.now.held.items asked.now.given.items (places_kept restarts.now)) slice) }
 {
     let Some(slice) = slice else {
         return Ok(None);
     };
-    let held = Vec::from_slice(alloc, held)?;
-    let given = Vec::from_slice(alloc, given)?;
-    Ok(Some(Setup::new(slice.ladder, dt, free, held, given)))
+    let held = Vec::from_slice(alloc, &asked.held)?;
+    let given = Vec::from_slice(alloc, &asked.given)?;
+    let restarts = same_places(alloc, restarts)?;
+    Ok(Some(Setup::new(slice.ladder, dt, free, held, given, restarts)))
 }
 
 /// How many networks are needed, where all are so many.
@@ -302,8 +342,10 @@ fn prepare(
         rails,
         networks,
         drawing,
+        retained,
     } = read_marked(alloc, source)?;
     let asked = read_question(alloc, ladder.declarations(), &marks, question)?;
+    let restarts = asked_restarts(alloc, &ladder, &retained, question.restarts)?;
     let sliced = needed_slice(
         alloc,
         drawing.as_str(),
@@ -316,15 +358,15 @@ fn prepare(
     check_time(ladder.declarations(), question.dt)?;
     let constants = constant_places(alloc, ladder.declarations(), &marks)?;
     let needed = needed_count(&sliced.slice, networks);
-    let slice = slice_setup(
-        alloc,
-        sliced.slice,
+    let slice = slice_setup(alloc, sliced.slice, question.dt, free, &asked, &restarts)?;
+    let whole = Setup::new(
+        ladder,
         question.dt,
-        free,
-        &asked.held,
-        &asked.given,
-    )?;
-    let whole = Setup::new(ladder, question.dt, asked.free, asked.held, asked.given);
+        asked.free,
+        asked.held,
+        asked.given,
+        restarts,
+    );
     Ok(Prepared {
         whole,
         idle: sliced.idle,
@@ -394,8 +436,8 @@ fn answer_text<P: Progress>(
     Ok((text, summary_of(&verdicts)))
 }
 
-/// Tells of each claim about the ladder of a source whether it holds, whatever the free inputs do, and what comes of all. How far the
-/// search is is told meanwhile.
+/// Tells of each claim about the ladder of a source whether it holds, whatever the free inputs do and, if this is
+/// asked, before whatever scans it restarts; and what comes of all. How far the search is is told meanwhile.
 ///
 /// `Command(Text)`, `Command(Word)`, `Command(Memory)`, `Claim`, `Given`, `Held`, `TooManyInputs` and `NoTime` come before
 /// anything is written. After `Command(Write)` what went out is a prefix, and not all.

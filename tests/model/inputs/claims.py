@@ -2,11 +2,13 @@
 import functools
 import os
 import re
+import shlex
 
 from rules import needed, words
-from rules.commands import SHAPES, ladder_of, question_of_drawing, read_words
+from rules.commands import SHAPES, answer_of, ladder_of, question_of_drawing, read_words
 from rules.refusal import Refusal
-from rules.verify import MOST_INPUTS, Search, copied, key_of, stored_names, verdict_lines
+from rules.scan import kept_by_restarts, stored_names
+from rules.verify import MOST_INPUTS, Search, copied, key_of, verdict_lines
 
 from .drawings import Drawer, Names, cased, drawing
 from .pieces import in_a_row, symbol
@@ -94,6 +96,7 @@ def claims(chance):
     for option, names in (("--never", claimed), ("--given", assumed)):
         for name in names:
             given += [option, cased(chance, name)]
+    given += ["--restarts"] * (chance.random() < 0.4)
     held = held_of(chance, ladder, [*claimed, *assumed], inputs)
     return {"it.ladder": text}, [given + [f"{cased(chance, name)}={chance.randint(0, 1)}" for name in held]]
 
@@ -114,8 +117,7 @@ def held_of(chance, ladder, names, inputs):
 
 def looked_through(given, folder, written, who):
     """What is told of claims, and behind each verdict what a search through all networks tells, if it is another."""
-    with open(os.path.join(folder, "it.ladder"), encoding="utf-8", newline="") as file:
-        found = written and whole_of(file.read(), tuple(given))
+    found = written and whole_of(text_in(folder), tuple(given))
     if not found:
         return written
     names = iter(it for option, it in zip(given, given[1:]) if option == "--never")
@@ -130,12 +132,18 @@ def looked_through(given, folder, written, who):
     return "".join(f"{it}\n" for it in told)
 
 
+def text_in(folder):
+    with open(os.path.join(folder, "it.ladder"), encoding="utf-8", newline="") as file:
+        return file.read()
+
+
 @functools.lru_cache(maxsize=1)
 def whole_of(text, given):
     """The search through all networks, with each input that is free; None where it is long."""
     _, options, more = read_words(SHAPES["verify"], given[1:])
-    question = question_of_drawing(ladder_of(text), options, more)
-    rows = 2 ** len(question.free)
+    ladder = ladder_of(text)
+    question = question_of_drawing(ladder, options, more, kept_by_restarts(ladder))
+    rows = 2 ** question.width_in(ladder)
     if rows > MOST_SCANS:
         return None
     found = Search(question, question.ladder, MOST_SCANS // rows).search()
@@ -157,7 +165,7 @@ def counts_of_part(found):
     """Of the states of the whole those that differ in what the networks needed read or change, and the scans of these."""
     part = found.question.part()
     states = len({key_of(only(it.state, part.networks)) for it in found.met})
-    return states, states * 2 ** len(found.question.free_in(part))
+    return states, states * 2 ** found.question.width_in(part)
 
 
 def only(state, networks):
@@ -167,3 +175,25 @@ def only(state, networks):
     part.blocks = {name: it for name, it in part.blocks.items() if name in names}
     part.memories = {place: it for place, it in part.memories.items() if any(place in it.places for it in networks)}
     return part
+
+
+# What the words of a run do.
+
+
+def replayed(folder, written, who):
+    """What is told of claims, and behind the words of a run that breaks one what they do in the model, if it is another run."""
+    told = written.splitlines()
+    for at, line in enumerate(told):
+        if line.startswith("plc eval ") and (fault := fault_of_words(folder, told[at - 1], line, told[at + 1 :])):
+            told[at] += f", which are the {who}'s words, but {fault}"
+    return "".join(f"{it}\n" for it in told)
+
+
+def fault_of_words(folder, verdict, line, behind):
+    """What is wrong with the words of a run: it is to have as many scans as the verdict tells, to be as told, and to break the claim."""
+    name, scans = re.match(r"FAILS (\S+) is on after (\d+) scans?", verdict).groups()
+    made = answer_of(shlex.split(line)[1:], folder).lines
+    if made != behind[: len(made)] or len(made) != int(scans):
+        return f"they make {made}"
+    is_on = any(words.fold(it) == f"{words.fold(name)}=1" for it in made[-1].split())
+    return "" if is_on else "the claim isn't broken"

@@ -6,6 +6,7 @@ from rules.blocks import inputs_of, outputs_of
 from rules.words import BLOCK_TYPES
 
 from .pieces import Branch, Piece, Side, beside, box, fork, in_a_row, symbol, wire
+from .scan_restarts import restart_words
 from .test_words import is_of_values, refused_word, value_words, with_items
 from .traces import trace_words
 
@@ -283,7 +284,7 @@ def drawing(chance, names=None):
         words.append(f"{cased(chance, name)}={digits(chance, chance.randint(1, scans))}")
     for name in chance.sample(bits, min(len(bits), chance.choice([0, 0, 1, 2]))):
         words.append(f"{cased(chance, name)}=={digits(chance, chance.randint(1, min(scans, 4)))}")
-    words += ["--chart"] * (chance.random() < 0.3)
+    words += ["--chart"] * (chance.random() < 0.3) + restart_words(chance, scans)
     return {"it.ladder": text}, [further_words(chance, words, bits, operands_of(text, names))]
 
 

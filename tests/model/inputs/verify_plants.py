@@ -235,7 +235,7 @@ class SmallPlant(PlantMaker):
 def options(chance, plant):
     """Words that say which runs are looked at."""
     return [
-        *(["--no-restarts"] if chance.random() < 0.4 else []),
+        *chance.choice([["--no-restarts"], ["--no-restarts"], ["--restarts"], [], []]),
         *(["--dt", str(chance.choice([1, 5, 10, 20]))] if chance.random() < 0.15 else []),
         *(word for it in givens(chance, plant) for word in ("--given", it)),
         *([f"%IX{chance.randint(0, 1)}={chance.randint(0, 1)}"] if chance.random() < 0.2 else []),
@@ -262,6 +262,7 @@ REFUSED = [
     ["--never", "Q"],
     ["--given", "R1.I0.U0"],
     ["--given", "Q"],
+    ["--restarts", "--no-restarts"],
     ["%IX0=2"],
     ["%IX0=0..1"],
     ["%IW0=3..2"],

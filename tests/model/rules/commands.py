@@ -16,13 +16,13 @@ from .plan import plan_of, schedule_of
 from .plant_text import find, read_plant
 from .refusal import Refusal
 from .run import Run, do_in_turns, lines_of_steps
-from .scan import Ladder, State
+from .scan import Ladder, State, kept_by_restarts, stored_names
 from .schedule import MOST_U32, steps_of
 from .test_words import BadWord, tests_of
 from .traces import Track, diagram, dump
 from .warnings import warnings_of, warnings_of_plant
 from . import verify_plant
-from .verify import MOST_INPUTS, TIMERS, Question, Search, line_of, premises, stored_names, verdict_lines
+from .verify import MOST_INPUTS, TIMERS, Question, Search, line_of, premises, verdict_lines
 
 REFUSED_TEXT, REFUSED_WORDS, NO_FILE, DIFFERS, UNDECIDED = 1, 2, 3, 4, 5
 CLAIM_FAILS = DIFFERS
@@ -49,7 +49,7 @@ class Refused(Exception):
 @dataclass
 class Shape:
     """The words that a command has: its files, its options with a number, with one of a few words or with a name of a file or folder,
-    its flags, its options that may stand several times, and whether further words follow."""
+    its flags, its options that may stand several times, with a name or with numbers of scans, and whether further words follow."""
 
     files: int
     numbers: tuple = ()
@@ -57,16 +57,18 @@ class Shape:
     names: tuple = ()
     flags: tuple = ()
     lists: tuple = ()
+    scans: tuple = ()
     needed: tuple = ()
     has_more: bool = False
 
 
 COLORS = ("always", "auto", "never")
+MOST_SCANS = 1_000_000
 WARNING_FLAGS = ("--strict", "--no-warnings")
 
 SHAPES = {
-    "eval": Shape(1, ("--dt",), {"--color": COLORS}, ("--vcd", "--svg", "--program"), ("--show", "--chart", *WARNING_FLAGS), has_more=True),
-    "verify": Shape(1, ("--dt", "--most-states", "--most-waiting"), names=("--program",), flags=("--no-restarts", *WARNING_FLAGS), lists=("--never", "--given"), needed=("--never",), has_more=True),
+    "eval": Shape(1, ("--dt",), {"--color": COLORS}, ("--vcd", "--svg", "--program"), ("--show", "--chart", *WARNING_FLAGS), scans=("--restart",), has_more=True),
+    "verify": Shape(1, ("--dt", "--most-states", "--most-waiting"), names=("--program",), flags=("--restarts", "--no-restarts", *WARNING_FLAGS), lists=("--never", "--given"), needed=("--never",), has_more=True),
     "check": Shape(1, flags=WARNING_FLAGS),
     "plan": Shape(1, numbers=("--until",), flags=("--schedule",), needed=("--until",)),
     "sim": Shape(2, numbers=("--max-number",), names=("--vcd", "--svg")),
@@ -101,12 +103,14 @@ def read_words(shape, given):
             is_behind = True
         else:
             option, equals, value = word.partition("=")
-            if option in options and option not in shape.lists:
+            if option in options and option not in shape.lists + shape.scans:
                 raise Refused(REFUSED_WORDS)
             if option not in shape.flags and not equals:
                 value = word_behind(ahead)
             if option in shape.lists:
                 options.setdefault(option, []).append(name_given(value))
+            elif option in shape.scans:
+                options.setdefault(option, set()).update(map(scan_given, value.split(",")))
             elif option in shape.flags:
                 options[option] = flag(equals)
             elif option in shape.numbers:
@@ -144,6 +148,14 @@ def name_given(word):
     if not word or word.startswith("-"):
         raise Refused(REFUSED_WORDS)
     return word
+
+
+def scan_given(word):
+    """The number of a scan, counted from 1."""
+    value = words.digits_of(word, MOST_SCANS)
+    if not value:
+        raise Refused(REFUSED_WORDS)
+    return value
 
 
 def one_of(choices, word):
@@ -203,7 +215,8 @@ class Files:
         if "--program" in options:
             return self.program_type(path, options["--program"])
         ladder = self.ladder(path)
-        return Tried(ladder, self.text(path), path, lambda elapsed=0: warnings_of(ladder.drawing, ladder.networks, elapsed))
+        warnings = lambda elapsed=0: warnings_of(ladder.drawing, ladder.networks, elapsed)
+        return Tried(ladder, kept_by_restarts(ladder), self.text(path), path, warnings)
 
     def program_type(self, path, name):
         """A program type as its plant has it, with its own lines of the text that was read, and the warnings of the plant."""
@@ -212,7 +225,8 @@ class Files:
         if not found:
             raise Refused(REFUSED_WORDS)
         rows = plant.text.split("\n")[found.first_line - 1 :][: len(found.lines)]
-        return Tried(found.ladder, "\n".join(rows) + "\n", f"{path} --program {name}", lambda elapsed=0: warnings_of_plant(plant))
+        text, warnings = "\n".join(rows) + "\n", lambda elapsed=0: warnings_of_plant(plant)
+        return Tried(found.ladder, kept_by_restarts(found.ladder), text, f"{path} --program {name}", warnings)
 
     def ladder(self, path):
         try:
@@ -223,9 +237,11 @@ class Files:
 
 @dataclass
 class Tried:
-    """A ladder, the text of its drawing, the words that stand for it behind `plc eval`, and what is warned of."""
+    """A ladder, the variables that a restart keeps, the text of its drawing, the words that stand for it behind `plc eval`, and what is
+    warned of."""
 
     ladder: Ladder
+    kept: list
     text: str
     eval_words: str
     warnings: object
@@ -269,8 +285,10 @@ def evaluate(write, files, paths, options, more):
         given, expected = tests_of(more, variables)
     except BadWord:
         raise Refused(REFUSED_WORDS) from None
-    state, traced, live = State(ladder.declarations), [], []
-    for scan in range(max(map(len, [*given.values(), *expected.values()]), default=1)):
+    state, traced, live, restarts = State(ladder.declarations), [], [], options.get("--restart", ())
+    for scan in range(max([*map(len, [*given.values(), *expected.values()]), *restarts], default=1)):
+        if scan + 1 in restarts:
+            state = state.restarted(ladder.declarations, tried.kept)
         for name, values in given.items():
             if scan < len(values):
                 state.set(name, values[scan])
@@ -345,7 +363,7 @@ MOST_STATES, MOST_WAITING = 1_000_000, 8
 
 def verify(write, files, paths, options, more):
     """Names of one part make the file a drawing, names of three a plant."""
-    if set(WARNING_FLAGS) <= set(options):
+    if set(WARNING_FLAGS) <= set(options) or {"--restarts", "--no-restarts"} <= set(options):
         raise Refused(REFUSED_WORDS)
     names = [name for claim in options["--never"] for name in claim.split(",")]
     dots = {it.count(".") for it in [*names, *options.get("--given", ())]}
@@ -382,7 +400,7 @@ def question_of(plant, options, more):
 
 def verify_drawing(write, files, paths, options, more):
     tried = files.tried(paths[0], options)
-    question = question_of_drawing(tried.ladder, options, more)
+    question = question_of_drawing(tried.ladder, options, more, tried.kept)
     found = Search(question, question.part(), options.get("--most-states", MOST_STATES)).search()
     for name in options["--never"]:
         for line in verdict_lines(found, name, tried.eval_words):
@@ -393,8 +411,8 @@ def verify_drawing(write, files, paths, options, more):
     end_with_warnings(paths[0], warnings, options, CLAIM_FAILS if found.runs else UNDECIDED if found.depth is not None else 0)
 
 
-def question_of_drawing(ladder, options, more):
-    """What words ask of a drawing."""
+def question_of_drawing(ladder, options, more, kept):
+    """What words ask of a drawing, of which a restart keeps some variables."""
     bits = [words.fold(it.name) for it in ladder.declarations if it.role != "Instance" and it.kind == "BOOL"]
     stored = stored_names(ladder.drawing)
     held = held_of(more, bits)
@@ -404,7 +422,7 @@ def question_of_drawing(ladder, options, more):
     is_timed = options.get("--dt", 0) or not any(it.role == "Instance" and it.kind in TIMERS for it in ladder.declarations)
     if stored & set(held) or not {*claims, *given} <= stored & set(bits) or not is_timed:
         raise Refused(REFUSED_WORDS)
-    question = Question(ladder, options.get("--dt", 0), free, held, claims, given)
+    question = Question(ladder, options.get("--dt", 0), free, held, claims, given, kept if "--restarts" in options else None)
     if len(question.free_in(question.part())) > MOST_INPUTS:
         raise Refused(REFUSED_WORDS)
     return question

@@ -23,6 +23,20 @@ class Ladder:
         return {it: LIVE[self.drawing.mark(it)] for it in state.live if self.drawing.mark(it) in LIVE}
 
 
+def stored_names(drawing):
+    """The names at which a coil or an output pin stores."""
+    stored = {words.fold(it.name) for it in drawing.symbols if it.is_coil}
+    for box in drawing.boxes:
+        stored |= {words.fold(pin.operand.text) for pin in box.pins if not pin.is_left and pin.operand}
+    return stored
+
+
+def kept_by_restarts(ladder):
+    """The variables that a restart keeps: those at which nothing stores, and of a program type what it retains."""
+    stored = stored_names(ladder.drawing)
+    return [words.fold(it.name) for it in ladder.declarations if it.role == "Retained" or it.role != "Instance" and words.fold(it.name) not in stored]
+
+
 class State:
     """The values of variables, the memories of edge contacts and coils by their places, the blocks; names are folded.
 
@@ -44,6 +58,13 @@ class State:
 
     def set(self, name, value):
         self.values[words.fold(name)] = value
+
+    def restarted(self, declarations, kept):
+        """The first state, but for the variables that a restart keeps."""
+        fresh = State(declarations)
+        for name in kept:
+            fresh.set(name, self.get(name))
+        return fresh
 
 
 class NetworkScan:

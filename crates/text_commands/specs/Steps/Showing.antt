@@ -10,6 +10,7 @@ use Rattle.power_flow.specs.Shown.{ShowsScan}
 use Rattle.text_lines.specs.Sending.{Stops}
 use Rattle.text_lines.specs.declared.send_fault.SendFault.{SendFault}
 use Rattle.text_commands.specs.declared.difference.Difference.{Difference}
+use Rattle.text_commands.specs.Restarts.{GivenValue}
 use Rattle.text_commands.specs.Series.{SeriesValue}
 use Rattle.text_commands.specs.TestText.{IsOutcome}
 use Rattle.text_commands.specs.Lines.{line_of}
@@ -25,31 +26,31 @@ IsShownScan drawing color l dt old new text =
 
 -- some scans, at most so many, and their text
 pub record SomeShown (drawing : List ℕ) (color : Bool) (ds : List Declaration) (networks : List Diagram) (dt : ℕ)
-    (rows : List SeriesValue) (most : ℕ) : Type 0 where
+    (given : GivenValue) (most : ℕ) : Type 0 where
   pub states : List (List Slot)
   pub slots : List Slot
   pub memories : List Bool
   pub text : List ℕ
-  pub shown : IsShown drawing color ds networks dt rows states slots memories text
+  pub shown : IsShown drawing color ds networks dt given states slots memories text
   pub few : length states ≤ most
 
 -- these are the states after each of so many scans, and their text
-abbrev pub IsShownTrace : List ℕ → Bool → List Declaration → List Diagram → ℕ → List SeriesValue → ℕ → List StateValue
+abbrev pub IsShownTrace : List ℕ → Bool → List Declaration → List Diagram → ℕ → GivenValue → ℕ → List StateValue
     → List ℕ → Type 0
-IsShownTrace drawing color ds networks dt rows scans states text =
-    (made : SomeShown drawing color ds networks dt rows scans) × (made.states ≡ slots_of states)
+IsShownTrace drawing color ds networks dt given scans states text =
+    (made : SomeShown drawing color ds networks dt given scans) × (made.states ≡ slots_of states)
     × (length states ≡ scans) × (made.text ≡ text)
 
 -- the text of so many scans was written, and this came of what was expected
 pub record WritesShown (drawing : List ℕ) (color : Bool) (ds : List Declaration) (networks : List Diagram) (dt : ℕ)
-    (rows expected : List SeriesValue) (scans : ℕ) (old new : Option (List ℕ)) (found : Option Difference) : Type 0 where
-  pub made : SomeShown drawing color ds networks dt rows scans
+    (given : GivenValue) (expected : List SeriesValue) (scans : ℕ) (old new : Option (List ℕ)) (found : Option Difference) : Type 0 where
+  pub made : SomeShown drawing color ds networks dt given scans
   pub all : length made.states ≡ scans
   pub appended : Appends old new made.text
   pub outcome : IsOutcome ds expected made.states found
 
 -- the text of some scans didn't go out whole
 pub record StopsShown (drawing : List ℕ) (color : Bool) (ds : List Declaration) (networks : List Diagram) (dt : ℕ)
-    (rows : List SeriesValue) (scans : ℕ) (fault : SendFault) (old new : Option (List ℕ)) : Type 0 where
-  pub made : SomeShown drawing color ds networks dt rows scans
+    (given : GivenValue) (scans : ℕ) (fault : SendFault) (old new : Option (List ℕ)) : Type 0 where
+  pub made : SomeShown drawing color ds networks dt given scans
   pub stopped : Stops fault made.text old new

@@ -5,15 +5,15 @@ use Rattle.plant.specs.ProgramText.{IsProgramOfText}
 use Rattle.plant.specs.ProgramTypes.{TypeValue}
 use Rattle.power_flow.specs.LadderValue.{LadderValue}
 use Rattle.text_commands.specs.CheckText.{GivesNoPlant}
-use Rattle.text_commands.specs.Comments.{without_comments}
-use Rattle.text_commands.specs.Sources.{HoldsOfPlant, IsDrawingFrom, IsLadderFrom, IsLadderOfProgram, RefusesName, RefusesSource, SourceValue}
+use Rattle.text_commands.specs.Sources.{AreRetainedFrom, HoldsOfPlant, IsDrawingFrom, IsLadderFrom, IsLadderOfProgram, RefusesName, RefusesSource, SourceValue}
 use Rattle.text_commands.specs.Steps.Refusing.{RefusesLadder}
 use Rattle.text_commands.specs.declared.text_command_fault.TextCommandFault.{TextCommandFault}
 use Rattle.text_commands.specs.declared.text_command_fault.TextCommandFault.TheVariants.{Text, Word, Write, Memory}
 
--- the ladder of a source, and its drawing
-abbrev pub IsDrawnFrom : SourceValue → LadderValue → List ℕ → Type 0
-IsDrawnFrom s ladder drawing = IsLadderFrom s ladder.declarations ladder.networks × IsDrawingFrom s drawing
+-- the ladder of a source, its drawing, and which of its variables are retained
+abbrev pub IsDrawnFrom : SourceValue → LadderValue → List ℕ → List ℕ → Type 0
+IsDrawnFrom s ladder drawing retained =
+    IsLadderFrom s ladder.declarations ladder.networks × IsDrawingFrom s drawing × AreRetainedFrom s retained
 
 -- no ladder was read: the text or the name is refused, or memory
 abbrev pub RefusesFrom : SourceValue → TextCommandFault → Type 0

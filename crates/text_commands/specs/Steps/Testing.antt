@@ -10,6 +10,7 @@ use Rattle.text_commands.specs.declared.text_command_fault.TextCommandFault.TheV
 use Rattle.text_commands.specs.declared.word_fault.WordFaultKind.{WordFaultKind}
 use Rattle.text_commands.specs.Series.{SeriesValue, IsSetting, IsFirstRefusedSetting, SpellNoSettings}
 use Rattle.text_commands.specs.Expectations.{IsExpected, IsFirstRefusedOf, is_expectation, test_scans}
+use Rattle.text_commands.specs.Restarts.{GivenValue}
 use Rattle.text_commands.specs.Trace.{SomeTrace}
 use Rattle.text_commands.specs.declared.form.Form.{Form}
 use Rattle.text_commands.specs.EvalText.{WritesScans}
@@ -59,22 +60,26 @@ RefusesTest ds words (Word fault) = IsFirstRefusedOf ds words fault
 RefusesTest ds words Write = ⊥
 RefusesTest ds words Memory = Unit {0}
 
+-- what is given to the scans of a test
+abbrev pub given_for : List SeriesValue → List ℕ → List ℕ → GivenValue
+given_for rows restarts kept = record { rows = rows; restarts = restarts; kept = kept }
+
 -- these are the states after each of so many scans
-abbrev pub IsTraceOf : List Declaration → List Diagram → ℕ → List SeriesValue → ℕ → List StateValue → Type 0
-IsTraceOf ds networks dt rows scans states =
-    (made : SomeTrace ds networks dt rows scans) × (made.states ≡ slots_of states) × (length states ≡ scans)
+abbrev pub IsTraceOf : List Declaration → List Diagram → ℕ → GivenValue → ℕ → List StateValue → Type 0
+IsTraceOf ds networks dt given scans states =
+    (made : SomeTrace ds networks dt given scans) × (made.states ≡ slots_of states) × (length states ≡ scans)
 
 -- these are the states after each of so many scans, and this is what is written of them
-abbrev pub IsFormTrace : Form → List ℕ → List Declaration → List Diagram → ℕ → List SeriesValue → ℕ → List StateValue → List ℕ
+abbrev pub IsFormTrace : Form → List ℕ → List Declaration → List Diagram → ℕ → GivenValue → ℕ → List StateValue → List ℕ
     → Type 0
-IsFormTrace form drawing ds networks dt rows scans states text =
-    (traced : IsTraceOf ds networks dt rows scans states) × IsTextOf form drawing traced.0 text
+IsFormTrace form drawing ds networks dt given scans states text =
+    (traced : IsTraceOf ds networks dt given scans states) × IsTextOf form drawing traced.0 text
 
 -- the text of all scans, and what came of what was expected
 pub record IsTestTrace (drawing : List ℕ) (ds : List Declaration) (networks : List Diagram) (dt : ℕ) (form : Form)
-    (rows expected : List SeriesValue) (text : List ℕ) (found : Option Difference) : Type 0 where
-  pub made : SomeTrace ds networks dt rows (test_scans rows expected)
-  pub all : length made.states ≡ test_scans rows expected
+    (given : GivenValue) (expected : List SeriesValue) (text : List ℕ) (found : Option Difference) : Type 0 where
+  pub made : SomeTrace ds networks dt given (test_scans given expected)
+  pub all : length made.states ≡ test_scans given expected
   pub text_is : IsTextOf form drawing made text
   pub outcome : IsOutcome ds expected made.states found
 
@@ -89,7 +94,7 @@ GoesOn ds expected k slots found more = (states : List (List Slot)) → length s
     → IsOutcome ds expected (states ++ slots ∷ []) more
 
 -- so many scans were made, a line was written after each, and this came of what was expected
-abbrev pub WritesRun : List Declaration → List Diagram → ℕ → List SeriesValue → List SeriesValue → ℕ → Option (List ℕ)
+abbrev pub WritesRun : List Declaration → List Diagram → ℕ → GivenValue → List SeriesValue → ℕ → Option (List ℕ)
     → Option (List ℕ) → Option Difference → Type 0
-WritesRun ds networks dt rows expected scans old new found =
-    (written : WritesScans ds networks dt rows scans old new) × IsOutcome ds expected written.made.states found
+WritesRun ds networks dt given expected scans old new found =
+    (written : WritesScans ds networks dt given scans old new) × IsOutcome ds expected written.made.states found

@@ -3,7 +3,7 @@ use Rattle.std.specs.Prelude.{◌≡◌, ℕ, ◌++◌, List, Bool, All, length}
 use Rattle.verifying.specs.declared.verdict.Tally.{Tally}
 use Rattle.verifying.specs.declared.verdict.Verdict.{Verdict}
 use Rattle.verifying.specs.declared.verdict.Verdict.TheVariants.{Holds, Fails, Undecided}
-use Rattle.verifying.specs.Runs.{SetupValue}
+use Rattle.verifying.specs.Runs.{SetupValue, width}
 use Rattle.verifying.specs.VerdictLines.{IsFailText, IsVerdictText}
 
 pub record AddsFailText (u : SetupValue) (file name : List ℕ) (rows : List (List Bool)) (old new : List ℕ) : Type 0 where
@@ -16,9 +16,9 @@ pub record AddsVerdictText (u : SetupValue) (file : List ℕ) (t : Tally) (name 
   pub is : IsVerdictText u file t name verdict text
   pub added : new ≡ old ++ text
 
--- each row has a value for each free input
+-- each row has all its digits
 abbrev pub AreWholeRows : SetupValue → List (List Bool) → Type 0
-AreWholeRows u rows = All (λ (row : List Bool). length row ≡ length u.free) rows
+AreWholeRows u rows = All (λ (row : List Bool). length row ≡ width u) rows
 
 abbrev pub FitsSetup : SetupValue → Verdict → Type 0
 FitsSetup u Holds = Unit {0}

@@ -2,7 +2,8 @@
 use Rattle.std.proofs.Common.{codes, Some}
 use Rattle.lists.proofs.Results.{kept_fault}
 use Rattle.clap.specs.Words.{first_of, found_of, rows_of}
-use Rattle.console.specs.CommandLine.{AsksFor, GivesColor, GivesNumber, GivesStrictness, GivesView, OnlyMemoryRefuses, is_given}
+use Rattle.text_commands.specs.Restarts.{AreRestarts}
+use Rattle.console.specs.CommandLine.{AsksFor, GivesColor, GivesNumber, GivesStrictness, GivesView, OnlyMemoryRefuses, is_given, restart_words}
 use Rattle.console.proofs.Matching.{eval_parts, memory_refused, part_refused}
 use Rattle.console.proofs.command_words.eval_request.Goals as goal
 
@@ -32,3 +33,9 @@ returns-in_err-strictness_of-clause-refused c =
 
 pub returns-in_err-words_given-clause-refused : goal.returns-in_err-words_given-clause-refused
 returns-in_err-words_given-clause-refused c = memory_refused (AsksFor (Some (codes "eval", rows_of (found_of c.args.inner.now)))) _ c.from_residual-in_err-words_given.ensures.1
+
+pub returns-in_err-restarts_given-clause-refused : goal.returns-in_err-restarts_given-clause-refused
+returns-in_err-restarts_given-clause-refused c =
+    let found = rows_of (found_of c.args.inner.now) in
+    kept_fault c.in_err-restarts_given.field-0.0 (OnlyMemoryRefuses (AsksFor (Some (codes "eval", rows_of (found_of c.args.inner.now))))) _ c.from_residual-in_err-restarts_given.ensures.1
+    (part_refused (AsksFor (Some (codes "eval", rows_of (found_of c.args.inner.now)))) (AreRestarts (restart_words found)) c.in_err-restarts_given.field-0.0 (λ r asked. let parts = eval_parts found r asked in (parts.8, parts.9)) c.in_err-restarts_given.ensures.refused)

@@ -13,7 +13,7 @@ returns-clause-begun g c =
     let shared : c.deref.result.now ≡ c.args.plant.value = search rules in
     let told = subst (λ p. TellsOpening (g.K.Keeper.kept_gives c.raise.new.self) p c.args.resource c.in_ok-opening.opening.items) shared c.in_ok-opening.ensures.told in
     node_begun (g.K.Keeper.raise_gives c.args.keeper.now) (g.K.Keeper.kept_gives c.args.keeper.now) (g.K.Keeper.kept_gives c.raise.new.self) c.args.plant.value c.args.resource c.in_ok-incarnation.incarnation c.in_ok-opening.opening.items c.in_ok-state.state
-    (g.N.Notes.noted c.args.notes.now) (g.N.Notes.noted c.note.new.self) (string_bytes c.in_ok-note.note) (string_bytes c.args.out.now) (string_bytes c.push_greetings.new.out) (string_bytes c.push_risen.new.out)
+    (g.N.Notes.noted c.args.notes.now) (g.N.Notes.noted c.note_on_disk.new.notes) (string_bytes c.in_ok-note.note) (string_bytes c.args.out.now) (string_bytes c.push_greetings.new.out) (string_bytes c.push_risen.new.out)
     c.in_ok-incarnation.ensures.given c.in_ok-incarnation.ensures.stays told (search rules) (search rules) (search rules) (search rules) (search rules)
 
 pub returns-clause-keeps : goal.returns-clause-keeps
@@ -29,7 +29,7 @@ returns-in_err-push_greetings-clause-stopped g c =
     let shared : c.deref.result.now ≡ c.args.plant.value = search rules in
     let told = subst (λ p. TellsOpening (g.K.Keeper.kept_gives c.raise.new.self) p c.args.resource c.in_ok-opening.opening.items) shared c.in_ok-opening.ensures.told in
     start_unmade c.from_residual-in_err-push_greetings.result (g.K.Keeper.raise_gives c.args.keeper.now) (g.K.Keeper.kept_gives c.args.keeper.now) (g.K.Keeper.kept_gives c.raise.new.self) c.args.plant.value c.args.resource (g.K.Keeper.last c.args.keeper.now) c.in_ok-incarnation.incarnation c.in_ok-opening.opening.items
-    (string_bytes c.in_ok-note.note) (g.N.Notes.noted c.args.notes.now) (g.N.Notes.noted c.note.new.self)
+    (string_bytes c.in_ok-note.note) (g.N.Notes.noted c.args.notes.now) (g.N.Notes.noted c.note_on_disk.new.notes)
     c.from_residual-in_err-push_greetings.ensures.1 c.in_ok-incarnation.ensures.given (search rules) (search rules) c.in_ok-incarnation.ensures.stays told (search rules) (search rules)
 
 pub returns-in_err-push_risen-clause-stopped : goal.returns-in_err-push_risen-clause-stopped
@@ -37,5 +37,5 @@ returns-in_err-push_risen-clause-stopped g c =
     let shared : c.deref.result.now ≡ c.args.plant.value = search rules in
     let told = subst (λ p. TellsOpening (g.K.Keeper.kept_gives c.raise.new.self) p c.args.resource c.in_ok-opening.opening.items) shared c.in_ok-opening.ensures.told in
     start_unmade c.from_residual-in_err-push_risen.result (g.K.Keeper.raise_gives c.args.keeper.now) (g.K.Keeper.kept_gives c.args.keeper.now) (g.K.Keeper.kept_gives c.raise.new.self) c.args.plant.value c.args.resource (g.K.Keeper.last c.args.keeper.now) c.in_ok-incarnation.incarnation c.in_ok-opening.opening.items
-    (string_bytes c.in_ok-note.note) (g.N.Notes.noted c.args.notes.now) (g.N.Notes.noted c.note.new.self)
+    (string_bytes c.in_ok-note.note) (g.N.Notes.noted c.args.notes.now) (g.N.Notes.noted c.note_on_disk.new.notes)
     c.from_residual-in_err-push_risen.ensures.1 c.in_ok-incarnation.ensures.given (search rules) (search rules) c.in_ok-incarnation.ensures.stays told (search rules) (search rules)

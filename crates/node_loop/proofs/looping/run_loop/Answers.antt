@@ -18,7 +18,7 @@ loop-init g c =
     let started = g.S.TurnSource.given c.start.new.self in
     let noted = g.N.Notes.noted first.node.notes in
     let behind = g.W.Write.contents c.hand_on.new.out in
-    (behind, c.in_ok-hand_on.ensures.whole, follows_none raising c.args.ending first given started noted behind c.start.ensures, c.requires.kept, omega (arith, c.requires.fresh), λ keeps. keeps)
+    (behind, c.in_ok-hand_on.ensures.whole, follows_none raising c.args.ending first given started noted behind c.start.ensures, c.requires.kept, omega (arith, c.requires.fresh), (λ keeps. keeps), c.requires.synced)
 
 pub returns-then-not-branch-clause-ok : goal.returns-then-not-branch-clause-ok
 returns-then-not-branch-clause-ok g c =
@@ -61,7 +61,8 @@ loop-preserved g c =
       follows_both raising c.args.ending first mid last true given now left noted_old noted_mid noted_new so_far.0 written to so_far.2 next,
       c.in_ok-turn.ensures.kept,
       omega (arith, so_far.4, c.in_ok-turn.ensures.few),
-      λ keeps. c.in_ok-turn.ensures.keeps (so_far.5 keeps),
+      (λ keeps. c.in_ok-turn.ensures.keeps (so_far.5 keeps)),
+      c.in_ok-turn.ensures.synced,
     )
 
 pub returns-in_err-hand_on-clause-stopped : goal.returns-in_err-hand_on-clause-stopped

@@ -12,3 +12,4 @@ invariant-loop g l =
     (g.N.Notes.noted l.fn.node.node.notes) (g.N.Notes.noted l.node.node.notes) behind_begun (g.W.Write.contents l.out)
     × (g.K.Keeper.last l.node.node.keeper ≡ l.node.node.state.core.incarnation) × (l.node.node.state.lines ≤ 3 * l.counter)
     × (KeepsCore (g.K.Keeper.kept_gives l.fn.node.node.keeper) l.fn.node.node.state.core → KeepsCore (g.K.Keeper.kept_gives l.node.node.keeper) l.node.node.state.core)
+    × (g.N.Notes.synced l.node.node.notes ≡ g.N.Notes.noted l.node.node.notes)

@@ -53,14 +53,14 @@ returns-in-Ok-clause-stopped g c =
     let to = g.W.Write.contents c.run_begun.new.writer in
     let begun = string_bytes c.begin.new.out in
     IfErr-weaker c.run_begun.result
-    (λ e. StopsNode raising first c.as_str.result.now given left noted (g.N.Notes.noted e.0) from to e.1)
-    (λ e. StopsRunning g.K.Keeper.last g.K.Keeper.raise_gives g.K.Keeper.kept_gives c.args.keeper plant resource given left noted_old (g.N.Notes.noted e.0) from to e.1)
+    (λ e. StopsNode raising first c.as_str.result.now given left noted (g.N.Notes.noted e.0) (g.N.Notes.synced e.0) from to e.1)
+    (λ e. StopsRunning g.K.Keeper.last g.K.Keeper.raise_gives g.K.Keeper.kept_gives c.args.keeper plant resource given left noted_old (g.N.Notes.noted e.0) (g.N.Notes.synced e.0) from to e.1)
     (λ e h. inr (record {
       first = first;
       begun = begun;
       noted = noted;
       begins = subst (λ o. HasBegun raises tells plant resource first noted_old noted o begun) c.new-begun.ensures.bytes c.in-Ok.ensures.begun;
-      stops = subst (λ b. StopsNode raising first b given left noted (g.N.Notes.noted e.0) from to e.1) c.as_str.ensures.value h;
+      stops = subst (λ b. StopsNode raising first b given left noted (g.N.Notes.noted e.0) (g.N.Notes.synced e.0) from to e.1) c.as_str.ensures.value h;
     }))
     c.run_begun.ensures.stopped
 

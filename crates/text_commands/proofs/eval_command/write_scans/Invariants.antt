@@ -12,7 +12,7 @@ abbrev pub invariant-loop-k : goal.invariant-loop-k
 invariant-loop-k g l = record {
   fits : Fits l.ladder l.state;
   states : List (List Slot);
-  trace : IsTrace l.ladder.declarations l.ladder.networks l.dt l.rows states l.state.slots l.state.memories;
+  trace : IsTrace l.ladder.declarations l.ladder.networks l.dt l.given states l.state.slots l.state.memories;
   long : length states ≡ l.k;
   outcome : IsOutcome l.ladder.declarations l.expected states l.found;
   appended : Appends (g.W.Write.contents l.initial.writer) (g.W.Write.contents l.writer) (flat_map (line_of l.ladder.declarations) states);

@@ -1,4 +1,4 @@
-use Rattle.std.proofs.Common.{◌≡◌, ◌<◌, ◌≤◌, ◌++◌, length, sym, ap, ◌∙◌, string_bytes, arith}
+use Rattle.std.proofs.Common.{◌<◌, ◌≤◌, ◌++◌, length, sym, ap, ◌∙◌, string_bytes, arith}
 use Rattle.text_commands.specs.PlanText.{is_taker, delivery_line}
 use Rattle.text_commands.proofs.PlanLines.{one_delivered, one_passed, all_delivered}
 use Rattle.text_commands.proofs.plan_lines.push_deliveries.Goals.{then-is_taker+in_ok-push_delivery, else-is_taker}

@@ -1,6 +1,5 @@
 use Rattle.std.proofs.Common.{◌≡◌, length, refl, ap, ◌∙◌, arith}
 use Rattle.std.proofs.lemmas.List.{length-map}
-use Rattle.text_commands.specs.Steps.Setting.{fits_after}
 use Rattle.text_commands.specs.Steps.Testing.{slots_of}
 use Rattle.text_commands.proofs.Showing.{shown_begun, shown_more, slots_more}
 use Rattle.text_commands.proofs.Tracing.{one_longer}
@@ -13,17 +12,14 @@ loop-k-init c = record {
   long = ap length c.new-states.ensures.items;
 }
 
-pub set_rows-requires : goal.set_rows-requires
-set_rows-requires c = (c.args.ladder.now.declarations, c.loop-k.invariant.fits.slots, c.requires)
-
 pub shown_scan-requires : goal.shown_scan-requires
-shown_scan-requires c = fits_after c.args.ladder.now c.loop-k.state c.set_rows.new.state _ c.loop-k.invariant.fits c.set_rows.ensures.slots c.set_rows.ensures.declared
+shown_scan-requires c = c.in_ok-open_scan.ensures.fits
 
 pub loop-k-preserved : goal.loop-k-preserved
 loop-k-preserved c =
     let many : length (slots_of c.loop-k.states.items) ≡ c.loop-k.k = length-map c.loop-k.states.items _ ∙ c.loop-k.invariant.long in
-    let shown = shown_more c.args.drawing.now c.args.color c.args.ladder.now c.args.dt c.args.rows.now c.loop-k.k (slots_of c.loop-k.states.items) c.loop-k.state c.set_rows.new.state c.shown_scan.new.state _ _
-    c.loop-k.invariant.shown many c.set_rows.ensures.slots c.in_ok-shown.ensures.shown in
+    let shown = shown_more c.args.drawing.now c.args.color c.args.ladder.now c.args.dt c.args.given.now c.loop-k.k (slots_of c.loop-k.states.items) c.loop-k.state c.open_scan.new.state c.shown_scan.new.state _ _
+    c.loop-k.invariant.shown many c.in_ok-open_scan.ensures c.in_ok-shown.ensures.shown in
     record {
       fits = c.in_ok-shown.ensures.fits;
       shown = rw (slots_more _ _ c.shown_scan.new.state _ c.in_ok-try_copy.ensures c.in_ok-push.ensures.items, c.in_ok-push_str.ensures.bytes, c.as_str.ensures.value) shown;

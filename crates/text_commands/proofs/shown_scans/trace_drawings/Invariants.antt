@@ -7,6 +7,6 @@ use Rattle.text_commands.proofs.shown_scans.trace_drawings.Given as goal
 abbrev pub invariant-loop-k : goal.invariant-loop-k
 invariant-loop-k l = record {
   fits : Fits l.ladder l.state;
-  shown : IsShown l.drawing l.color l.ladder.declarations l.ladder.networks l.dt l.rows (slots_of l.states.items) l.state.slots l.state.memories (string_bytes l.text);
+  shown : IsShown l.drawing l.color l.ladder.declarations l.ladder.networks l.dt l.given (slots_of l.states.items) l.state.slots l.state.memories (string_bytes l.text);
   long : length l.states.items ≡ l.k;
 }

@@ -11,8 +11,8 @@ invariant-loop-k g l = record {
   fits : Fits l.ladder l.state;
   states : List (List Slot);
   text : List ℕ;
-  shown : IsShown l.drawing l.color l.ladder.declarations l.ladder.networks l.dt l.test.rows.items states l.state.slots l.state.memories text;
+  shown : IsShown l.drawing l.color l.ladder.declarations l.ladder.networks l.dt l.given states l.state.slots l.state.memories text;
   long : length states ≡ l.k;
-  outcome : IsOutcome l.ladder.declarations l.test.expected.items states l.found;
+  outcome : IsOutcome l.ladder.declarations l.expected states l.found;
   appended : Appends (g.W.Write.contents l.initial.writer) (g.W.Write.contents l.writer) text;
 }

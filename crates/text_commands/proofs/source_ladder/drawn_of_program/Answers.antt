@@ -6,4 +6,4 @@ pub returns-in_ok-drawn_of_type-in-Some-clause-ok : goal.returns-in_ok-drawn_of_
 returns-in_ok-drawn_of_type-in-Some-clause-ok c =
     let found = rw c.in-Some.is at c.in_ok-found.ensures.ok in
     let drawn = c.in_ok-drawn_of_type-in-Some in
-    program_drawn c.args.text.now c.args.name.now c.in-Some.found drawn.field-0.ladder.value (string_bytes drawn.field-0.drawing) found drawn.ensures.ladder drawn.ensures.drawing
+    program_drawn c.args.text.now c.args.name.now c.in-Some.found drawn.field-0.ladder.value (string_bytes drawn.field-0.drawing) drawn.field-0.retained.items found drawn.ensures.ladder drawn.ensures.drawing drawn.ensures.retained

@@ -1,6 +1,5 @@
 use Rattle.std.proofs.Common.{◌≡◌, length, refl, ◌∙◌, ap, arith}
 use Rattle.std.proofs.lemmas.List.{length-map}
-use Rattle.text_commands.specs.Steps.Setting.{fits_after}
 use Rattle.text_commands.specs.Steps.Testing.{slots_of}
 use Rattle.text_commands.proofs.Tracing.{one_longer, trace_begun, trace_more}
 use Rattle.text_commands.proofs.test_command.trace_scans.Goals as goal
@@ -12,16 +11,13 @@ loop-k-init c = record {
   long = ap length c.new-states.ensures.items;
 }
 
-pub set_rows-requires : goal.set_rows-requires
-set_rows-requires c = (c.args.ladder.now.declarations, c.loop-k.invariant.fits.slots, c.requires)
-
 pub scan-requires : goal.scan-requires
-scan-requires c = fits_after c.args.ladder.now c.loop-k.state c.set_rows.new.state _ c.loop-k.invariant.fits c.set_rows.ensures.slots c.set_rows.ensures.declared
+scan-requires c = c.in_ok-open_scan.ensures.fits
 
 pub loop-k-preserved : goal.loop-k-preserved
 loop-k-preserved c = record {
   fits = c.scan.ensures.fits;
-  trace = trace_more _ _ _ _ c.loop-k.k _ _ c.loop-k.state c.set_rows.new.state c.scan.new.state _ c.loop-k.invariant.trace c.loop-k.invariant.long c.set_rows.ensures.slots c.scan.ensures.meaning
+  trace = trace_more c.args.ladder.now _ _ c.loop-k.k _ _ c.loop-k.state c.open_scan.new.state c.scan.new.state _ c.loop-k.invariant.trace c.loop-k.invariant.long c.in_ok-open_scan.ensures c.scan.ensures.meaning
       c.in_ok-try_copy.ensures c.in_ok-push.ensures.items;
   long = one_longer _ _ _ _ c.loop-k.invariant.long c.in_ok-push.ensures.items;
 }

@@ -1,14 +1,10 @@
 use Rattle.text_commands.proofs.TestAnswers.{test_traced}
 use Rattle.text_commands.proofs.test_command.trace_test.Goals as goal
 
-pub trace_form-requires : goal.trace_form-requires
-trace_form-requires c = rw c.deref.ensures.value c.requires.rows
-
 pub first_difference-requires : goal.first_difference-requires
-first_difference-requires c = rw (c.deref-2.ensures.value, c.declarations.ensures.list) c.requires.expected
+first_difference-requires c = rw c.declarations.ensures.list c.requires.expected
 
 pub returns : goal.returns
 returns c =
-    let traced = rw c.deref.ensures.value at c.in_ok-states.ensures in
-    let outcome = rw (c.declarations.ensures.list, c.deref-2.ensures.value, c.deref-3.ensures.value) at c.in_ok-found.ensures in
-    test_traced _ _ _ _ _ c.args.test.now.rows.items c.args.test.now.expected.items c.test_scan_count-scans.result _ _ _ c.test_scan_count-scans.ensures traced outcome
+    let outcome = rw (c.declarations.ensures.list, c.deref.ensures.value) at c.in_ok-found.ensures in
+    test_traced _ _ _ _ _ c.args.given.now c.args.expected.now c.test_scan_count-scans.result _ _ _ c.test_scan_count-scans.ensures c.in_ok-states.ensures outcome

@@ -59,9 +59,14 @@ verdict_texts-requires-clause-long g c =
 pub verdict_texts-requires-clause-fits : goal.verdict_texts-requires-clause-fits
 verdict_texts-requires-clause-fits g c =
     let p = c.in_ok-prepared.prepared in
+    let q = question_of c.args.question.now in
+    let found = c.in_ok-found.found in
+    let v = searched_of p.slice p.whole in
+    let are = subst (λ v. AreVerdicts v q.most_states found.scans p.claims.items found.verdicts.items) c.searched-searched.ensures (rw c.deref.ensures.value at c.in_ok-found.ensures.verdicts) in
     let whole = rw c.deref-3.ensures.value at (rw c.free.ensures.list at (rw c.deref-2.ensures.value at c.in_ok-verdicts.ensures)) in
     subst (λ (verdicts : List Verdict). All (FitsSetup p.whole) verdicts) (sym c.deref-4.ensures.value)
-    (verdicts_fit p.whole p.idle.items c.in_ok-found.found.verdicts.items c.in_ok-verdicts.verdicts.items whole)
+    (verdicts_fit p.whole v p.claims.items p.claims.items p.idle.items q.most_states found.scans found.verdicts.items c.in_ok-verdicts.verdicts.items
+    c.in_ok-prepared.ensures.ok.searched are whole)
 
 pub returns-clause-ok : goal.returns-clause-ok
 returns-clause-ok g c =

@@ -3,13 +3,13 @@ use Rattle.std.specs.Option.{option_map}
 use Rattle.lists.proofs.Results.{kept_fault}
 use Rattle.drawings.specs.declared.place.Place.{Place}
 use Rattle.needed_networks.specs.Slices.{HaveRails}
-use Rattle.verifying.specs.declared.setup.Setting.{Setting}
 use Rattle.verifying.specs.declared.verify_fault.VerifyFault.TheVariants.{Command}
 use Rattle.verifying.specs.Giving.{no_memory}
-use Rattle.verifying.specs.Runs.{HasInputs, SetupValue}
+use Rattle.verifying.specs.Runs.{SetupValue}
 use Rattle.text_commands.specs.Sources.{source_of}
 use Rattle.verifying.specs.Questions.{question_of}
 use Rattle.verifying.specs.Steps.Asking.{IsPrepared, RefusesPreparing}
+use Rattle.verifying.specs.Steps.Keeping.{places_kept}
 use Rattle.verifying.specs.Steps.Wholes.{searched_of, slice_setup}
 use Rattle.verifying.proofs.Asking.{asked_has_inputs, asked_prepared, asking_refused, few_refused, setup_of, text_refused, time_refused}
 use Rattle.verifying.proofs.Wholes.{slice_has_inputs}
@@ -29,10 +29,14 @@ returns-in_err-asked-clause-err c =
     kept_fault c.in_err-asked.field-0.0 (RefusesPreparing (source_of c.args.source) q) _ c.from_residual-in_err-asked.ensures.1
     (asking_refused (source_of c.args.source) q m.ladder.declarations m.ladder.networks m.marks.items c.in_err-asked.field-0.0 c.in_ok-ladder.ensures.ladder c.in_ok-ladder.ensures.marked.marks refused)
 
+pub returns-in_err-restarts-clause-err : goal.returns-in_err-restarts-clause-err
+returns-in_err-restarts-clause-err c =
+    kept_fault no_memory (RefusesPreparing (source_of c.args.source) (question_of c.args.question.now)) _ c.from_residual-in_err-restarts.ensures.1 tt
+
 pub needed_slice-requires : goal.needed_slice-requires
 needed_slice-requires c =
     let m = c.in_ok-ladder.field-0 in
-    subst (λ (rails : List Place). HaveRails m.ladder.networks rails) (sym c.deref-2.ensures.value) c.in_ok-ladder.ensures.marked.rails
+    subst (λ (rails : List Place). HaveRails m.ladder.networks rails) (sym c.deref-3.ensures.value) c.in_ok-ladder.ensures.marked.rails
 
 pub returns-in_err-sliced-clause-err : goal.returns-in_err-sliced-clause-err
 returns-in_err-sliced-clause-err c =
@@ -42,8 +46,8 @@ pub returns-in_err-free-clause-err : goal.returns-in_err-free-clause-err
 returns-in_err-free-clause-err c =
     let q = question_of c.args.question.now in
     let asked = rw c.declarations.ensures.list at (rw c.deref.ensures.value at c.in_ok-asked.ensures.ok) in
-    let sliced = rw c.deref-4.ensures.value at (rw c.deref-3.ensures.value at c.in_ok-sliced.ensures) in
-    let refused = rw c.deref-6.ensures.value at (rw c.deref-5.ensures.value at c.in_err-free.ensures.err) in
+    let sliced = rw c.deref-5.ensures.value at (rw c.deref-4.ensures.value at c.in_ok-sliced.ensures) in
+    let refused = rw c.deref-7.ensures.value at (rw c.deref-6.ensures.value at c.in_err-free.ensures.err) in
     kept_fault c.in_err-free.field-0.0 (RefusesPreparing (source_of c.args.source) q) _ c.from_residual-in_err-free.ensures.1
     (few_refused (source_of c.args.source) q c.in_ok-ladder.field-0 c.in_ok-asked.asked c.in_ok-sliced.sliced c.in_err-free.field-0.0 c.in_ok-ladder.ensures.ladder c.in_ok-ladder.ensures.marked asked sliced refused)
 
@@ -51,12 +55,12 @@ pub returns-in_err-check_time-clause-err : goal.returns-in_err-check_time-clause
 returns-in_err-check_time-clause-err c =
     let q = question_of c.args.question.now in
     let asked = rw c.declarations.ensures.list at (rw c.deref.ensures.value at c.in_ok-asked.ensures.ok) in
-    let sliced = rw c.deref-4.ensures.value at (rw c.deref-3.ensures.value at c.in_ok-sliced.ensures) in
-    let same = rw c.deref-6.ensures.value at (rw c.deref-5.ensures.value at c.in_ok-free.ensures.ok) in
+    let sliced = rw c.deref-5.ensures.value at (rw c.deref-4.ensures.value at c.in_ok-sliced.ensures) in
+    let same = rw c.deref-7.ensures.value at (rw c.deref-6.ensures.value at c.in_ok-free.ensures.ok) in
     let refused = rw c.declarations-2.ensures.list at c.in_err-check_time.ensures.err in
     kept_fault c.in_err-check_time.field-0.0 (RefusesPreparing (source_of c.args.source) q) _ c.from_residual-in_err-check_time.ensures.1
     (time_refused (source_of c.args.source) q c.in_ok-ladder.field-0 c.in_ok-asked.asked c.in_ok-sliced.sliced c.in_ok-free.free.items
-    c.in_err-check_time.field-0.0 c.in_ok-ladder.ensures.ladder c.in_ok-ladder.ensures.marked asked sliced same c.in_ok-free.ensures.few refused)
+    c.in_err-check_time.field-0.0 c.in_ok-ladder.ensures.ladder c.in_ok-ladder.ensures.retained c.in_ok-ladder.ensures.marked asked sliced same c.in_ok-free.ensures.few refused)
 
 pub returns-in_err-constants-clause-err : goal.returns-in_err-constants-clause-err
 returns-in_err-constants-clause-err c =
@@ -65,10 +69,9 @@ returns-in_err-constants-clause-err c =
 pub slice_setup-requires : goal.slice_setup-requires
 slice_setup-requires c = λ slice is.
     let asked = rw c.declarations.ensures.list at (rw c.deref.ensures.value at c.in_ok-asked.ensures.ok) in
-    let sliced = rw c.deref-4.ensures.value at (rw c.deref-3.ensures.value at c.in_ok-sliced.ensures) in
-    let same = rw c.deref-6.ensures.value at (rw c.deref-5.ensures.value at c.in_ok-free.ensures.ok) in
-    subst (λ (held : List Setting). HasInputs slice.ladder.declarations c.in_ok-free.free.items held) (sym c.deref-8.ensures.value)
-    (slice_has_inputs c.in_ok-ladder.field-0 (question_of c.args.question.now) c.in_ok-asked.asked c.in_ok-sliced.sliced c.in_ok-free.free.items c.in_ok-ladder.ensures.marked asked sliced same slice is)
+    let sliced = rw c.deref-5.ensures.value at (rw c.deref-4.ensures.value at c.in_ok-sliced.ensures) in
+    let same = rw c.deref-7.ensures.value at (rw c.deref-6.ensures.value at c.in_ok-free.ensures.ok) in
+    slice_has_inputs c.in_ok-ladder.field-0 (question_of c.args.question.now) c.in_ok-asked.asked c.in_ok-sliced.sliced c.in_ok-free.free.items c.in_ok-ladder.ensures.marked asked sliced same slice is
 
 pub returns-in_err-slice-clause-err : goal.returns-in_err-slice-clause-err
 returns-in_err-slice-clause-err c =
@@ -89,14 +92,16 @@ returns-clause-ok c =
     let needed = c.in_ok-free.free.items in
     let constants = c.in_ok-constants.constants.items in
     let count = c.needed_count-needed.result in
-    let u = setup_of m.ladder q.dt a in
+    let restarts = places_kept c.in_ok-restarts.restarts in
+    let u = setup_of m.ladder q.dt a restarts in
+    let are_restarts = rw c.deref-2.ensures.value at c.in_ok-restarts.ensures in
     let asked = rw c.declarations.ensures.list at (rw c.deref.ensures.value at c.in_ok-asked.ensures.ok) in
-    let sliced = rw c.deref-4.ensures.value at (rw c.deref-3.ensures.value at c.in_ok-sliced.ensures) in
-    let same = rw c.deref-6.ensures.value at (rw c.deref-5.ensures.value at c.in_ok-free.ensures.ok) in
+    let sliced = rw c.deref-5.ensures.value at (rw c.deref-4.ensures.value at c.in_ok-sliced.ensures) in
+    let same = rw c.deref-7.ensures.value at (rw c.deref-6.ensures.value at c.in_ok-free.ensures.ok) in
     let timed = rw c.declarations-2.ensures.list at c.in_ok-check_time.ensures.ok in
-    let found = rw c.declarations-3.ensures.list at (rw c.deref-7.ensures.value at c.in_ok-constants.ensures) in
-    let made = rw c.deref-9.ensures.value at (rw c.deref-8.ensures.value at c.in_ok-slice.ensures) in
+    let found = rw c.declarations-3.ensures.list at (rw c.deref-8.ensures.value at c.in_ok-constants.ensures) in
+    let made = c.in_ok-slice.ensures in
     subst (λ (w : SetupValue). IsPrepared (source_of c.args.source) q w s.idle.items (searched_of c.in_ok-slice.slice w) a.claims.items constants count m.networks) (sym c.new-whole.ensures)
     (subst (λ (o : Option SetupValue). IsPrepared (source_of c.args.source) q u s.idle.items (searched_of o u) a.claims.items constants count m.networks) (sym made)
-    (subst (λ (n : ℕ). IsPrepared (source_of c.args.source) q u s.idle.items (searched_of (option_map (slice_setup q.dt needed a.held.items a.given.items) s.slice) u) a.claims.items constants n m.networks) (sym c.needed_count-needed.ensures)
-    (asked_prepared (source_of c.args.source) q m a s needed constants c.in_ok-ladder.ensures.ladder c.in_ok-ladder.ensures.marked asked sliced same c.in_ok-free.ensures.few timed found)))
+    (subst (λ (n : ℕ). IsPrepared (source_of c.args.source) q u s.idle.items (searched_of (option_map (slice_setup q.dt needed a.held.items a.given.items restarts) s.slice) u) a.claims.items constants n m.networks) (sym c.needed_count-needed.ensures)
+    (asked_prepared (source_of c.args.source) q m a restarts s needed constants c.in_ok-ladder.ensures.ladder c.in_ok-ladder.ensures.retained are_restarts c.in_ok-ladder.ensures.marked asked sliced same c.in_ok-free.ensures.few timed found)))

@@ -1,6 +1,7 @@
 -- What was noted is the whole note of the line.
+use Rattle.live_node.specs.NodeValue.{NodeValue}
 use Rattle.std.specs.Prelude.{string_bytes}
-use Rattle.std.proofs.Common.{rules}
+use Rattle.std.proofs.Common.{rules, ◌≡◌, ◌+◌, inr, subst}
 use Rattle.live_node.specs.declared.node_line.NodeLine.TheVariants.{Hello}
 use Rattle.live_node.specs.declared.node_stop.NodeStop.TheVariants.{Memory}
 use Rattle.live_node.specs.NodeAnswers.{keeper_gives}
@@ -42,3 +43,6 @@ returns-clause-answered g c =
     heard_hello (keeper_gives g.K.Keeper.raise_gives c.args.self.now.keeper) c.args.self.now.state c.note_line.new.self.state c.hear-newer.new.self c.args.line.now c.args.of c.args.incarnation c.hear-newer.result
     (g.N.Notes.noted c.args.self.now.notes) (g.N.Notes.noted c.note_line.new.self.notes) (string_bytes c.args.out.now) (string_bytes c.push_own_hello_if.new.out) (string_bytes c.push_hello_answer.new.out)
     c.requires.unrefused c.requires.news c.in_ok-note_line.ensures.state c.hear-newer.ensures c.in_ok-note_line.ensures.noted (search rules) (search rules)
+
+pub returns-clause-idle : goal.returns-clause-idle
+returns-clause-idle g c = inr (subst (λ (s : NodeValue). c.hear-newer.new.self.lines ≡ s.lines + 1) c.in_ok-note_line.ensures.state c.hear-newer.ensures.counted.lines_are)

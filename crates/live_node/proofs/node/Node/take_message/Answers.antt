@@ -1,6 +1,7 @@
 -- What was noted is the whole note of the line.
+use Rattle.live_node.specs.NodeValue.{NodeValue}
 use Rattle.std.specs.Prelude.{string_bytes}
-use Rattle.std.proofs.Common.{rules}
+use Rattle.std.proofs.Common.{rules, ◌≡◌, ◌+◌, inr, subst}
 use Rattle.live_node.specs.declared.node_line.NodeLine.TheVariants.{Take}
 use Rattle.live_node.specs.declared.node_stop.NodeStop.TheVariants.{Memory}
 use Rattle.live_node.specs.NodeAnswers.{keeper_gives}
@@ -22,3 +23,6 @@ returns-clause-answered g c =
     taken_message (keeper_gives g.K.Keeper.raise_gives c.args.self.now.keeper) c.args.self.now.state c.note_line.new.self.state c.accept-answer.new.self c.args.line.now c.args.message c.accept-answer.result
     (g.N.Notes.noted c.args.self.now.notes) (g.N.Notes.noted c.note_line.new.self.notes) (string_bytes c.args.out.now) (string_bytes c.push_message_answer.new.out)
     c.requires.low c.requires.taken c.in_ok-note_line.ensures.state c.accept-answer.ensures c.in_ok-note_line.ensures.noted (search rules)
+
+pub returns-clause-idle : goal.returns-clause-idle
+returns-clause-idle g c = inr (subst (λ (s : NodeValue). c.accept-answer.new.self.lines ≡ s.lines + 1) c.in_ok-note_line.ensures.state c.accept-answer.ensures.counted.lines_are)
