@@ -1,4 +1,4 @@
-use Rattle.std.proofs.Common.{List, ℕ, length, ap, sym, ◌∙◌}
+use Rattle.std.proofs.Common.{ℕ, length, ap, sym, ◌∙◌}
 use Rattle.std.specs.Global.{Vec}
 use Rattle.verifying.proofs.Wording.{scan_pushed, scan_same, scans_done}
 use Rattle.verifying.proofs.verdict_words.restart_scans.Goals as goal

@@ -1,6 +1,5 @@
-use Rattle.std.proofs.Common.{Some, List, ℕ, sym, subst}
+use Rattle.std.proofs.Common.{Some, sym, subst}
 use Rattle.power_flow.specs.LadderValue.{LadderValue}
-use Rattle.plant_grammar.specs.Retained.{retained_places}
 use Rattle.text_commands.specs.Sources.{AreRetainedFrom, IsLadderFrom, SourceValue}
 use Rattle.text_commands.specs.Steps.Sources.{found_ladder}
 use Rattle.verifying.proofs.Wholes.{found_retained}
