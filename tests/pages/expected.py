@@ -4,7 +4,7 @@ import re
 from rules.drawing import Drawing
 from rules.lines import is_comment
 
-MARKS = {"RESTART": "restart", "REFUSED": "refused", "FAULT": "fault", "UNANSWERED": "unanswered", "UNSHOWN": "unshown", "NOJOURNAL": "unshown", "OVERRUN": "overrun", "FIELD": "ended"}
+MARKS = {"RESTART": "restart", "REFUSED": "refused", "FAULT": "fault", "UNANSWERED": "unanswered", "UNSHOWN": "unshown", "NOJOURNAL": "unshown", "OVERRUN": "overrun", "FIELD": "ended", "UNNOTED": "unnoted"}
 # The word of a line that names its lane.
 PLACES = {"EVAL": 2, "DELIVER": 2, "RESTART": 1, "START": 1, "HEAR": 1, "FAULT": 1, "OVERRUN": 1, "EXPECT": 1}
 

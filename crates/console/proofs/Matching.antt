@@ -17,12 +17,13 @@ use Rattle.console.specs.declared.request.TextRequest.TheVariants.{Eval, Check, 
 use Rattle.console.specs.declared.request.View.{View}
 use Rattle.console.specs.declared.request.Color.{Color}
 use Rattle.console.specs.declared.request.Strictness.{Strictness}
+use Rattle.console.specs.declared.request.JournalFull.{JournalFull}
 use Rattle.console.specs.declared.request.Pace.{Pace}
 use Rattle.console.specs.declared.request.Restarts.{Restarts}
 use Rattle.console.specs.declared.request.Request.{Request}
 use Rattle.console.specs.declared.request.Request.TheVariants.{Text as OfText, Verify, Sim, Run, Node, Explain, Audit, Page}
 use Rattle.text_commands.specs.Restarts.{AreRestarts}
-use Rattle.console.specs.CommandLine.{AsksFor, GivesColor, GivesEnd, GivesNumber, GivesOption, GivesPace, GivesRestarts, GivesStrictness, GivesView, IsNumber, OnlyMemoryRefuses, is_given, plc_app, restart_words}
+use Rattle.console.specs.CommandLine.{AsksFor, AsksSecond, GivesColor, GivesEnd, GivesJournalFull, GivesNumber, GivesOption, GivesPace, GivesRestarts, GivesStrictness, GivesView, IsNumber, OnlyMemoryRefuses, is_given, plc_app, restart_words}
 
 -- a plus is no digit
 pub plus_is_none : (text : List ℕ) → (slice_index text 0 == 43) ≡ true → IsNumber text → ⊥
@@ -127,8 +128,8 @@ part_refused asks gives e part refused x asked = let found = part x asked in ref
 -- what `eval` gives by its options
 pub eval_parts : (found : List Row) (r : Request) → AsksFor (Some (codes "eval", found)) r
     → (n : ℕ) × (v : View) × (c : Color) × (s : Strictness) × GivesNumber 0 (first_of (codes "dt") found) n × GivesView (is_given (codes "show") found) (is_given (codes "chart") found) v × GivesColor (first_of (codes "color") found) c
-    × GivesStrictness (is_given (codes "strict") found) (is_given (codes "no-warnings") found) s × (scans : List ℕ) × AreRestarts (restart_words found) scans
-eval_parts found (OfText (Eval drawing dt view color files strictness words program restarts)) asked = (dt, view, color, strictness, asked.1.1, asked.1.2, asked.1.3, asked.1.6, restarts.items, asked.1.8)
+    × GivesStrictness (is_given (codes "strict") found) (is_given (codes "no-warnings") found) s × (scans : List ℕ) × AreRestarts (restart_words found) scans × (w : Option (Bor (List ℕ))) × AsksSecond found w
+eval_parts found (OfText (Eval drawing dt view color files strictness words program restarts second)) asked = (dt, view, color, strictness, asked.1.1, asked.1.2, asked.1.3, asked.1.6, restarts.items, asked.1.8, second, asked.1.9)
 eval_parts found (OfText (Check plant strictness)) asked = absurd (unlike (codes "eval") (codes "check") refl refl asked.0)
 eval_parts found (OfText (Plan plant until form)) asked = absurd (unlike (codes "eval") (codes "plan") refl refl asked.0)
 eval_parts found (Verify verify) asked = absurd (unlike (codes "eval") (codes "verify") refl refl asked.0)
@@ -142,7 +143,7 @@ eval_parts found (Page file) asked = absurd (unlike (codes "eval") (codes "page"
 -- what `check` gives by its flags
 pub check_parts : (found : List Row) (r : Request) → AsksFor (Some (codes "check", found)) r
     → (s : Strictness) × GivesStrictness (is_given (codes "strict") found) (is_given (codes "no-warnings") found) s
-check_parts found (OfText (Eval drawing dt view color files strictness words program restarts)) asked = absurd (unlike (codes "check") (codes "eval") refl refl asked.0)
+check_parts found (OfText (Eval drawing dt view color files strictness words program restarts second)) asked = absurd (unlike (codes "check") (codes "eval") refl refl asked.0)
 check_parts found (OfText (Check plant strictness)) asked = (strictness, asked.1.1)
 check_parts found (OfText (Plan plant until form)) asked = absurd (unlike (codes "check") (codes "plan") refl refl asked.0)
 check_parts found (Verify verify) asked = absurd (unlike (codes "check") (codes "verify") refl refl asked.0)
@@ -156,11 +157,11 @@ check_parts found (Page file) asked = absurd (unlike (codes "check") (codes "pag
 -- what `verify` gives by its options
 pub verify_parts : (found : List Row) (r : Request) → AsksFor (Some (codes "verify", found)) r
     → (n : Option ℕ) × (m : ℕ) × (k : Option ℕ) × (s : Strictness) × GivesOption (first_of (codes "dt") found) n × GivesNumber 1000000 (first_of (codes "most-states") found) m × GivesOption (first_of (codes "most-waiting") found) k
-    × GivesStrictness (is_given (codes "strict") found) (is_given (codes "no-warnings") found) s × (r : Restarts) × GivesRestarts (is_given (codes "restarts") found) (is_given (codes "no-restarts") found) r
-verify_parts found (OfText (Eval drawing dt view color files strictness words program restarts)) asked = absurd (unlike (codes "verify") (codes "eval") refl refl asked.0)
+    × GivesStrictness (is_given (codes "strict") found) (is_given (codes "no-warnings") found) s × (r : Restarts) × GivesRestarts (is_given (codes "restarts") found) (is_given (codes "no-restarts") found) r × (w : Option (Bor (List ℕ))) × AsksSecond found w
+verify_parts found (OfText (Eval drawing dt view color files strictness words program restarts second)) asked = absurd (unlike (codes "verify") (codes "eval") refl refl asked.0)
 verify_parts found (OfText (Check plant strictness)) asked = absurd (unlike (codes "verify") (codes "check") refl refl asked.0)
 verify_parts found (OfText (Plan plant until form)) asked = absurd (unlike (codes "verify") (codes "plan") refl refl asked.0)
-verify_parts found (Verify verify) asked = (verify.dt, verify.most_states, verify.most_waiting, verify.strictness, asked.1.4, asked.1.5, asked.1.6, asked.1.8, verify.restarts, asked.1.3)
+verify_parts found (Verify verify) asked = (verify.dt, verify.most_states, verify.most_waiting, verify.strictness, asked.1.4, asked.1.5, asked.1.6, asked.1.8, verify.restarts, asked.1.3, verify.second, asked.1.10)
 verify_parts found (Sim sim) asked = absurd (unlike (codes "verify") (codes "sim") refl refl asked.0)
 verify_parts found (Run run) asked = absurd (unlike (codes "verify") (codes "run") refl refl asked.0)
 verify_parts found (Node node) asked = absurd (unlike (codes "verify") (codes "node") refl refl asked.0)
@@ -171,7 +172,7 @@ verify_parts found (Page file) asked = absurd (unlike (codes "verify") (codes "p
 -- what `plan` gives by its options
 pub plan_parts : (found : List Row) (r : Request) → AsksFor (Some (codes "plan", found)) r
     → (n : ℕ) × GivesNumber 0 (first_of (codes "until") found) n
-plan_parts found (OfText (Eval drawing dt view color files strictness words program restarts)) asked = absurd (unlike (codes "plan") (codes "eval") refl refl asked.0)
+plan_parts found (OfText (Eval drawing dt view color files strictness words program restarts second)) asked = absurd (unlike (codes "plan") (codes "eval") refl refl asked.0)
 plan_parts found (OfText (Check plant strictness)) asked = absurd (unlike (codes "plan") (codes "check") refl refl asked.0)
 plan_parts found (OfText (Plan plant until form)) asked = (until, asked.1.1)
 plan_parts found (Verify verify) asked = absurd (unlike (codes "plan") (codes "verify") refl refl asked.0)
@@ -185,7 +186,7 @@ plan_parts found (Page file) asked = absurd (unlike (codes "plan") (codes "page"
 -- what `sim` gives by its options
 pub sim_parts : (found : List Row) (r : Request) → AsksFor (Some (codes "sim", found)) r
     → (n : ℕ) × GivesNumber 4294967295 (first_of (codes "max-number") found) n
-sim_parts found (OfText (Eval drawing dt view color files strictness words program restarts)) asked = absurd (unlike (codes "sim") (codes "eval") refl refl asked.0)
+sim_parts found (OfText (Eval drawing dt view color files strictness words program restarts second)) asked = absurd (unlike (codes "sim") (codes "eval") refl refl asked.0)
 sim_parts found (OfText (Check plant strictness)) asked = absurd (unlike (codes "sim") (codes "check") refl refl asked.0)
 sim_parts found (OfText (Plan plant until form)) asked = absurd (unlike (codes "sim") (codes "plan") refl refl asked.0)
 sim_parts found (Verify verify) asked = absurd (unlike (codes "sim") (codes "verify") refl refl asked.0)
@@ -199,7 +200,7 @@ sim_parts found (Page file) asked = absurd (unlike (codes "sim") (codes "page") 
 -- what `run` gives by its options
 pub run_parts : (found : List Row) (r : Request) → AsksFor (Some (codes "run", found)) r
     → (n : ℕ) × (p : Pace) × GivesNumber 0 (first_of (codes "until") found) n × GivesPace (is_given (codes "paced") found) (is_given (codes "clock") found) p
-run_parts found (OfText (Eval drawing dt view color files strictness words program restarts)) asked = absurd (unlike (codes "run") (codes "eval") refl refl asked.0)
+run_parts found (OfText (Eval drawing dt view color files strictness words program restarts second)) asked = absurd (unlike (codes "run") (codes "eval") refl refl asked.0)
 run_parts found (OfText (Check plant strictness)) asked = absurd (unlike (codes "run") (codes "check") refl refl asked.0)
 run_parts found (OfText (Plan plant until form)) asked = absurd (unlike (codes "run") (codes "plan") refl refl asked.0)
 run_parts found (Verify verify) asked = absurd (unlike (codes "run") (codes "verify") refl refl asked.0)
@@ -212,14 +213,14 @@ run_parts found (Page file) asked = absurd (unlike (codes "run") (codes "page") 
 
 -- what `node` gives by its options
 pub node_parts : (found : List Row) (r : Request) → AsksFor (Some (codes "node", found)) r
-    → (end : Option ℕ) × GivesEnd found end
-node_parts found (OfText (Eval drawing dt view color files strictness words program restarts)) asked = absurd (unlike (codes "node") (codes "eval") refl refl asked.0)
+    → (end : Option ℕ) × (full : JournalFull) × GivesEnd found end × GivesJournalFull found full
+node_parts found (OfText (Eval drawing dt view color files strictness words program restarts second)) asked = absurd (unlike (codes "node") (codes "eval") refl refl asked.0)
 node_parts found (OfText (Check plant strictness)) asked = absurd (unlike (codes "node") (codes "check") refl refl asked.0)
 node_parts found (OfText (Plan plant until form)) asked = absurd (unlike (codes "node") (codes "plan") refl refl asked.0)
 node_parts found (Verify verify) asked = absurd (unlike (codes "node") (codes "verify") refl refl asked.0)
 node_parts found (Sim sim) asked = absurd (unlike (codes "node") (codes "sim") refl refl asked.0)
 node_parts found (Run run) asked = absurd (unlike (codes "node") (codes "run") refl refl asked.0)
-node_parts found (Node node) asked = (node.until, asked.1.4)
+node_parts found (Node node) asked = (node.until, node.journal_full, asked.1.4, asked.1.7)
 node_parts found (Explain kind) asked = absurd (unlike (codes "node") (codes "explain") refl refl asked.0)
 node_parts found (Audit audit) asked = absurd (unlike (codes "node") (codes "audit") refl refl asked.0)
 node_parts found (Page file) asked = absurd (unlike (codes "node") (codes "page") refl refl asked.0)
@@ -236,7 +237,7 @@ pub no_command : (name : List ℕ) (found : List Row) (r : Request)
     → (name ≡ codes "explain" → ⊥)
     → (name ≡ codes "audit" → ⊥)
     → (name ≡ codes "page" → ⊥) → AsksFor (Some (name, found)) r → ⊥
-no_command name found (OfText (Eval drawing dt view color files strictness words program restarts)) no_eval no_check no_plan no_verify no_sim no_run no_node no_explain no_audit no_page asked = no_eval asked.0
+no_command name found (OfText (Eval drawing dt view color files strictness words program restarts second)) no_eval no_check no_plan no_verify no_sim no_run no_node no_explain no_audit no_page asked = no_eval asked.0
 no_command name found (OfText (Check plant strictness)) no_eval no_check no_plan no_verify no_sim no_run no_node no_explain no_audit no_page asked = no_check asked.0
 no_command name found (OfText (Plan plant until form)) no_eval no_check no_plan no_verify no_sim no_run no_node no_explain no_audit no_page asked = no_plan asked.0
 no_command name found (Verify verify) no_eval no_check no_plan no_verify no_sim no_run no_node no_explain no_audit no_page asked = no_verify asked.0

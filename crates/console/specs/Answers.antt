@@ -44,24 +44,28 @@ pub record HasNoTrace (traced : Traced) : Type 0 where
   pub dump : traced.texts.dump ≡ None
   pub diagram : traced.texts.diagram ≡ None
 
--- the drawing in a text, or the program type of a name in it
-abbrev pub asked_source : List ℕ → Option (Bor (List ℕ)) → SourceValue
-asked_source text program = record { text = text; program = option_map (λ name. name.now) program }
+-- the drawing in a text, or the program type of a name in it; and the text of a second drawing, if there is one
+abbrev pub asked_source : List ℕ → Option (Bor (List ℕ)) → Option (List ℕ) → SourceValue
+asked_source text program other = record {
+  text = text;
+  program = option_map (λ name. name.now) program;
+  second = other;
+}
 
 -- what was asked for was written: by its own command, with its words, at its times; and this is the first difference from
--- what they expect, if there is one, with the texts for the files that are wanted
-abbrev pub WritesAnswer : Bool → TextRequest → List ℕ → Option (List ℕ) → Option (List ℕ) → Traced → Type 0
-WritesAnswer terminal (Eval drawing dt view color files strictness words program restarts) text old new traced =
+-- what they expect, if there is one, with the texts for the files that are wanted. Of a second drawing the text is `other`.
+abbrev pub WritesAnswer : Bool → TextRequest → List ℕ → Option (List ℕ) → Option (List ℕ) → Option (List ℕ) → Traced → Type 0
+WritesAnswer terminal (Eval drawing dt view color files strictness words program restarts second) text other old new traced =
     (wanted : Wanted) × AreWantedFor drawing.now files wanted
-    × WritesTraced (asked_source text program) (words_in (Eval drawing dt view color files strictness words program restarts)) restarts.items dt
+    × WritesTraced (asked_source text program other) (words_in (Eval drawing dt view color files strictness words program restarts second)) restarts.items dt
     (form_of view color terminal) wanted old new traced
-WritesAnswer terminal (Check plant strictness) text old new traced = WritesCheck text old new × HasNoTrace traced
-WritesAnswer terminal (Plan plant until form) text old new traced = WritesPlan text until form old new × HasNoTrace traced
+WritesAnswer terminal (Check plant strictness) text other old new traced = WritesCheck text old new × HasNoTrace traced
+WritesAnswer terminal (Plan plant until form) text other old new traced = WritesPlan text until form old new × HasNoTrace traced
 
 -- why what was asked for wasn't written, and what was written before
-abbrev pub ExplainsAnswer : Bool → TextRequest → List ℕ → Option (List ℕ) → Option (List ℕ) → TextCommandFault → Type 0
-ExplainsAnswer terminal (Eval drawing dt view color files strictness words program restarts) text old new fault =
-    ExplainsTest (asked_source text program) (words_in (Eval drawing dt view color files strictness words program restarts)) restarts.items dt
+abbrev pub ExplainsAnswer : Bool → TextRequest → List ℕ → Option (List ℕ) → Option (List ℕ) → Option (List ℕ) → TextCommandFault → Type 0
+ExplainsAnswer terminal (Eval drawing dt view color files strictness words program restarts second) text other old new fault =
+    ExplainsTest (asked_source text program other) (words_in (Eval drawing dt view color files strictness words program restarts second)) restarts.items dt
     (form_of view color terminal) old new fault
-ExplainsAnswer terminal (Check plant strictness) text old new fault = ExplainsCheck text old new fault
-ExplainsAnswer terminal (Plan plant until form) text old new fault = ExplainsPlan text until form old new fault
+ExplainsAnswer terminal (Check plant strictness) text other old new fault = ExplainsCheck text old new fault
+ExplainsAnswer terminal (Plan plant until form) text other old new fault = ExplainsPlan text until form old new fault

@@ -19,6 +19,8 @@ use Rattle.console.specs.declared.request.Strictness.{Strictness}
 use Rattle.console.specs.declared.request.Strictness.TheVariants.{Told, Strict, Silent}
 use Rattle.console.specs.declared.request.Restarts.{Restarts}
 use Rattle.console.specs.declared.request.Restarts.TheVariants.{Unsaid, Asked, LeftOut}
+use Rattle.console.specs.declared.request.JournalFull.{JournalFull}
+use Rattle.console.specs.declared.request.JournalFull.TheVariants.{Stop, GoOn}
 use Rattle.console.specs.declared.request.Pace.{Pace}
 use Rattle.console.specs.declared.request.Pace.TheVariants.{Free, Paced, Clock}
 use Rattle.console.specs.declared.request.TraceFiles.{TraceFiles}
@@ -72,6 +74,10 @@ state_rule = option_of (codes "state")
 abbrev pub journal_rule : Rule
 journal_rule = option_of (codes "journal")
 
+-- an option `--journal-full HOW`
+abbrev pub journal_full_rule : Rule
+journal_full_rule = option_of (codes "journal-full")
+
 -- a flag `--id`
 abbrev pub flag_of : Text → Rule
 flag_of id = record (new_rule id) { action = Some SetTrue; long = Some id }
@@ -116,6 +122,10 @@ svg_rule = option_of (codes "svg")
 -- an option `--program P`
 abbrev pub program_rule : Rule
 program_rule = option_of (codes "program")
+
+-- an option `--with FILE`
+abbrev pub with_file_rule : Rule
+with_file_rule = option_of (codes "with")
 
 -- with the options for files of a trace, `[--vcd FILE] [--svg FILE]`
 abbrev pub traced : App → App
@@ -174,9 +184,11 @@ shown_app =
     let dt = with_rule (with_rule (new_app (codes "eval")) drawing_rule) dt_rule in
     with_rule (with_rule (with_rule dt show_rule) chart_rule) color_rule
 
--- .. `[--program P] [--restart K] [--vcd FILE] [--svg FILE] [--strict] [--no-warnings] [NAME=VALUES]..`
+-- .. `[--program P] [--with FILE] [--restart K] [--vcd FILE] [--svg FILE] [--strict] [--no-warnings] [NAME=VALUES]..`
 abbrev pub eval_app : App
-eval_app = with_rule (warned (traced (with_rule (with_rule shown_app program_rule) restart_rule))) words_rule
+eval_app =
+    let second = with_rule (with_rule shown_app program_rule) with_file_rule in
+    with_rule (warned (traced (with_rule second restart_rule))) words_rule
 
 -- `verify FILE --never NAME [--given NAME] [--restarts] [--no-restarts] [--dt MS] [--most-states N] [--most-waiting N]`
 abbrev pub claimed_app : App
@@ -185,9 +197,9 @@ claimed_app =
     let given = with_rule (with_rule (with_rule never given_rule) restarts_rule) no_restarts_rule in
     with_rule (with_rule (with_rule given dt_rule) most_states_rule) most_waiting_rule
 
--- .. `[--program P] [--strict] [--no-warnings] [WORD]..`
+-- .. `[--program P] [--with FILE] [--strict] [--no-warnings] [WORD]..`
 abbrev pub verify_app : App
-verify_app = with_rule (warned (with_rule claimed_app program_rule)) words_rule
+verify_app = with_rule (warned (with_rule (with_rule claimed_app program_rule) with_file_rule)) words_rule
 
 -- `check PLANT [--strict] [--no-warnings]`
 abbrev pub check_app : App
@@ -215,12 +227,12 @@ paced_app =
 abbrev pub run_app : App
 run_app = with_rule (traced paced_app) words_rule
 
--- `node PLANT RESOURCE [--cycle] [--field FILE] [--until MS] [--state DIR] [--journal FILE]`
+-- `node PLANT RESOURCE [--cycle] [--field FILE] [--until MS] [--state DIR] [--journal FILE] [--journal-full HOW]`
 abbrev pub node_app : App
 node_app =
     let resource = with_rule (with_rule (new_app (codes "node")) plant_rule) resource_rule in
     let until = with_rule (with_rule (with_rule resource cycle_rule) node_field_rule) end_rule in
-    with_rule (with_rule until state_rule) journal_rule
+    with_rule (with_rule (with_rule until state_rule) journal_rule) journal_full_rule
 
 -- the names of journals, one or more
 abbrev pub journals_rule : Rule
@@ -360,6 +372,22 @@ GivesEnd found end =
     GivesOption (first_of (codes "until") found) end
     × MayEnd (is_given (codes "cycle") found) (first_of (codes "field") found) end
 
+-- the word behind `--journal-full`; where there is none it is `stop`
+abbrev pub GivesFull : Option (List ℕ) → JournalFull → Type 0
+GivesFull word Stop = (word ≡ None) ⊎ (word ≡ Some (codes "stop"))
+GivesFull word GoOn = word ≡ Some (codes "go-on")
+
+-- it needs `--journal`
+abbrev pub NeedsJournal : Option Text → Option Text → Type 0
+NeedsJournal None journal = Unit {0}
+NeedsJournal (Some word) journal = journal ≡ None → ⊥
+
+-- what is done where a node's journal can't be written, by the word behind `--journal-full`, where it may be given
+abbrev pub GivesJournalFull : List Row → JournalFull → Type 0
+GivesJournalFull found full =
+    GivesFull (first_of (codes "journal-full") found) full
+    × NeedsJournal (first_of (codes "journal-full") found) (first_of (codes "journal") found)
+
 -- the word behind `--color`; where there is none it is `auto`
 abbrev pub GivesColor : Option (List ℕ) → Color → Type 0
 GivesColor word Always = word ≡ Some (codes "always")
@@ -376,9 +404,20 @@ AsksFiles found files =
 abbrev pub AsksProgram : List Row → Option (Bor (List ℕ)) → Type 0
 AsksProgram found program = option_map (λ p. p.now) program ≡ first_of (codes "program") found
 
+-- a second drawing stands beside no program type
+abbrev pub IsBesideNone : Option Text → Option Text → Type 0
+IsBesideNone program None = Unit {0}
+IsBesideNone program (Some file) = program ≡ None
+
+-- the file behind `--with`
+abbrev pub AsksSecond : List Row → Option (Bor (List ℕ)) → Type 0
+AsksSecond found second =
+    (option_map (λ f. f.now) second ≡ first_of (codes "with") found)
+    × IsBesideNone (first_of (codes "program") found) (first_of (codes "with") found)
+
 -- the subcommand that asks for it
 abbrev pub command_of : Request → Text
-command_of (OfText (Eval drawing dt view color files strictness words program restarts)) = codes "eval"
+command_of (OfText (Eval drawing dt view color files strictness words program restarts second)) = codes "eval"
 command_of (OfText (Check plant strictness)) = codes "check"
 command_of (OfText (Plan plant until form)) = codes "plan"
 command_of (Verify verify) = codes "verify"
@@ -391,13 +430,13 @@ command_of (Audit audit) = codes "audit"
 
 -- what was found for its options gives what it asks for
 abbrev pub Asks : List Row → Request → Type 0
-Asks found (OfText (Eval drawing dt view color files strictness words program restarts)) =
+Asks found (OfText (Eval drawing dt view color files strictness words program restarts second)) =
     (drawing.now ≡ given_word (codes "DRAWING") found) × GivesNumber 0 (first_of (codes "dt") found) dt
     × GivesView (is_given (codes "show") found) (is_given (codes "chart") found) view
     × GivesColor (first_of (codes "color") found) color
     × AsksFiles found files × (map (λ w. w.now) words.items ≡ words_given found)
     × GivesStrictness (is_given (codes "strict") found) (is_given (codes "no-warnings") found) strictness
-    × AsksProgram found program × AreRestarts (restart_words found) restarts.items
+    × AsksProgram found program × AreRestarts (restart_words found) restarts.items × AsksSecond found second
 Asks found (OfText (Check plant strictness)) = (plant.now ≡ given_word (codes "PLANT") found)
     × GivesStrictness (is_given (codes "strict") found) (is_given (codes "no-warnings") found) strictness
 Asks found (OfText (Plan plant until form)) =
@@ -413,7 +452,7 @@ Asks found (Verify verify) =
     × GivesOption (first_of (codes "most-waiting") found) verify.most_waiting
     × (map (λ w. w.now) verify.words.items ≡ words_given found)
     × GivesStrictness (is_given (codes "strict") found) (is_given (codes "no-warnings") found) verify.strictness
-    × AsksProgram found verify.program
+    × AsksProgram found verify.program × AsksSecond found verify.second
 Asks found (Sim sim) =
     (sim.plant.now ≡ given_word (codes "PLANT") found) × (sim.schedule.now ≡ given_word (codes "SCHEDULE") found)
     × GivesNumber 4294967295 (first_of (codes "max-number") found) sim.max_number × AsksFiles found sim.files
@@ -428,6 +467,7 @@ Asks found (Node node) =
     × (option_map (λ f. f.now) node.field ≡ first_of (codes "field") found) × GivesEnd found node.until
     × (option_map (λ d. d.now) node.state ≡ first_of (codes "state") found)
     × (option_map (λ f. f.now) node.journal ≡ first_of (codes "journal") found)
+    × GivesJournalFull found node.journal_full
 Asks found (Page file) = file.now ≡ given_word (codes "FILE") found
 Asks found (Explain kind) = option_map (λ k. k.now) kind ≡ first_of (codes "KIND") found
 Asks found (Audit audit) =
@@ -445,30 +485,36 @@ OnlyMemoryRefuses {X} asks error = (x : X) → asks x → kind_of error ≡ OutO
 
 -- the file that is to be read
 abbrev pub file_of : TextRequest → List ℕ
-file_of (Eval drawing dt view color files strictness words program restarts) = drawing.now
+file_of (Eval drawing dt view color files strictness words program restarts second) = drawing.now
 file_of (Check plant strictness) = plant.now
 file_of (Plan plant until form) = plant.now
 
 -- the files that are written of a trace
 abbrev pub files_in : TextRequest → TraceFiles
-files_in (Eval drawing dt view color files strictness words program restarts) = files
+files_in (Eval drawing dt view color files strictness words program restarts second) = files
 files_in (Check plant strictness) = record { vcd = None; svg = None }
 files_in (Plan plant until form) = record { vcd = None; svg = None }
 
 -- what becomes of warnings
 abbrev pub strictness_of : TextRequest → Strictness
-strictness_of (Eval drawing dt view color files strictness words program restarts) = strictness
+strictness_of (Eval drawing dt view color files strictness words program restarts second) = strictness
 strictness_of (Check plant strictness) = strictness
 strictness_of (Plan plant until form) = Silent
 
 -- the words NAME=VALUES and NAME==VALUES
 abbrev pub words_in : TextRequest → List (List ℕ)
-words_in (Eval drawing dt view color files strictness words program restarts) = map (λ w. w.now) words.items
+words_in (Eval drawing dt view color files strictness words program restarts second) = map (λ w. w.now) words.items
 words_in (Check plant strictness) = []
 words_in (Plan plant until form) = []
 
 -- the name of the program type that is asked about
 abbrev pub program_in : TextRequest → Option (Bor (List ℕ))
-program_in (Eval drawing dt view color files strictness words program restarts) = program
+program_in (Eval drawing dt view color files strictness words program restarts second) = program
 program_in (Check plant strictness) = None
 program_in (Plan plant until form) = None
+
+-- the file of a second drawing
+abbrev pub second_in : TextRequest → Option (Bor (List ℕ))
+second_in (Eval drawing dt view color files strictness words program restarts second) = second
+second_in (Check plant strictness) = None
+second_in (Plan plant until form) = None

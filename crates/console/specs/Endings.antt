@@ -1,6 +1,8 @@
 -- How commands end: with which status, and with which texts for the files of a trace. What stood in a file no contract can
 -- say, so that is some text.
 use Rattle.std.specs.Prelude.{◌≡◌, ◌⊎◌, ℕ, if◌then◌else◌, List, Bool, bytes_eq, codes, Option, Some, None, Result, Ok, Err, MatchResult, unwrap_or}
+use Rattle.std.specs.Borrow.{Bor}
+use Rattle.std.specs.Option.{is_some}
 use Rattle.clap.specs.declared.error.kind.ErrorKind.{ErrorKind}
 use Rattle.clap.specs.declared.error.kind.ErrorKind.TheVariants as words
 use Rattle.evaluation.specs.InputTexts.{IsFaultOf}
@@ -26,7 +28,7 @@ use Rattle.console.specs.declared.request.SimRequest.{SimRequest}
 use Rattle.console.specs.declared.request.TextRequest.{TextRequest}
 use Rattle.console.specs.declared.request.VerifyRequest.{VerifyRequest}
 use Rattle.console.specs.Answers.{WritesAnswer, ExplainsAnswer, asked_source}
-use Rattle.console.specs.CommandLine.{file_of, strictness_of}
+use Rattle.console.specs.CommandLine.{file_of, second_in, strictness_of}
 use Rattle.console.specs.Warned.{EndsWarned, IsLadderQuiet, IsQuiet}
 use Rattle.console.specs.FieldWords.{one_text_of}
 use Rattle.console.specs.Giving.{command_fault}
@@ -82,19 +84,32 @@ EndsAfter request text (Ok traced) answered =
     × (answered.texts ≡ traced.texts)
 EndsAfter request text (Err fault) answered = EndsWith (status_of_fault (command_fault fault)) answered
 
+-- the text of a second drawing's file, if there is such a file
+abbrev pub IsOther : Option (Bor (List ℕ)) → Option (List ℕ) → Type 0
+IsOther second other = is_some other ≡ is_some second
+
+-- with which status it ended because that file wasn't read
+abbrev pub IsOtherUnread : Option (Bor (List ℕ)) → ℕ → Type 0
+IsOtherUnread None status = ⊥
+IsOtherUnread (Some file) status = status ≡ status_of_unread file.now
+
 -- what was asked for was written of the text of the file, or why it wasn't; and so it ended
 pub record IsObeyed (terminal : Bool) (request : TextRequest) (answered : Answered) : Type 0 where
   pub text : List ℕ
+  pub other : Option (List ℕ)
+  pub is_other : IsOther (second_in request) other
   pub old : Option (List ℕ)
   pub new : Option (List ℕ)
   pub obeyed : Result Traced TextCommandFault
-  pub is : MatchResult obeyed (WritesAnswer terminal request text old new) (ExplainsAnswer terminal request text old new)
+  pub is : MatchResult obeyed (WritesAnswer terminal request text other old new)
+      (ExplainsAnswer terminal request text other old new)
   pub ended : EndsAfter request text obeyed answered
 
 -- how a command of one text ends
 abbrev pub EndsText : Bool → TextRequest → Answered → Type 0
 EndsText terminal request answered =
-    EndsWith (status_of_unread (file_of request)) answered ⊎ IsObeyed terminal request answered
+    EndsWith (status_of_unread (file_of request)) answered
+    ⊎ ((HasNoTexts answered.texts × IsOtherUnread (second_in request) answered.status) ⊎ IsObeyed terminal request answered)
 
 -- how `plc verify` of a drawing or a program type ends, by what came of it; verdicts are followed by warnings
 abbrev pub EndsVerdicts : VerifyRequest → List ℕ → Result Summary VerifyFault → ℕ → Type 0
@@ -103,14 +118,20 @@ EndsVerdicts request text (Ok summary) status =
 EndsVerdicts request text (Err fault) status = status ≡ status_of_question fault
 
 -- the claims about the drawing in a text, or a program type, were answered, or why they weren't; and so it ended
-pub record IsDrawingVerified (request : VerifyRequest) (text : List ℕ) (status : ℕ) : Type 0 where
+pub record IsDrawingVerified (request : VerifyRequest) (text : List ℕ) (other : Option (List ℕ)) (status : ℕ) : Type 0 where
   pub old : Option (List ℕ)
   pub new : Option (List ℕ)
   pub answered : Result Summary VerifyFault
   pub is : let question = asked_question (eval_words request) request in
-      let source = asked_source text request.program in
+      let source = asked_source text request.program other in
       MatchResult answered (WritesVerdicts source question old new) (ExplainsVerdicts source question old new)
   pub ended : EndsVerdicts request text answered status
+
+-- so it ended, where there may be a second drawing, whose file is read
+abbrev pub AreDrawingsVerified : VerifyRequest → List ℕ → ℕ → Type 0
+AreDrawingsVerified request text status = IsOtherUnread request.second status
+    ⊎ ((other : Option (List ℕ)) × IsOther request.second other
+    × ((status ≡ 3) ⊎ IsDrawingVerified request text other status))
 
 -- the status of `plc verify` of a plant, by what came of it
 abbrev pub status_of_plant_verdicts : Result Summary VerifyPlantFault → ℕ
@@ -126,11 +147,11 @@ pub record IsPlantVerified (request : VerifyRequest) (text : List ℕ) (status :
       (ExplainsPlantVerdicts text (asked_of_plant request) old new)
   pub ended : status ≡ status_of_plant_verdicts answered
 
--- how a question about such a thing ends: the file isn't read, or its text is answered; of a drawing 3 is also for want of
+-- how a question about such a thing ends: a file isn't read, or its text is answered; of a drawing 3 is also for want of
 -- memory before. A question about neither ends with 2.
 abbrev pub EndsAbout : VerifyRequest → Subject → ℕ → Type 0
-EndsAbout request Drawing status = (status ≡ status_of_unread request.file.now)
-    ⊎ ((text : List ℕ) × ((status ≡ 3) ⊎ IsDrawingVerified request text status))
+EndsAbout request Drawing status =
+    (status ≡ status_of_unread request.file.now) ⊎ ((text : List ℕ) × AreDrawingsVerified request text status)
 EndsAbout request Plant status =
     (status ≡ status_of_unread request.file.now) ⊎ ((text : List ℕ) × IsPlantVerified request text status)
 EndsAbout request Neither status = status ≡ 2

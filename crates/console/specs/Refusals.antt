@@ -17,7 +17,8 @@ use Rattle.plant.specs.declared.plant_fault.BodyFault.TheVariants as body
 use Rattle.std_blocks.specs.declared.value.Value.{Value}
 use Rattle.text_lines.specs.LineParts.{value_text}
 use Rattle.text_commands.specs.declared.text_fault.TextFault.{TextFault}
-use Rattle.text_commands.specs.declared.text_fault.TextFault.TheVariants.{Draw, Graph, Bind, Plant, TooLong}
+use Rattle.text_commands.specs.declared.text_fault.TextFault.TheVariants.{Draw, Graph, Bind, Plant, TooLong, Second}
+use Rattle.text_commands.specs.declared.second_fault.SecondFault.TheVariants as second
 use Rattle.text_commands.specs.declared.difference.Difference.{Difference}
 
 -- a word as messages show it: a control character is a question mark
@@ -94,6 +95,9 @@ refusal_of file (Graph fault) = at_place file fault.line fault.column (kind_of_n
 refusal_of file (Bind fault) = at_place file fault.line fault.column (kind_of_names fault.kind)
 refusal_of file (Plant fault) = at_line file fault.line fault.kind fault.inner
 refusal_of file TooLong = codes "plan: TooLong"
+refusal_of file (Second (second.Draw fault)) = at_place file fault.line fault.column (kind_of_drawing fault.kind)
+refusal_of file (Second (second.Graph fault)) = at_place file fault.line fault.column (kind_of_networks fault.kind)
+refusal_of file (Second (second.Bind fault)) = at_place file fault.line fault.column (kind_of_names fault.kind)
 
 -- the first line of what is told of the schedule of a file of which a line is no event
 abbrev pub no_event : List ℕ → ℕ → List ℕ

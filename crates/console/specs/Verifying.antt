@@ -29,11 +29,15 @@ are_plain (name ∷ names) = not (is_of_plant name) && are_plain names
 abbrev pub is_of_drawings : VerifyRequest → Bool
 is_of_drawings request = not (are_left_out request.restarts) && is_none request.most_waiting
 
--- it is about a plant where all words are of one and no program type is asked about, about a drawing or a program type where
--- none has a dot or comma, and nothing is asked of plants alone
+-- neither a program type is asked about, nor is there a second drawing
+abbrev pub is_alone : VerifyRequest → Bool
+is_alone request = is_none request.program && is_none request.second
+
+-- it is about a plant where all words are of one, no program type is asked about and there is no second drawing; about a
+-- drawing or a program type where none has a dot or comma, and nothing is asked of plants alone
 abbrev pub subject_of : VerifyRequest → Subject
 subject_of request =
-    if are_of_plant (texts request.claims.items) && are_of_plant (texts request.given.items) && is_none request.program then Plant
+    if are_of_plant (texts request.claims.items) && are_of_plant (texts request.given.items) && is_alone request then Plant
     else (if are_plain (texts request.claims.items) && (are_plain (texts request.given.items) && is_of_drawings request) then Drawing else Neither)
 
 -- the option for a program type
@@ -41,9 +45,14 @@ abbrev pub program_words : Option (Bor (List ℕ)) → List ℕ
 program_words None = []
 program_words (Some name) = codes " --program " ++ shell_word name.now
 
--- the words that stand for a drawing or a program type before those for `plc eval`
+-- the option for a second drawing
+abbrev pub second_words : Option (Bor (List ℕ)) → List ℕ
+second_words None = []
+second_words (Some file) = codes " --with " ++ shell_word file.now
+
+-- the words that stand for drawings or a program type before those for `plc eval`
 abbrev pub eval_words : VerifyRequest → List ℕ
-eval_words request = shell_word request.file.now ++ program_words request.program
+eval_words request = shell_word request.file.now ++ program_words request.program ++ second_words request.second
 
 -- the claims, what is given, the words, the time between scans, whether there are restarts and the number of states of the
 -- request, with the words for `plc eval`

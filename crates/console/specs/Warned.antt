@@ -56,7 +56,7 @@ IsLadderQuiet (Some name) dt text quiet = IsPlantQuiet text quiet
 
 -- what is warned of in the text of a request, where no time between scans is judged; a plan is told without warnings
 abbrev pub IsQuiet : TextRequest → List ℕ → Bool → Type 0
-IsQuiet (Eval drawing dt view color files strictness words program restarts) text quiet = IsLadderQuiet program 0 text quiet
+IsQuiet (Eval drawing dt view color files strictness words program restarts second) text quiet = IsLadderQuiet program 0 text quiet
 IsQuiet (Check plant strictness) text quiet = IsPlantQuiet text quiet
 IsQuiet (Plan plant until form) text quiet = quiet ≡ true
 

@@ -27,7 +27,7 @@ word_refusal (word.NoKind name) = name_refused name.now (codes "there is no kind
 word_refusal word.NoFile =
     codes "plc: -: only a schedule is read from standard input; a file of this name is ./-"
 word_refusal word.NoSubject =
-    codes "plc: names without a dot are of a drawing, names R.P.V of a plant, and a question is about one of them; --no-restarts and --most-waiting are of plants"
+    codes "plc: names without a dot are of a drawing, names R.P.V of a plant, and a question is about one of them; --no-restarts and --most-waiting are of plants, --with is of drawings"
 word_refusal word.NoProgramOfNames =
     codes "plc: --program asks about one program type: its names have no dot, and --no-restarts and --most-waiting are of plants"
 word_refusal (word.WrittenOver path option) = written_over path.now option.now

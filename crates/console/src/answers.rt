@@ -1,11 +1,12 @@
 ghost use Rattle.std.specs.Prelude.{◌≡◌, IfOk, IfErr};
+ghost use Rattle.std.specs.Option.{option_map};
 ghost use Rattle.console.specs.Answers.{AreWantedFor, HasNoTrace, WritesAnswer, ExplainsAnswer, form_of, is_colored};
 ghost use Rattle.console.specs.Endings.{EndsAfter, EndsText, status_of_difference};
 
 use crate::answered::Answered;
 use crate::command_fault::CommandFault;
-use crate::faults::{Source, print_difference, print_failure, print_fault_of_text};
-use crate::files::file_text;
+use crate::faults::{FileText, Source, print_difference, print_failure, print_fault_of_text};
+use crate::files::{file_text, second_text, text_of};
 use crate::piped::Piped;
 use crate::request::{Color, TextRequest, TraceFiles, View};
 use crate::status::DONE;
@@ -67,19 +68,21 @@ fn without_trace() -> Traced
     }
 }
 
-/// Writes what the words ask for of the text of the file; the first difference from what they expect, if there is one, and
-/// the texts for the files of a trace. `terminal` is whether standard output is one.
+/// Writes what the words ask for of the text of the file, and of that of a second drawing, if there is one; the first
+/// difference from what they expect, if there is one, and the texts for the files of a trace. `terminal` is whether standard
+/// output is one.
 pub fn obey<W: Write>(
     alloc: Global,
     terminal: bool,
     request: &TextRequest<'_>,
     text: &str,
+    second: Option<&str>,
     writer: &mut W,
 ) -> Result<Traced, TextCommandFault>
     ensures ok { IfOk result
-        (WritesAnswer terminal request.now text.now (W.contents writer.old) (W.contents writer.new)) }
+        (WritesAnswer terminal request.now text.now (option_map (λ t. t.now) second.entry) (W.contents writer.old) (W.contents writer.new)) }
     ensures fault { IfErr result
-        (ExplainsAnswer terminal request.now text.now (W.contents writer.old) (W.contents writer.new)) }
+        (ExplainsAnswer terminal request.now text.now (option_map (λ t. t.now) second.entry) (W.contents writer.old) (W.contents writer.new)) }
 {
     match request {
         TextRequest::Eval {
@@ -98,6 +101,7 @@ pub fn obey<W: Write>(
             let source = LadderSource {
                 text,
                 program: *program,
+                second,
             };
             eval_traced(alloc, source, words, restarts, *dt, form, wanted, writer)
         }
@@ -122,12 +126,24 @@ fn tell_difference<R: Eprint>(rt: &R, file: &str, difference: Option<Difference>
     }
 }
 
+/// The file of a second drawing and its text, if there is one.
+pub(crate) fn file_of_text<'a>(
+    file: Option<&'a str>,
+    text: Option<&'a str>,
+) -> Option<FileText<'a>> {
+    match (file, text) {
+        (Some(file), Some(text)) => Some(FileText { file, text }),
+        _ => None,
+    }
+}
+
 /// Tells how a command of one text ended; the status, and the texts for the files of a trace. `is_closed` is whether the
 /// output's reader has ended.
 fn tell_text<R: Eprint + AllocGlobal>(
     rt: &R,
     request: &TextRequest<'_>,
     text: &str,
+    second: Option<FileText<'_>>,
     is_closed: bool,
     obeyed: Result<Traced, TextCommandFault>,
 ) -> io::Result<Answered>
@@ -144,6 +160,7 @@ fn tell_text<R: Eprint + AllocGlobal>(
                 file: request.file(),
                 text,
                 program: request.program(),
+                second,
             };
             let status = print_fault_of_text(rt, source, request.words(), is_closed, fault)?;
             Ok(Answered::with(status))
@@ -165,8 +182,27 @@ pub fn answer_text<R: Files + Clock + Print + Eprint + AllocGlobal>(
         Ok(text) => text,
         Err(status) => return Ok(Answered::with(status)),
     };
+    let other = match second_text(rt, request.second())? {
+        Ok(other) => other,
+        Err(status) => return Ok(Answered::with(status)),
+    };
+    let second = text_of(&other);
     let mut writer = Piped::new(ToldLines::new(io::writer(rt), OnTerminal::new(rt, told)));
-    let obeyed = obey(rt.alloc(), terminal, request, text.as_str(), &mut writer);
+    let obeyed = obey(
+        rt.alloc(),
+        terminal,
+        request,
+        text.as_str(),
+        second,
+        &mut writer,
+    );
     writer.to.end();
-    tell_text(rt, request, text.as_str(), writer.is_closed, obeyed)
+    tell_text(
+        rt,
+        request,
+        text.as_str(),
+        file_of_text(request.second(), second),
+        writer.is_closed,
+        obeyed,
+    )
 }

@@ -17,12 +17,20 @@ use tested_schedules::LiveFault;
 use text_commands::{Difference, TextCommandFault, TextFault, WordFault, WordFaultKind};
 use world::SimFault;
 
-/// A file that was read, its text, and the name of the program type in it that is asked about.
+/// A file that was read, and its text.
+#[derive(Clone, Copy)]
+pub(crate) struct FileText<'a> {
+    pub file: &'a str,
+    pub text: &'a str,
+}
+
+/// A file that was read, its text, and the name of the program type in it that is asked about; or that of a second drawing.
 #[derive(Clone, Copy)]
 pub(crate) struct Source<'a> {
     pub file: &'a str,
     pub text: &'a str,
     pub program: Option<&'a str>,
+    pub second: Option<FileText<'a>>,
 }
 
 /// Tells what helps to mend a text. The fault was told before: what can't be told here is left out.
@@ -47,6 +55,22 @@ fn print_text_fault<R: Eprint + AllocGlobal>(
     print_help(rt, help_with(rt.alloc(), text, fault));
     print_help(rt, more_with(rt.alloc(), text, fault));
     Ok(TEXT_REFUSED)
+}
+
+/// Tells why a text of a source is refused; the status.
+fn print_source_fault<R: Eprint + AllocGlobal>(
+    rt: &R,
+    source: Source<'_>,
+    fault: TextFault,
+) -> io::Result<u8>
+    ensures { IfOk result (λ status. status ≡ 1) }
+{
+    match (fault, source.second) {
+        (TextFault::Second(fault), Some(second)) => {
+            print_text_fault(rt, second.file, second.text, TextFault::alone(fault))
+        }
+        _ => print_text_fault(rt, source.file, source.text, fault),
+    }
 }
 
 /// Tells why words are refused; the status.
@@ -150,7 +174,7 @@ fn print_fault_about<R: Eprint + AllocGlobal>(
     ensures { IfOk result (λ status. status ≡ status_of_fault fault) }
 {
     match fault {
-        CommandFault::Text(fault) => print_text_fault(rt, source.file, source.text, fault),
+        CommandFault::Text(fault) => print_source_fault(rt, source, fault),
         CommandFault::Word(fault) => print_refused_word(rt, source, words, fault),
         CommandFault::Write | CommandFault::Run(_) | CommandFault::Memory => {
             print_failure(rt, fault)
@@ -172,6 +196,7 @@ pub fn print_fault<'a, R: Eprint + AllocGlobal>(
         file,
         text,
         program: None,
+        second: None,
     };
     print_fault_about(rt, source, words, fault)
 }

@@ -1,6 +1,7 @@
-ghost use Rattle.std.specs.Prelude.{◌≡◌, IfOk, IfErr, List, ℕ, MatchResult};
+ghost use Rattle.std.specs.Prelude.{◌≡◌, IfOk, IfErr, List, ℕ, MatchResult, string_bytes};
+ghost use Rattle.std.specs.Option.{is_some, option_map};
 ghost use Rattle.text_commands.specs.CheckText.{GivesNoPlant, IsPlantOf};
-ghost use Rattle.console.specs.Endings.{IsNoPlantStatus, status_of_unread};
+ghost use Rattle.console.specs.Endings.{IsNoPlantStatus, IsOtherUnread, status_of_unread};
 
 use crate::faults::{print_fault, print_word_refusal};
 use crate::refusals::WordRefusal;
@@ -46,6 +47,33 @@ pub(crate) fn file_text<R: Files + Eprint + AllocGlobal>(
         return Ok(Err(print_word_refusal(rt, WordRefusal::NoFile)?));
     }
     read_or_told(rt, file, fs::read_to_string(rt, file))
+}
+
+/// The text of the file of a second drawing, if there is such a file, or the status after its fault was told.
+pub(crate) fn second_text<R: Files + Eprint + AllocGlobal>(
+    rt: &R,
+    second: Option<&str>,
+) -> io::Result<Result<Option<String>, u8>>
+    ensures { IfOk result
+        (λ read. MatchResult read (λ text. is_some text ≡ is_some second.entry) (IsOtherUnread second.entry)) }
+{
+    let Some(file) = second else {
+        return Ok(Ok(None));
+    };
+    match file_text(rt, file)? {
+        Ok(text) => Ok(Ok(Some(text))),
+        Err(status) => Ok(Err(status)),
+    }
+}
+
+/// The text, if there is one.
+pub(crate) fn text_of(text: &Option<String>) -> Option<&str>
+    ensures { option_map (λ t. t.now) result ≡ option_map string_bytes text.now }
+{
+    match text {
+        Some(text) => Some(text.as_str()),
+        None => None,
+    }
 }
 
 /// The text of a file, or of standard input where that is `-`; or the status after its fault was told.

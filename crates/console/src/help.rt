@@ -34,6 +34,8 @@ keep what they are. Then the words set theirs. There are at least K scans.
 With --program P the file is a plant, and its program type P, in either case, is tried by its declarations: its variables
 in their order, and with --show its drawing, comments as empty rows. Warnings are those of plc check.
 
+With --with FILE the rungs of a second drawing stand behind the first's, and store at no name of the first.
+
 With --vcd FILE all variables are written as a value change dump (IEEE 1364) after the last scan, for programs that show
 waves; with --svg FILE as a timing diagram, which a browser shows. The first scan is at 0 ms, each further one --dt MS later,
 or 1 ms where that is 0. A file is written whole, in the place of one of its name, but of none that is read; both options may
@@ -94,6 +96,8 @@ Example:
   $ plc verify examples/press.ladder --dt 100 --never TIED_DOWN
   HOLDS TIED_DOWN is never on: 24 states, 96 scans
   given dt 100 ms
+
+With --with FILE the rungs of a second drawing stand behind the first's, as claims; they store at none of its names.
 
 With --program P the file is a plant, and the names are variables of its program type P, tried by its declarations. An input
 is a BOOL that nothing stores, of whatever section.
@@ -269,7 +273,8 @@ With --state DIR the resource counts its incarnations in DIR/NAME.inc, one more 
 keeps what stands in VAR RETAIN in DIR/NAME.K.ret; without it the incarnation is 1: for one life alone. With --journal FILE
 each EVAL, each RESTART, each MESSAGE that is taken and each HELLO that is new is noted at the end of FILE, which is new or a
 journal, and on the disk, before it is done; plc audit reads these files. A second node doesn't use the same DIR or FILE
-meanwhile.
+meanwhile. Where FILE can't be written the node ends; with --journal-full go-on it writes UNNOTED once, before what it answers
+then, and goes on without noting.
 
 Example:
 

@@ -15,7 +15,7 @@ use plant::{BodyFault, PlantFault, PlantFaultKind};
 use std::fmt;
 use std::fmt::{Display, Formatter};
 use std_blocks::Value;
-use text_commands::{Difference, TextFault};
+use text_commands::{Difference, SecondFault, TextFault};
 
 /// The name of the kind of a drawing's fault.
 fn kind_of_drawing(kind: DrawFaultKind) -> &'static str
@@ -128,15 +128,15 @@ pub fn write_refusal<W: fmt::Write>(
     ensures { DisplaysOnOk W.write_str_gives f.old result (Some (refusal_of file.now fault)) f.new }
 {
     match fault {
-        TextFault::Draw(fault) => {
+        TextFault::Draw(fault) | TextFault::Second(SecondFault::Draw(fault)) => {
             let kind = kind_of_drawing(fault.kind);
             write_at_place(f, file, fault.line, fault.column, kind)
         }
-        TextFault::Graph(fault) => {
+        TextFault::Graph(fault) | TextFault::Second(SecondFault::Graph(fault)) => {
             let kind = kind_of_networks(fault.kind);
             write_at_place(f, file, fault.line, fault.column, kind)
         }
-        TextFault::Bind(fault) => {
+        TextFault::Bind(fault) | TextFault::Second(SecondFault::Bind(fault)) => {
             let kind = kind_of_names(fault.kind);
             write_at_place(f, file, fault.line, fault.column, kind)
         }
@@ -339,7 +339,7 @@ pub fn write_word_refusal<W: fmt::Write>(
             "plc: -: only a schedule is read from standard input; a file of this name is ./-",
         ),
         WordRefusal::NoSubject => f.write_str(
-            "plc: names without a dot are of a drawing, names R.P.V of a plant, and a question is about one of them; --no-restarts and --most-waiting are of plants",
+            "plc: names without a dot are of a drawing, names R.P.V of a plant, and a question is about one of them; --no-restarts and --most-waiting are of plants, --with is of drawings",
         ),
         WordRefusal::NoProgramOfNames => f.write_str(
             "plc: --program asks about one program type: its names have no dot, and --no-restarts and --most-waiting are of plants",

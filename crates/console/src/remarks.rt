@@ -101,7 +101,7 @@ fn remark_of(fault: TextFault, is_marked: bool, look: Look) -> Remark
     match fault {
         TextFault::Draw(_) | TextFault::Graph(_) | TextFault::Bind(_) => remark_of_drawing(look),
         TextFault::Plant(_) => remark_of_plant(look),
-        TextFault::TooLong => Remark::Nothing,
+        TextFault::TooLong | TextFault::Second(_) => Remark::Nothing,
     }
 }
 

@@ -1,5 +1,5 @@
 ghost use Rattle.std.specs.Prelude.{◌≡◌, map};
-ghost use Rattle.console.specs.CommandLine.{are_asked, are_left_out, file_of, files_in, program_in, strictness_of, words_in};
+ghost use Rattle.console.specs.CommandLine.{are_asked, are_left_out, file_of, files_in, program_in, second_in, strictness_of, words_in};
 
 use text_commands::PlanForm;
 
@@ -100,6 +100,8 @@ pub enum TextRequest<'a> {
         program: Option<&'a str>,
         /// The scans before which the ladder restarts, counted from 1.
         restarts: Vec<usize>,
+        /// The file of a second drawing, whose rungs stand behind; none with a program type.
+        second: Option<&'a str>,
     },
     /// How many resources, tasks, programs and connections a plant has.
     Check {
@@ -157,6 +159,16 @@ impl<'a> TextRequest<'a> {
         }
     }
 
+    /// The file of a second drawing.
+    pub fn second(&self) -> Option<&'a str>
+        ensures { result ≡ second_in self.now }
+    {
+        match self {
+            TextRequest::Eval { second, .. } => *second,
+            TextRequest::Check { .. } | TextRequest::Plan { .. } => None,
+        }
+    }
+
     /// The words NAME=VALUES and NAME==VALUES.
     pub fn words(&self) -> &[&'a str]
         ensures { map (λ w. w.now) result.now ≡ words_in self.now }
@@ -171,7 +183,8 @@ impl<'a> TextRequest<'a> {
 /// Whether variables of a drawing, or outputs of a plant, are ever TRUE. The claims name them: by names without a dot the
 /// file is a drawing, or with `program` a plant of which that program type is asked about; by names `R.P.V` it is a plant.
 /// `dt` is the time between scans or evaluations in ms. `most_waiting` is of plants, warnings are of drawings. At most
-/// `most_states` states are looked at; the words hold inputs.
+/// `most_states` states are looked at; the words hold inputs. The rungs of the drawing in the file `second`, if there is one,
+/// stand behind those of the drawing in `file`; there is none with `program`.
 #[derive(Drop)]
 pub struct VerifyRequest<'a> {
     pub file: &'a str,
@@ -184,6 +197,7 @@ pub struct VerifyRequest<'a> {
     pub strictness: Strictness,
     pub words: Vec<&'a str>,
     pub program: Option<&'a str>,
+    pub second: Option<&'a str>,
 }
 
 /// What each event of a schedule does to a plant; in one incarnation a task is evaluated `max_number` times at most.
@@ -219,8 +233,18 @@ pub struct RunRequest<'a> {
     pub words: Vec<&'a str>,
 }
 
+/// What a node does whose journal can't be written, or brought to the disk.
+#[derive(Clone, Copy, Debug, PartialEq, Eq)]
+pub enum JournalFull {
+    /// It ends.
+    Stop,
+    /// It tells it, and goes on without noting.
+    GoOn,
+}
+
 /// One resource of a plant, of this name, as a node of its own, which answers the lines of standard input. The folder
-/// `state` keeps its incarnation; without it that is 1. It notes what it does in the file `journal`, if one is given.
+/// `state` keeps its incarnation; without it that is 1. It notes what it does in the file `journal`, if one is given; where
+/// that can't be written it does as `journal_full` says.
 #[derive(Clone, Copy)]
 pub struct NodeRequest<'a> {
     pub plant: &'a str,
@@ -233,6 +257,7 @@ pub struct NodeRequest<'a> {
     pub until: Option<u32>,
     pub state: Option<&'a str>,
     pub journal: Option<&'a str>,
+    pub journal_full: JournalFull,
 }
 
 /// What is shown of the journals of a plant's nodes.

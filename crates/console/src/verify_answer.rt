@@ -1,17 +1,20 @@
-ghost use Rattle.std.specs.Prelude.{◌≡◌, ◌⊎◌, IfOk, IfErr, Result, string_bytes};
+ghost use Rattle.std.specs.Prelude.{◌≡◌, ◌⊎◌, IfOk, IfErr, OnOk, Result, string_bytes};
+ghost use Rattle.std.specs.Option.{option_map};
+ghost use Rattle.text_lines.specs.Growing.{GrowsBy};
 ghost use Rattle.text_commands.specs.Rows.{texts};
 ghost use Rattle.verifying.specs.VerifyText.{ExplainsAnswer, WritesAnswer};
 ghost use Rattle.verifying_plants.specs.VerifyPlant.{ExplainsAnswer as ExplainsPlantAnswer, WritesAnswer as WritesPlantAnswer};
 ghost use Rattle.console.specs.Statuses.{status_of, status_of_question, status_of_plant_question};
 ghost use Rattle.console.specs.Answers.{asked_source};
-ghost use Rattle.console.specs.Verifying.{are_of_plant, are_plain, asked_question, asked_of_plant, eval_words, is_of_plant, is_of_drawings, subject_of};
-ghost use Rattle.console.specs.Endings.{EndsVerify, IsDrawingVerified, IsPlantVerified, EndsVerdicts, status_of_plant_verdicts};
+ghost use Rattle.console.specs.Verifying.{are_of_plant, are_plain, asked_question, asked_of_plant, eval_words, is_alone, is_of_plant, is_of_drawings, program_words, second_words, subject_of};
+ghost use Rattle.console.specs.Endings.{AreDrawingsVerified, EndsVerify, IsDrawingVerified, IsPlantVerified, EndsVerdicts, status_of_plant_verdicts};
 
+use crate::answers::file_of_text;
 use crate::command_fault::CommandFault;
 use crate::faults::{
     Source, print_failure, print_fault_of_text, print_fault_of_word, print_word_refusal,
 };
-use crate::files::file_text;
+use crate::files::{file_text, second_text, text_of};
 use crate::piped::Piped;
 use crate::refusals::WordRefusal;
 use crate::request::VerifyRequest;
@@ -69,12 +72,19 @@ fn is_of_drawings(request: &VerifyRequest<'_>) -> bool
     !request.restarts.are_left_out() && request.most_waiting.is_none()
 }
 
+/// Whether neither a program type is asked about, nor is there a second drawing.
+fn is_alone(request: &VerifyRequest<'_>) -> bool
+    ensures { result ≡ is_alone request.now }
+{
+    request.program.is_none() && request.second.is_none()
+}
+
 /// What a question is about: all names have dots in a plant, none in a drawing or a program type, of which neither restarts
 /// are left out nor waiting images asked.
 fn subject_of(request: &VerifyRequest<'_>) -> Subject
     ensures { result ≡ subject_of request.now }
 {
-    if are_of_plant(&request.claims) && are_of_plant(&request.given) && request.program.is_none() {
+    if are_of_plant(&request.claims) && are_of_plant(&request.given) && is_alone(request) {
         Subject::Plant
     } else if are_plain(&request.claims) && are_plain(&request.given) && is_of_drawings(request) {
         Subject::Drawing
@@ -86,18 +96,20 @@ fn subject_of(request: &VerifyRequest<'_>) -> Subject
 /// Of how many waiting images the order is kept, unless the words say it.
 const MOST_WAITING: u32 = 8;
 
-/// Writes what is true of the claims about the drawing in the text, or about a program type. The file is the words that stand
+/// Writes what is true of the claims about the drawing in the text, and a second one, if there is one, or about a program type.
+/// The file is the words that stand
 /// for it before those for `plc eval`. How far the search is is told meanwhile.
 pub fn obey_verify<W: Write, P: Progress>(
     alloc: Global,
     request: &VerifyRequest<'_>,
     file: &str,
     text: &str,
+    second: Option<&str>,
     writer: &mut W,
     progress: &mut P,
 ) -> Result<Summary, VerifyFault>
-    ensures ok { IfOk result (WritesAnswer (asked_source text.now request.now.program) (asked_question file.now request.now) (W.contents writer.old) (W.contents writer.new)) }
-    ensures fault { IfErr result (ExplainsAnswer (asked_source text.now request.now.program) (asked_question file.now request.now) (W.contents writer.old) (W.contents writer.new)) }
+    ensures ok { IfOk result (WritesAnswer (asked_source text.now request.now.program (option_map (λ t. t.now) second.entry)) (asked_question file.now request.now) (W.contents writer.old) (W.contents writer.new)) }
+    ensures fault { IfErr result (ExplainsAnswer (asked_source text.now request.now.program (option_map (λ t. t.now) second.entry)) (asked_question file.now request.now) (W.contents writer.old) (W.contents writer.new)) }
 {
     let question = Question {
         file,
@@ -111,6 +123,7 @@ pub fn obey_verify<W: Write, P: Progress>(
     let source = LadderSource {
         text,
         program: request.program,
+        second,
     };
     verify_text(alloc, source, &question, writer, progress)
 }
@@ -127,11 +140,16 @@ fn status_of(summary: Summary) -> u8
 }
 
 /// What was read for a question.
-fn source_of<'a>(request: &VerifyRequest<'a>, text: &'a str) -> Source<'a> {
+fn source_of<'a>(
+    request: &VerifyRequest<'a>,
+    text: &'a str,
+    second: Option<&'a str>,
+) -> Source<'a> {
     Source {
         file: request.file,
         text,
         program: request.program,
+        second: file_of_text(request.second, second),
     }
 }
 
@@ -140,12 +158,13 @@ fn print_verify_fault<R: Eprint + AllocGlobal>(
     rt: &R,
     request: &VerifyRequest<'_>,
     text: &str,
+    second: Option<&str>,
     is_closed: bool,
     fault: VerifyFault,
 ) -> io::Result<u8>
     ensures { IfOk result (λ status. status ≡ status_of_question fault) }
 {
-    let source = source_of(request, text);
+    let source = source_of(request, text, second);
     match fault {
         VerifyFault::Command(fault) => {
             print_fault_of_text(rt, source, &request.words, is_closed, fault)
@@ -173,6 +192,7 @@ fn tell_verdicts<R: Eprint + AllocGlobal>(
     rt: &R,
     request: &VerifyRequest<'_>,
     text: &str,
+    second: Option<&str>,
     is_closed: bool,
     answered: Result<Summary, VerifyFault>,
 ) -> io::Result<u8>
@@ -192,7 +212,7 @@ fn tell_verdicts<R: Eprint + AllocGlobal>(
                 status,
             )
         }
-        Err(fault) => print_verify_fault(rt, request, text, is_closed, fault),
+        Err(fault) => print_verify_fault(rt, request, text, second, is_closed, fault),
     }
 }
 
@@ -220,16 +240,16 @@ pub fn obey_verify_plant<W: Write, P: Progress>(
 }
 
 /// Tells why there is no answer about a plant; the status. `is_closed` is whether the output's reader has ended.
-fn print_verify_plant_fault<R: Eprint + AllocGlobal>(
+fn print_verify_plant_fault<'a, R: Eprint + AllocGlobal>(
     rt: &R,
-    request: &VerifyRequest<'_>,
-    text: &str,
+    request: &VerifyRequest<'a>,
+    text: &'a str,
     is_closed: bool,
     fault: VerifyPlantFault,
 ) -> io::Result<u8>
     ensures { IfOk result (λ status. status ≡ status_of_plant_question fault) }
 {
-    let source = source_of(request, text);
+    let source = source_of(request, text, None);
     match fault {
         VerifyPlantFault::Command(fault) => {
             print_fault_of_text(rt, source, &request.words, is_closed, fault)
@@ -262,26 +282,49 @@ fn tell_plant_verdicts<R: Eprint + AllocGlobal>(
     }
 }
 
-/// The words that stand for a drawing or a program type before those for `plc eval`.
+/// Writes the option for a program type behind words, if there is one.
+fn push_program(alloc: Global, words: &mut String, program: Option<&str>) -> Result<(), AllocError>
+    ensures { OnOk result (GrowsBy words.old words.new (program_words program.entry)) }
+{
+    if let Some(name) = program {
+        words.push_str(" --program ")?;
+        words.push_str(shell_word(alloc, name)?.as_str())?;
+    }
+    Ok(())
+}
+
+/// Writes the option for a second drawing behind words, if there is one.
+fn push_second(alloc: Global, words: &mut String, second: Option<&str>) -> Result<(), AllocError>
+    ensures { OnOk result (GrowsBy words.old words.new (second_words second.entry)) }
+{
+    if let Some(file) = second {
+        words.push_str(" --with ")?;
+        words.push_str(shell_word(alloc, file)?.as_str())?;
+    }
+    Ok(())
+}
+
+/// The words that stand for drawings or a program type before those for `plc eval`.
 fn eval_words(alloc: Global, request: &VerifyRequest<'_>) -> Result<String, AllocError>
     ensures { IfOk result (λ words. string_bytes words ≡ eval_words request.now) }
 {
     let mut words = shell_word(alloc, request.file)?;
-    if let Some(name) = request.program {
-        words.push_str(" --program ")?;
-        words.push_str(shell_word(alloc, name)?.as_str())?;
-    }
+    push_program(alloc, &mut words, request.program)?;
+    push_second(alloc, &mut words, request.second)?;
     Ok(words)
 }
 
-/// Writes what is true of the claims about the drawing in the text, or about a program type; the status.
+/// Writes what is true of the claims about the drawing in the text, and a second one, if there is one, or about a program type;
+/// the status.
 fn answer_drawing<R: Clock + Print + Eprint + AllocGlobal>(
     rt: &R,
     told: bool,
     request: &VerifyRequest<'_>,
     text: &str,
+    second: Option<&str>,
 ) -> io::Result<u8>
-    ensures { IfOk result (λ status. (status ≡ 3) ⊎ IsDrawingVerified request.now text.now status) }
+    ensures { IfOk result
+        (λ status. (status ≡ 3) ⊎ IsDrawingVerified request.now text.now (option_map (λ t. t.now) second.entry) status) }
 {
     let Ok(file) = eval_words(rt.alloc(), request) else {
         return print_failure(rt, CommandFault::Memory);
@@ -293,11 +336,12 @@ fn answer_drawing<R: Clock + Print + Eprint + AllocGlobal>(
         request,
         file.as_str(),
         text,
+        second,
         &mut writer,
         &mut progress,
     );
     progress.end();
-    tell_verdicts(rt, request, text, writer.is_closed, answered)
+    tell_verdicts(rt, request, text, second, writer.is_closed, answered)
 }
 
 /// Writes what is true of the claims about the plant in the text; the status.
@@ -324,6 +368,22 @@ fn no_subject(request: &VerifyRequest<'_>) -> WordRefusal<'static> {
     }
 }
 
+/// Reads a second drawing, if there is one, and writes what is true of the claims about the drawing in the text and it, or about
+/// a program type; the status.
+fn answer_drawings<R: Files + Clock + Print + Eprint + AllocGlobal>(
+    rt: &R,
+    told: bool,
+    request: &VerifyRequest<'_>,
+    text: &str,
+) -> io::Result<u8>
+    ensures { IfOk result (AreDrawingsVerified request.now text.now) }
+{
+    match second_text(rt, request.second)? {
+        Ok(other) => answer_drawing(rt, told, request, text, text_of(&other)),
+        Err(status) => Ok(status),
+    }
+}
+
 /// Reads a drawing or a plant, and writes what is true of the claims about it; the status. `told` is whether the search tells
 /// on standard error how far it is.
 pub fn answer_verify<R: Files + Clock + Print + Eprint + AllocGlobal>(
@@ -335,7 +395,7 @@ pub fn answer_verify<R: Files + Clock + Print + Eprint + AllocGlobal>(
 {
     match subject_of(request) {
         Subject::Drawing => match file_text(rt, request.file)? {
-            Ok(text) => answer_drawing(rt, told, request, text.as_str()),
+            Ok(text) => answer_drawings(rt, told, request, text.as_str()),
             Err(status) => Ok(status),
         },
         Subject::Plant => match file_text(rt, request.file)? {

@@ -295,7 +295,7 @@ fn help_with_a_plant(alloc: Global, text: &str, fault: PlantFault) -> Result<Str
 }
 
 /// What helps to mend a text that a command refused: the line with the place, what is wrong there, and names that were
-/// meant perhaps. It is empty for want of memory.
+/// meant perhaps. It is empty for want of memory, and of a second drawing, whose text isn't this one.
 pub fn help_with(alloc: Global, text: &str, fault: TextFault) -> Result<String, AllocError>
     ensures { IfOk result (λ help. TellsOf (topic_of fault) (shown_of text.now fault) (string_bytes help)) }
 {
@@ -314,6 +314,7 @@ pub fn help_with(alloc: Global, text: &str, fault: TextFault) -> Result<String, 
         }
         TextFault::Plant(fault) => help_with_a_plant(alloc, text, fault),
         TextFault::TooLong => help_of(String::new(alloc), Topic::TooLong, ""),
+        TextFault::Second(_) => Ok(String::new(alloc)),
     }
 }
 

@@ -186,7 +186,7 @@ pub const WRONG_KIND_MENDED: &str = "\
 |     +-----+";
 
 pub const WRITES_INPUT: &str =
-    "A coil or an output pin stores into a VAR_INPUT; store into a VAR_OUTPUT or a VAR.";
+    "A coil or an output pin stores into a VAR_INPUT, or in a drawing of --with at a name of the other; store into a VAR_OUTPUT or a VAR, there into a name of its own.";
 
 pub const WRITES_INPUT_REFUSED: &str = "\
 PROGRAM P

@@ -29,7 +29,7 @@ fn drawn_row(fault: TextFault) -> Option<usize> {
         TextFault::Graph(fault) => Some(row_of(fault.line)),
         TextFault::Bind(fault) => Some(row_of(fault.line)),
         TextFault::Plant(fault) if fault.inner.is_some() => Some(row_of(fault.line)),
-        TextFault::Plant(_) | TextFault::TooLong => None,
+        TextFault::Plant(_) | TextFault::TooLong | TextFault::Second(_) => None,
     }
 }
 

@@ -135,7 +135,7 @@ fn told_of(alloc: Global, text: &str, fault: TextFault) -> Result<Option<String>
         TextFault::Graph(fault) => refused.block(alloc, row_of(fault.line)),
         TextFault::Bind(fault) => refused.bind(alloc, fault),
         TextFault::Plant(fault) => refused.plant(alloc, fault),
-        TextFault::TooLong => Ok(None),
+        TextFault::TooLong | TextFault::Second(_) => Ok(None),
     }
 }
 

@@ -107,7 +107,7 @@ fn is_placed(
 }
 
 /// Whether all that the networks that aren't left out read and change matters, and nothing that the others change.
-pub(crate) fn is_closed(ladder: &Ladder, idle: &[bool], omitted: &[bool]) -> bool
+pub fn is_closed(ladder: &Ladder, idle: &[bool], omitted: &[bool]) -> bool
     ensures { IsTrue result → IsClosed ladder.now.declarations idle.now omitted.now ladder.now.networks }
 {
     for k in 0..usize::MAX {

@@ -10,6 +10,8 @@ mod same_networks;
 mod slice;
 mod touched;
 
+pub use closed::is_closed;
 pub use laws::slices_follow;
 pub use needs::Needs;
+pub use same_networks::has_elements;
 pub use slice::{Slice, slice_of};

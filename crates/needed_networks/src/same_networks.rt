@@ -77,7 +77,8 @@ fn is_same_element(element: &Element, other: &Element) -> bool
     }
 }
 
-fn has_elements(network: &Network, elements: &[Element]) -> bool
+/// Whether these are the elements of a network.
+pub fn has_elements(network: &Network, elements: &[Element]) -> bool
     ensures { IsTrue result → network.now ≡ elements.now }
 {
     are_same(network.elements(), elements, is_same_element)

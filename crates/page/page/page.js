@@ -54,6 +54,7 @@ const EVENT_FORMS = {
   OVERRUN: [[/^OVERRUN (\w+)\.(\w+) (\d+)$/, (f) => ({ kind: "overrun", lane: f[1], late: `${f[1]}.${f[2]}`, skipped: f[3] })]],
   INPUT: [[/^INPUT taken$/, () => ({ kind: "input", isOwn: true })]],
   FIELD: [[/^FIELD ended$/, () => ({ kind: "ended", isOwn: true })]],
+  UNNOTED: [[/^UNNOTED$/, () => ({ kind: "unnoted", isOwn: true })]],
   UNANSWERED: [[/^UNANSWERED (\d+)$/, (f) => ({ kind: "unanswered", ticket: f[1] })]],
   FAULT: [[/^FAULT (\w+) (\d+) (\w+)$/, (f) => ({ kind: "fault", lane: f[1], ticket: f[2], cause: f[3] })]],
   UNSHOWN: [[/^UNSHOWN (.+:(?:\d+) \w+(?: .*)?)$/, (f) => ({ kind: "unshown", told: f[1] })]],
@@ -64,9 +65,9 @@ const EVENT_FORMS = {
 
 /** The event that a line tells, or undefined. */
 function eventOf(line) {
-  const end = line.indexOf(" ");
-  if (end < 4) return undefined;
-  for (const [form, event] of EVENT_FORMS[line.slice(0, end).toUpperCase()] ?? []) {
+  const [word] = line.split(" ", 1);
+  if (word.length < 4) return undefined;
+  for (const [form, event] of EVENT_FORMS[word.toUpperCase()] ?? []) {
     const found = form.exec(line);
     if (found) return event(found);
   }
@@ -590,12 +591,15 @@ function known(spellings, name, make) {
   return spellings.get(name);
 }
 
-/** A node writes what it sends before the line that tells whose it is: these events get their lane from the next one that has one. */
+/**
+ * A node writes what it sends, and that it notes nothing more, before the line that tells whose it is: these events get their lane
+ * from the next one that has one.
+ */
 function nameOwners(events) {
   let next;
   for (let at = events.length - 1; at >= 0; at -= 1) {
     const event = events[at];
-    if (event.kind === "sending") event.lane = next;
+    if (event.kind === "sending" || event.kind === "unnoted") event.lane = next;
     else if (event.lane) next = event.lane;
     else if (!event.isOwn) next = undefined;
   }
@@ -607,7 +611,7 @@ function isMark(event) {
   if (event.kind === "restart") return !event.isStart || event.incarnation !== "1";
   if (event.kind === "replay") return event.answer === "differs";
   if (event.kind === "expectation") return event.answer === "unmet";
-  return ["refused", "overrun", "ended", "fault", "unanswered", "unshown"].includes(event.kind);
+  return ["refused", "overrun", "ended", "unnoted", "fault", "unanswered", "unshown"].includes(event.kind);
 }
 
 /** What kind of mark an event is, in a word. */
@@ -1443,6 +1447,10 @@ class LanesView {
     return this.fault(event, y);
   }
 
+  unnoted(event, y) {
+    return this.fault(event, y);
+  }
+
   /** What an event tells, beside its lane if it has one. */
   inLane(event, y, kind) {
     return this.told(event.column === undefined ? GUTTER : this.x(event.column) + 15, y, LABELS[event.kind](event), kind);
@@ -1623,6 +1631,7 @@ const TALLIES = {
   expectation: (event, number) => `${number === 1 ? "expectation" : "expectations"} ${event.answer}`.trim(),
   overrun: () => "OVERRUN",
   ended: () => "FIELD ended",
+  unnoted: () => "UNNOTED",
   refused: () => "REFUSED",
   fault: () => "FAULT",
   unanswered: () => "UNANSWERED",
@@ -1634,6 +1643,7 @@ const LABELS = {
   expectation: (event) => event.told,
   overrun: (event) => `OVERRUN ${event.late} ${event.skipped}`,
   ended: () => "FIELD ended",
+  unnoted: () => "UNNOTED",
   refused: (event) => `REFUSED ${event.event ?? ""} ${event.cause}`.replace(/ +/g, " "),
   unanswered: (event) => `UNANSWERED ${event.ticket}`,
   fault: (event) => `FAULT ${event.ticket} ${event.cause}`,

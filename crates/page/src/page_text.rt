@@ -5,7 +5,7 @@ pub const HEAD: &str = r#"<!doctype html>
 <html lang="en">
 <head>
 <meta charset="utf-8">
-<meta http-equiv="Content-Security-Policy" content="default-src 'none'; style-src 'sha256-dGxnvq/Jt3c3Dsb2HfgMGv7pld7tSyu9UpSYSE7PAec='; script-src 'sha256-9oLiTQf2sBVm+JgZ5jSvKPEtGr4mZtQBIk2VvBYEqJ0=' 'sha256-Wppg6qhQXtawF2uSkZECcKTVP1MBiy7kGfsI9TrdKQo='; base-uri 'none'; form-action 'none'">
+<meta http-equiv="Content-Security-Policy" content="default-src 'none'; style-src 'sha256-vdPWZxhjIeDbxnxl/un58qEQa867VmAGrNIdIP6+SUA='; script-src 'sha256-9oLiTQf2sBVm+JgZ5jSvKPEtGr4mZtQBIk2VvBYEqJ0=' 'sha256-bR6d1aHPzm81Tsuxb5vc2dExFyIb7iRZdvgUOoOc0vo='; base-uri 'none'; form-action 'none'">
 <meta name="viewport" content="width=device-width, initial-scale=1">
 <meta name="color-scheme" content="light dark">
 <title>plc</title>
@@ -115,7 +115,7 @@ button.chip { border-width: 2px; font-weight: 700; }
 .chip.is-stray { color: var(--stray); border-color: currentColor; }
 .chip.is-restart { color: var(--restart); border-color: currentColor; }
 .chip.is-unused { color: var(--unused); border-color: currentColor; }
-.chip.is-refused, .chip.is-overrun, .chip.is-ended, .chip.is-fault, .chip.is-unanswered, .chip.is-unshown, .chip.is-unmet, .chip.is-replay, .chip.is-differs { color: var(--bad); border-color: currentColor; }
+.chip.is-refused, .chip.is-overrun, .chip.is-ended, .chip.is-unnoted, .chip.is-fault, .chip.is-unanswered, .chip.is-unshown, .chip.is-unmet, .chip.is-replay, .chip.is-differs { color: var(--bad); border-color: currentColor; }
 .chip.is-equal { color: var(--good); border-color: currentColor; font-weight: 700; }
 .legend { display: flex; flex-wrap: wrap; gap: 2px 18px; margin: 0 0 8px; font-size: 13px; color: var(--faint); }
 .legend > span { display: inline-flex; align-items: center; gap: 6px; }
@@ -160,7 +160,7 @@ button.chip { border-width: 2px; font-weight: 700; }
 .is-stray .mark-ring, .is-stray .mark-sign, .delivery-line.is-stray { stroke: var(--stray); }
 .is-unused .mark-ring, .is-unused .mark-hollow, .delivery-line.is-unused { stroke: var(--unused); }
 .delivery-line.is-old, .delivery-line.is-stray, .delivery-line.is-unused { stroke-width: 2; }
-.event.refused text.strong, .event.overrun text.strong, .event.ended text.strong, .event.fault text.strong, .event.unanswered text.strong, .event.unshown text.strong, .event.expectation text.strong { fill: var(--bad); }
+.event.refused text.strong, .event.overrun text.strong, .event.ended text.strong, .event.unnoted text.strong, .event.fault text.strong, .event.unanswered text.strong, .event.unshown text.strong, .event.expectation text.strong { fill: var(--bad); }
 .fault-sign { fill: var(--bad); }
 .break { stroke: var(--restart); stroke-width: 3; fill: none; }
 .heard, .sent { stroke: var(--off); stroke-width: 1.5; fill: none; }
@@ -293,6 +293,7 @@ const EVENT_FORMS = {
   OVERRUN: [[/^OVERRUN (\w+)\.(\w+) (\d+)$/, (f) => ({ kind: "overrun", lane: f[1], late: `${f[1]}.${f[2]}`, skipped: f[3] })]],
   INPUT: [[/^INPUT taken$/, () => ({ kind: "input", isOwn: true })]],
   FIELD: [[/^FIELD ended$/, () => ({ kind: "ended", isOwn: true })]],
+  UNNOTED: [[/^UNNOTED$/, () => ({ kind: "unnoted", isOwn: true })]],
   UNANSWERED: [[/^UNANSWERED (\d+)$/, (f) => ({ kind: "unanswered", ticket: f[1] })]],
   FAULT: [[/^FAULT (\w+) (\d+) (\w+)$/, (f) => ({ kind: "fault", lane: f[1], ticket: f[2], cause: f[3] })]],
   UNSHOWN: [[/^UNSHOWN (.+:(?:\d+) \w+(?: .*)?)$/, (f) => ({ kind: "unshown", told: f[1] })]],
@@ -303,9 +304,9 @@ const EVENT_FORMS = {
 
 /** The event that a line tells, or undefined. */
 function eventOf(line) {
-  const end = line.indexOf(" ");
-  if (end < 4) return undefined;
-  for (const [form, event] of EVENT_FORMS[line.slice(0, end).toUpperCase()] ?? []) {
+  const [word] = line.split(" ", 1);
+  if (word.length < 4) return undefined;
+  for (const [form, event] of EVENT_FORMS[word.toUpperCase()] ?? []) {
     const found = form.exec(line);
     if (found) return event(found);
   }
@@ -829,12 +830,15 @@ function known(spellings, name, make) {
   return spellings.get(name);
 }
 
-/** A node writes what it sends before the line that tells whose it is: these events get their lane from the next one that has one. */
+/**
+ * A node writes what it sends, and that it notes nothing more, before the line that tells whose it is: these events get their lane
+ * from the next one that has one.
+ */
 function nameOwners(events) {
   let next;
   for (let at = events.length - 1; at >= 0; at -= 1) {
     const event = events[at];
-    if (event.kind === "sending") event.lane = next;
+    if (event.kind === "sending" || event.kind === "unnoted") event.lane = next;
     else if (event.lane) next = event.lane;
     else if (!event.isOwn) next = undefined;
   }
@@ -846,7 +850,7 @@ function isMark(event) {
   if (event.kind === "restart") return !event.isStart || event.incarnation !== "1";
   if (event.kind === "replay") return event.answer === "differs";
   if (event.kind === "expectation") return event.answer === "unmet";
-  return ["refused", "overrun", "ended", "fault", "unanswered", "unshown"].includes(event.kind);
+  return ["refused", "overrun", "ended", "unnoted", "fault", "unanswered", "unshown"].includes(event.kind);
 }
 
 /** What kind of mark an event is, in a word. */
@@ -1682,6 +1686,10 @@ class LanesView {
     return this.fault(event, y);
   }
 
+  unnoted(event, y) {
+    return this.fault(event, y);
+  }
+
   /** What an event tells, beside its lane if it has one. */
   inLane(event, y, kind) {
     return this.told(event.column === undefined ? GUTTER : this.x(event.column) + 15, y, LABELS[event.kind](event), kind);
@@ -1862,6 +1870,7 @@ const TALLIES = {
   expectation: (event, number) => `${number === 1 ? "expectation" : "expectations"} ${event.answer}`.trim(),
   overrun: () => "OVERRUN",
   ended: () => "FIELD ended",
+  unnoted: () => "UNNOTED",
   refused: () => "REFUSED",
   fault: () => "FAULT",
   unanswered: () => "UNANSWERED",
@@ -1873,6 +1882,7 @@ const LABELS = {
   expectation: (event) => event.told,
   overrun: (event) => `OVERRUN ${event.late} ${event.skipped}`,
   ended: () => "FIELD ended",
+  unnoted: () => "UNNOTED",
   refused: (event) => `REFUSED ${event.event ?? ""} ${event.cause}`.replace(/ +/g, " "),
   unanswered: (event) => `UNANSWERED ${event.ticket}`,
   fault: (event) => `FAULT ${event.ticket} ${event.cause}`,

@@ -5,7 +5,7 @@ use Rattle.std.specs.Option.{option_map}
 use Rattle.console.specs.declared.request.Request.{Request}
 use Rattle.console.specs.declared.request.Request.TheVariants.{Text as OfText, Verify, Sim, Run, Node, Explain, Audit, Page}
 use Rattle.console.specs.declared.request.TraceFiles.{TraceFiles}
-use Rattle.console.specs.CommandLine.{file_of, files_in}
+use Rattle.console.specs.CommandLine.{file_of, files_in, second_in}
 use Rattle.plc_main.specs.declared.clashes.FileUse.{FileUse}
 
 -- a path, and the option for which the file there is written, if it isn't read
@@ -39,7 +39,7 @@ traces files = written files.vcd (codes "--vcd") ++ written files.svg (codes "--
 -- those that a command reads, the folder of its state, and then those that it writes; none where it never writes any.
 -- A node reads standard input too.
 abbrev pub files_of : Request → List NamedFile
-files_of (OfText request) = read (file_of request) ++ traces (files_in request)
+files_of (OfText request) = read (file_of request) ++ read_if_given (second_in request) ++ traces (files_in request)
 files_of (Verify request) = []
 files_of (Sim request) = read request.plant.now ++ read_any request.schedule.now ++ traces request.files
 files_of (Run request) =

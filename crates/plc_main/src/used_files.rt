@@ -1,7 +1,7 @@
 //! The files that a command reads, and those that it writes.
 
 ghost use Rattle.std.specs.Prelude.{◌≡◌, ◌++◌, IfOk, OnOk, codes, map};
-ghost use Rattle.console.specs.CommandLine.{file_of, files_in};
+ghost use Rattle.console.specs.CommandLine.{file_of, files_in, second_in};
 ghost use Rattle.plc_main.specs.UsedFiles.{files_of, named, read, read_any, read_if_given, traces, written};
 
 use crate::clashes::{FileUse, Identity};
@@ -164,10 +164,12 @@ fn files_of_text<'a, R: Files>(
     alloc: Global,
     request: &TextRequest<'a>,
 ) -> Result<Vec<FileUse<'a>>, AllocError>
-    ensures { IfOk result (λ files. map named files.items ≡ read (file_of request.now) ++ traces (files_in request.now)) }
+    ensures { IfOk result (λ files. map named files.items
+        ≡ read (file_of request.now) ++ read_if_given (second_in request.now) ++ traces (files_in request.now)) }
 {
     let mut files = Vec::new(alloc);
     push_read(rt, &mut files, request.file())?;
+    push_read_if_given(rt, &mut files, request.second())?;
     push_traces(rt, &mut files, request.files())?;
     Ok(files)
 }

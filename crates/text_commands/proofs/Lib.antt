@@ -24,3 +24,5 @@ pub mod KeptVariables
 pub mod OpenedScans
 pub mod Storing
 pub mod StoredMarks
+pub mod SecondDrawings
+pub mod SecondChanges

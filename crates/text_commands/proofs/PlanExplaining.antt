@@ -10,7 +10,7 @@ use Rattle.plant.specs.Plan.{IsPlan}
 use Rattle.text_commands.specs.declared.plan_form.PlanForm.{PlanForm}
 use Rattle.text_commands.specs.declared.text_command_fault.TextCommandFault.{TextCommandFault}
 use Rattle.text_commands.specs.declared.text_command_fault.TextCommandFault.TheVariants.{Text, Word, Write, Memory}
-use Rattle.text_commands.specs.declared.text_fault.TextFault.TheVariants.{Draw, Graph, Bind, Plant, TooLong}
+use Rattle.text_commands.specs.declared.text_fault.TextFault.TheVariants.{Draw, Graph, Bind, Plant, TooLong, Second}
 use Rattle.text_lines.specs.declared.send_fault.SendFault.{SendFault}
 use Rattle.text_lines.specs.declared.send_fault.SendFault.TheVariants as sending
 use Rattle.text_commands.specs.Giving.{sending_fault}
@@ -24,6 +24,7 @@ plan_refused text until form old plant (Text (Graph fault)) read refused = absur
 plan_refused text until form old plant (Text (Bind fault)) read refused = absurd refused
 plan_refused text until form old plant (Text (Plant fault)) read refused = absurd refused
 plan_refused text until form old plant (Text TooLong) read refused = ((record { plant = plant; read = read; dues = refused.0; planned = refused.1 }, refused.2), Keeps-refl old)
+plan_refused text until form old plant (Text (Second fault)) read refused = absurd refused
 plan_refused text until form old plant (Word fault) read refused = absurd refused
 plan_refused text until form old plant Write read refused = absurd refused
 plan_refused text until form old plant Memory read refused = inl (Keeps-refl old)

@@ -1,5 +1,5 @@
 -- What is read from a source is what is used.
-use Rattle.std.proofs.Common.{◌≡◌, ℕ, List, Some, inl, inr, sym, subst}
+use Rattle.std.proofs.Common.{◌≡◌, ℕ, List, None, Some, inl, inr, sym, subst}
 use Rattle.plant_grammar.specs.Retained.{retained_places}
 use Rattle.plant.specs.ProgramText.{IsProgramOfText}
 use Rattle.plant.specs.ProgramTypes.{TypeValue}
@@ -22,7 +22,7 @@ found_retained text name retained type (inl found) are = inl (record { type = ty
 found_retained text name retained type (inr (none, found)) are = inr (none, record { type = type; found = found; retained_are = are })
 
 pub program_drawn : (text name : List ℕ) (type : TypeValue) (ladder : LadderValue) (drawing retained : List ℕ) → HoldsOfPlant (λ t. IsProgramOfText t name (Some type)) text → ladder ≡ type.ladder → drawing ≡ type.program.body
-    → retained ≡ retained_places type.program → IsDrawnFrom (record { text = text; program = Some name }) ladder drawing retained
+    → retained ≡ retained_places type.program → IsDrawnFrom (record { text = text; program = Some name; second = None }) ladder drawing retained
 unfolding found_body found_retained
 program_drawn text name type ladder drawing retained found same is are = (
   subst (λ (l : LadderValue). HoldsOfPlant (λ t. IsLadderOfProgram t name l.declarations l.networks) text) (sym same) (found_ladder text name type found),

@@ -13,7 +13,7 @@ use Rattle.text_commands.specs.Comments.{without_comments}
 use Rattle.text_commands.specs.declared.text_command_fault.TextCommandFault.{TextCommandFault}
 use Rattle.text_commands.specs.declared.text_command_fault.TextCommandFault.TheVariants.{Text, Word, Write, Memory}
 use Rattle.text_commands.specs.declared.text_fault.TextFault.{TextFault}
-use Rattle.text_commands.specs.declared.text_fault.TextFault.TheVariants.{Draw, Graph, Bind, Plant, TooLong}
+use Rattle.text_commands.specs.declared.text_fault.TextFault.TheVariants.{Draw, Graph, Bind, Plant, TooLong, Second}
 
 -- a line `what n`
 abbrev pub count_line : List ℕ → ℕ → List ℕ
@@ -59,6 +59,7 @@ RefusesPlantText text (Graph fault) = ⊥
 RefusesPlantText text (Bind fault) = ⊥
 RefusesPlantText text (Plant fault) = IsToldOf text fault
 RefusesPlantText text TooLong = ⊥
+RefusesPlantText text (Second fault) = ⊥
 
 -- no plant was read: its text is refused, or memory
 abbrev pub GivesNoPlant : List ℕ → TextCommandFault → Type 0

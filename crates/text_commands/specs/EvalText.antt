@@ -24,7 +24,7 @@ use Rattle.text_commands.specs.declared.word_fault.WordFault.{WordFault}
 use Rattle.text_commands.specs.declared.text_command_fault.TextCommandFault.{TextCommandFault}
 use Rattle.text_commands.specs.declared.text_command_fault.TextCommandFault.TheVariants.{Text, Word, Write, Memory}
 use Rattle.text_commands.specs.declared.text_fault.TextFault.{TextFault}
-use Rattle.text_commands.specs.declared.text_fault.TextFault.TheVariants.{Draw, Graph, Bind, Plant, TooLong}
+use Rattle.text_commands.specs.declared.text_fault.TextFault.TheVariants.{Draw, Graph, Bind, Plant, TooLong, Second}
 use Rattle.text_commands.specs.Series.{SeriesValue, SpellSettings, SpellNoSettings, IsFirstRefusedSetting, scans_of}
 use Rattle.text_commands.specs.Restarts.{GivenValue, without_restarts}
 use Rattle.text_commands.specs.Trace.{SomeTrace}
@@ -126,6 +126,7 @@ RefusesText text (Graph fault) = RefusesNetworksOf text fault
 RefusesText text (Bind fault) = RefusesNamesOf text fault
 RefusesText text (Plant fault) = ⊥
 RefusesText text TooLong = ⊥
+RefusesText text (Second fault) = ⊥
 
 -- What holds after a refusal by a drawing: of its text as it stands, if it is well drawn; else with its comments
 -- emptied.

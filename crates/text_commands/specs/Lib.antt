@@ -3,6 +3,9 @@ pub mod Series
 pub mod Lines
 pub mod Comments
 pub mod EvalText
+pub mod SecondDrawing
+pub mod SecondChanges
+pub mod Alone
 pub mod CheckText
 pub mod PlanText
 pub mod Expectations

@@ -20,7 +20,7 @@ use Rattle.text_commands.specs.declared.plan_form.PlanForm.TheVariants.{Moments,
 use Rattle.text_commands.specs.declared.text_command_fault.TextCommandFault.{TextCommandFault}
 use Rattle.text_commands.specs.declared.text_command_fault.TextCommandFault.TheVariants.{Text, Word, Write, Memory}
 use Rattle.text_commands.specs.declared.text_fault.TextFault.{TextFault}
-use Rattle.text_commands.specs.declared.text_fault.TextFault.TheVariants.{Draw, Graph, Bind, Plant, TooLong}
+use Rattle.text_commands.specs.declared.text_fault.TextFault.TheVariants.{Draw, Graph, Bind, Plant, TooLong, Second}
 
 -- the interval of a task
 abbrev pub interval_at : PlantValue → TaskRef → ℕ
@@ -70,6 +70,7 @@ RefusesPlanOf plant until (Text (Graph fault)) = ⊥
 RefusesPlanOf plant until (Text (Bind fault)) = ⊥
 RefusesPlanOf plant until (Text (Plant fault)) = ⊥
 RefusesPlanOf plant until (Text TooLong) = (dues : List Due) × IsPlan plant until dues × (100000 < length dues)
+RefusesPlanOf plant until (Text (Second fault)) = ⊥
 RefusesPlanOf plant until (Word fault) = ⊥
 RefusesPlanOf plant until Write = ⊥
 RefusesPlanOf plant until Memory = Unit {0}
@@ -100,6 +101,7 @@ RefusesPlan text until (Graph fault) = ⊥
 RefusesPlan text until (Bind fault) = ⊥
 RefusesPlan text until (Plant fault) = IsToldOf text fault
 RefusesPlan text until TooLong = (p : Planned text until) × (100000 < length p.dues)
+RefusesPlan text until (Second fault) = ⊥
 
 -- why there was a fault, and what was written before: nothing before a fault of the text
 abbrev pub ExplainsPlan : List ℕ → ℕ → PlanForm → Option (List ℕ) → Option (List ℕ) → TextCommandFault → Type 0

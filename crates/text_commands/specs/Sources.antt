@@ -1,4 +1,5 @@
--- What a ladder is read from: the text of a drawing; or, with the name of a program type, that of a plant.
+-- What a ladder is read from: the text of a drawing, and perhaps of a second one, whose rungs stand behind; or, with the name
+-- of a program type, that of a plant.
 use Rattle.std.specs.Prelude.{◌≡◌, ℕ, ◌⊎◌, List, [], Option, Some, None}
 use Rattle.std.specs.Option.{option_map}
 use Rattle.network.specs.Links.{Diagram}
@@ -10,6 +11,7 @@ use Rattle.plant.specs.ProgramTypes.{TypeValue}
 use Rattle.text_commands.specs.Comments.{without_comments}
 use Rattle.text_commands.specs.CheckText.{RefusesPlantText}
 use Rattle.text_commands.specs.EvalText.{IsLadderOfDrawing, RefusesDrawing}
+use Rattle.text_commands.specs.SecondDrawing.{IsLadderOfBoth, RefusesBoth, one_below_other}
 use Rattle.text_commands.specs.Rows.{IsFirstRefused, SpellNoRows}
 use Rattle.text_commands.specs.declared.ladder_source.LadderSource.{LadderSource}
 use Rattle.text_commands.specs.declared.text_command_fault.TextCommandFault.{TextCommandFault}
@@ -18,14 +20,19 @@ use Rattle.text_commands.specs.declared.text_fault.TextFault.{TextFault}
 use Rattle.text_commands.specs.declared.word_fault.WordFault.{WordFault}
 use Rattle.text_commands.specs.declared.word_fault.WordFaultKind.TheVariants.{NoProgram}
 
--- the text of a drawing; or that of a plant, and the name of a program type
+-- the text of a drawing, and perhaps that of a second one; or that of a plant, and the name of a program type
 pub record SourceValue : Type 0 where
   pub text : List ℕ
   pub program : Option (List ℕ)
+  pub second : Option (List ℕ)
 
 -- a source as it is given
 abbrev pub source_of : LadderSource → SourceValue
-source_of s = record { text = s.text.now; program = option_map (λ name. name.now) s.program }
+source_of s = record {
+  text = s.text.now;
+  program = option_map (λ name. name.now) s.program;
+  second = option_map (λ other. other.now) s.second;
+}
 
 -- the program type of this name in the text of a plant has these variables, as they are declared, and these networks
 pub record IsLadderOfProgram (text name : List ℕ) (ds : List Declaration) (networks : List Diagram) : Type 0 where
@@ -50,21 +57,23 @@ pub record AreRetainedOfProgram (text name : List ℕ) (retained : List ℕ) : T
 abbrev pub HoldsOfPlant : (List ℕ → Type 0) → List ℕ → Type 0
 HoldsOfPlant Holds text = Holds text ⊎ (IsNoPlant text × Holds (without_comments text))
 
--- the ladder of a drawing, or of the program type of a name
-abbrev pub IsLadderBy : Option (List ℕ) → List ℕ → List Declaration → List Diagram → Type 0
-IsLadderBy None text ds networks = IsLadderOfDrawing text ds networks
-IsLadderBy (Some name) text ds networks = HoldsOfPlant (λ t. IsLadderOfProgram t name ds networks) text
+-- the ladder of a drawing, or of it and a second one, or of the program type of a name
+abbrev pub IsLadderBy : Option (List ℕ) → Option (List ℕ) → List ℕ → List Declaration → List Diagram → Type 0
+IsLadderBy None None text ds networks = IsLadderOfDrawing text ds networks
+IsLadderBy None (Some other) text ds networks = IsLadderOfBoth text other ds networks
+IsLadderBy (Some name) second text ds networks = HoldsOfPlant (λ t. IsLadderOfProgram t name ds networks) text
 
 abbrev pub IsLadderFrom : SourceValue → List Declaration → List Diagram → Type 0
-IsLadderFrom s ds networks = IsLadderBy s.program s.text ds networks
+IsLadderFrom s ds networks = IsLadderBy s.program s.second s.text ds networks
 
--- the drawing itself, or the body of the program type of a name
-abbrev pub IsDrawingBy : Option (List ℕ) → List ℕ → List ℕ → Type 0
-IsDrawingBy None text drawing = drawing ≡ text
-IsDrawingBy (Some name) text drawing = HoldsOfPlant (λ t. IsBodyOfProgram t name drawing) text
+-- the drawing itself, or it and the second one below, or the body of the program type of a name
+abbrev pub IsDrawingBy : Option (List ℕ) → Option (List ℕ) → List ℕ → List ℕ → Type 0
+IsDrawingBy None None text drawing = drawing ≡ text
+IsDrawingBy None (Some other) text drawing = drawing ≡ one_below_other text other
+IsDrawingBy (Some name) second text drawing = HoldsOfPlant (λ t. IsBodyOfProgram t name drawing) text
 
 abbrev pub IsDrawingFrom : SourceValue → List ℕ → Type 0
-IsDrawingFrom s drawing = IsDrawingBy s.program s.text drawing
+IsDrawingFrom s drawing = IsDrawingBy s.program s.second s.text drawing
 
 -- the places of the retained variables: a drawing has none, a program type those of VAR RETAIN
 abbrev pub AreRetainedBy : Option (List ℕ) → List ℕ → List ℕ → Type 0
@@ -75,12 +84,13 @@ abbrev pub AreRetainedFrom : SourceValue → List ℕ → Type 0
 AreRetainedFrom s retained = AreRetainedBy s.program s.text retained
 
 -- what holds after a refusal by the text: a drawing is refused, or there is no plant
-abbrev pub RefusesBy : Option (List ℕ) → List ℕ → TextFault → Type 0
-RefusesBy None text fault = RefusesDrawing text fault
-RefusesBy (Some name) text fault = RefusesPlantText text fault
+abbrev pub RefusesBy : Option (List ℕ) → Option (List ℕ) → List ℕ → TextFault → Type 0
+RefusesBy None None text fault = RefusesDrawing text fault
+RefusesBy None (Some other) text fault = RefusesBoth text other fault
+RefusesBy (Some name) second text fault = RefusesPlantText text fault
 
 abbrev pub RefusesSource : SourceValue → TextFault → Type 0
-RefusesSource s fault = RefusesBy s.program s.text fault
+RefusesSource s fault = RefusesBy s.program s.second s.text fault
 
 -- the plant has no program type of the name
 abbrev pub LacksBy : Option (List ℕ) → List ℕ → Type 0

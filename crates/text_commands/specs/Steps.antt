@@ -12,3 +12,4 @@ pub mod Opening
 pub mod Marks
 pub mod PlantRefusing
 pub mod Sources
+pub mod SecondDrawing

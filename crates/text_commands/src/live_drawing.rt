@@ -59,7 +59,7 @@ impl Line {
 }
 
 /// The text without the line feed at its end, which begins no further line.
-fn without_feed(text: &str) -> &str
+pub(crate) fn without_feed(text: &str) -> &str
     ensures { result.now ≡ without_last 10 text.now }
 {
     match text.strip_suffix('\n') {

@@ -8,6 +8,8 @@ ghost use Rattle.text_commands.specs.Steps.Sources.{IsDrawnFrom, RefusesFrom};
 use crate::eval_command::read_ladder;
 use crate::ladder_source::LadderSource;
 use crate::program_types::read_program;
+use crate::second_drawing::page::one_below_other;
+use crate::second_drawing::read_both;
 use crate::text_command_fault::TextCommandFault;
 use crate::word_fault::{WordFault, WordFaultKind};
 use plant::ProgramType;
@@ -36,13 +38,29 @@ pub fn no_program() -> TextCommandFault
 
 /// The ladder of a drawing, which retains nothing.
 fn drawn_of_drawing(alloc: Global, text: &str) -> Result<DrawnLadder, TextCommandFault>
-    ensures ok { IfOk result (λ drawn. IsDrawnFrom (record { text = text.now; program = None })
+    ensures ok { IfOk result (λ drawn. IsDrawnFrom (record { text = text.now; program = None; second = None })
         drawn.ladder.value (string_bytes drawn.drawing) drawn.retained.items) }
-    ensures err { IfErr result (RefusesFrom (record { text = text.now; program = None })) }
+    ensures err { IfErr result (RefusesFrom (record { text = text.now; program = None; second = None })) }
 {
     let ladder = read_ladder(alloc, text)?;
     let ladder = Arc::new(alloc, ladder)?;
     let drawing = String::from_str(alloc, text)?;
+    Ok(DrawnLadder {
+        ladder,
+        drawing,
+        retained: Vec::new(alloc),
+    })
+}
+
+/// The ladder of a drawing and a second one, whose rungs stand behind; they retain nothing.
+fn drawn_of_both(alloc: Global, text: &str, second: &str) -> Result<DrawnLadder, TextCommandFault>
+    ensures ok { IfOk result (λ drawn. IsDrawnFrom (record { text = text.now; program = None; second = Some second.now })
+        drawn.ladder.value (string_bytes drawn.drawing) drawn.retained.items) }
+    ensures err { IfErr result (RefusesFrom (record { text = text.now; program = None; second = Some second.now })) }
+{
+    let joined = read_both(alloc, text, second)?;
+    let ladder = Arc::new(alloc, joined.ladder)?;
+    let drawing = one_below_other(alloc, text, second)?;
     Ok(DrawnLadder {
         ladder,
         drawing,
@@ -68,9 +86,9 @@ fn drawn_of_type(alloc: Global, found: &ProgramType) -> Result<DrawnLadder, Allo
 
 /// The ladder of the program type of a name in a plant.
 fn drawn_of_program(alloc: Global, text: &str, name: &str) -> Result<DrawnLadder, TextCommandFault>
-    ensures ok { IfOk result (λ drawn. IsDrawnFrom (record { text = text.now; program = Some name.now })
+    ensures ok { IfOk result (λ drawn. IsDrawnFrom (record { text = text.now; program = Some name.now; second = None })
         drawn.ladder.value (string_bytes drawn.drawing) drawn.retained.items) }
-    ensures err { IfErr result (RefusesFrom (record { text = text.now; program = Some name.now })) }
+    ensures err { IfErr result (RefusesFrom (record { text = text.now; program = Some name.now; second = None })) }
 {
     match read_program(alloc, text, name)? {
         Some(found) => Ok(drawn_of_type(alloc, &found)?),
@@ -78,7 +96,8 @@ fn drawn_of_program(alloc: Global, text: &str, name: &str) -> Result<DrawnLadder
     }
 }
 
-/// The ladder that is read from a source, the text of its drawing (of a program type its body), and what it retains.
+/// The ladder that is read from a source, the text of its drawing (of two both, of a program type its body), and what it
+/// retains.
 pub(crate) fn read_source(
     alloc: Global,
     source: LadderSource<'_>,
@@ -88,7 +107,10 @@ pub(crate) fn read_source(
     ensures err { IfErr result (RefusesFrom (source_of source.entry)) }
 {
     match source.program {
-        None => drawn_of_drawing(alloc, source.text),
+        None => match source.second {
+            None => drawn_of_drawing(alloc, source.text),
+            Some(second) => drawn_of_both(alloc, source.text, second),
+        },
         Some(name) => drawn_of_program(alloc, source.text, name),
     }
 }

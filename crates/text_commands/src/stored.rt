@@ -96,7 +96,7 @@ pub fn stored_places(
 }
 
 /// The places at which the networks of a ladder store, each as often as it is stored at.
-pub(crate) fn ladder_places(alloc: Global, ladder: &Ladder) -> Result<Vec<usize>, AllocError>
+pub fn ladder_places(alloc: Global, ladder: &Ladder) -> Result<Vec<usize>, AllocError>
     ensures { IfOk result (λ places. places.items ≡ stored_places ladder.now.declarations ladder.now.networks) }
 {
     let mut places = Vec::new(alloc);

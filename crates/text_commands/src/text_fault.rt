@@ -1,3 +1,7 @@
+ghost use Rattle.std.specs.Prelude.{◌≡◌};
+ghost use Rattle.text_commands.specs.Alone.{alone};
+
+use crate::second_fault::SecondFault;
 use ladder_text::DrawFault;
 use name_faults::BindFault;
 use network::GraphFault;
@@ -22,4 +26,20 @@ pub enum TextFault {
     /// The plant's plan has more than 100,000 entries.
     #[error("plan: TooLong")]
     TooLong,
+    /// A second drawing, whose rungs are to stand behind those of the first, is refused.
+    #[error(transparent)]
+    Second(SecondFault),
+}
+
+impl TextFault {
+    /// The fault of a second drawing as that of its text alone; lines and columns are the same.
+    pub fn alone(fault: SecondFault) -> TextFault
+        ensures { result ≡ alone fault }
+    {
+        match fault {
+            SecondFault::Draw(fault) => TextFault::Draw(fault),
+            SecondFault::Graph(fault) => TextFault::Graph(fault),
+            SecondFault::Bind(fault) => TextFault::Bind(fault),
+        }
+    }
 }

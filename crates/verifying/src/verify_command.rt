@@ -1,9 +1,11 @@
-ghost use Rattle.std.specs.Prelude.{◌≡◌, ◌↔◌, ℕ, List, [], IfOk, IfErr, IsTrue, Some, string_bytes};
+ghost use Rattle.std.specs.Prelude.{◌≡◌, ◌↔◌, ℕ, List, [], IfOk, IfErr, IsTrue, None, Some, string_bytes};
 ghost use Rattle.std.specs.Option.{option_map};
 ghost use Rattle.needed_networks.specs.declared.slice.Slice.{Slice as SliceValue};
 ghost use Rattle.text_commands.specs.EvalText.{IsLadderOfDrawing, IsLadderOfText};
 ghost use Rattle.plant_grammar.specs.Retained.{retained_places};
 ghost use Rattle.text_commands.specs.Sources.{AreRetainedFrom, IsLadderFrom, source_of};
+ghost use Rattle.text_commands.specs.SecondDrawing.{IsLadderOfBoth};
+ghost use Rattle.text_commands.specs.Steps.SecondDrawing.{RefusesLadders};
 ghost use Rattle.text_commands.specs.Steps.Sources.{RefusesFrom};
 ghost use Rattle.text_commands.specs.Steps.Refusing.{RefusesLadder, RefusesLadderOfText};
 ghost use Rattle.verifying.specs.Questions.{question_of};
@@ -42,8 +44,8 @@ use power_flow::Ladder;
 use std::alloc::{AllocError, Global};
 use std::io::Write;
 use text_commands::{
-    LadderSource, TextCommandFault, TextFault, kept_places, no_program, read_program, read_rows,
-    stored_places, without_comments,
+    LadderSource, TextCommandFault, TextFault, kept_places, ladder_places, no_program, read_both,
+    read_program, read_rows, stored_places, without_comments,
 };
 use text_lines::{Progress, write_text};
 
@@ -125,6 +127,27 @@ fn marked_of_drawing(alloc: Global, drawing: &str) -> Result<Marked, TextCommand
     }
 }
 
+/// The ladder of a drawing and a second one, whose rungs stand behind.
+fn marked_of_both(alloc: Global, first: &str, second: &str) -> Result<Marked, TextCommandFault>
+    ensures ladder { IfOk result (λ m. IsLadderOfBoth first.now second.now m.ladder.declarations m.ladder.networks) }
+    ensures marked { IfOk result IsMarkedLadder }
+    ensures retained { IfOk result (λ m. m.retained.items ≡ []) }
+    ensures err { IfErr result (RefusesLadders first.now second.now) }
+{
+    let joined = read_both(alloc, first, second)?;
+    let ladder = joined.ladder;
+    let places = ladder_places(alloc, &ladder)?;
+    let marks = marks_of(alloc, &places, ladder.declarations().len())?;
+    Ok(Marked {
+        ladder,
+        marks,
+        rails: joined.rails,
+        networks: joined.networks,
+        drawing: joined.page,
+        retained: Vec::new(alloc),
+    })
+}
+
 /// The same names once more. They are declared already, so they are refused only for want of memory.
 fn same_declarations(alloc: Global, declarations: &Declarations) -> Result<Declarations, AllocError>
     ensures { IfOk result (λ copy. copy ≡ declarations.now) }
@@ -177,11 +200,11 @@ fn marked_of_type(alloc: Global, found: &ProgramType) -> Result<Marked, AllocErr
 
 /// The ladder of the program type of a name in a plant.
 fn marked_of_program(alloc: Global, text: &str, name: &str) -> Result<Marked, TextCommandFault>
-    ensures ladder { IfOk result (λ m. IsLadderFrom (record { text = text.now; program = Some name.now })
+    ensures ladder { IfOk result (λ m. IsLadderFrom (record { text = text.now; program = Some name.now; second = None })
         m.ladder.declarations m.ladder.networks) }
     ensures marked { IfOk result IsMarkedLadder }
-    ensures retained { IfOk result (λ m. AreRetainedFrom (record { text = text.now; program = Some name.now }) m.retained.items) }
-    ensures err { IfErr result (RefusesFrom (record { text = text.now; program = Some name.now })) }
+    ensures retained { IfOk result (λ m. AreRetainedFrom (record { text = text.now; program = Some name.now; second = None }) m.retained.items) }
+    ensures err { IfErr result (RefusesFrom (record { text = text.now; program = Some name.now; second = None })) }
 {
     match read_program(alloc, text, name)? {
         Some(found) => Ok(marked_of_type(alloc, &found)?),
@@ -197,7 +220,10 @@ fn read_marked(alloc: Global, source: LadderSource<'_>) -> Result<Marked, TextCo
     ensures err { IfErr result (RefusesFrom (source_of source.entry)) }
 {
     match source.program {
-        None => marked_of_drawing(alloc, source.text),
+        None => match source.second {
+            None => marked_of_drawing(alloc, source.text),
+            Some(second) => marked_of_both(alloc, source.text, second),
+        },
         Some(name) => marked_of_program(alloc, source.text, name),
     }
 }

@@ -3,12 +3,13 @@ import functools
 import os
 import re
 import shlex
+from dataclasses import dataclass, field
 
 from rules import needed, words
-from rules.commands import SHAPES, answer_of, ladder_of, question_of_drawing, read_words
+from rules.commands import SHAPES, Files, answer_of, ladder_of, question_of_drawing, read_words
 from rules.refusal import Refusal
-from rules.scan import kept_by_restarts, stored_names
-from rules.verify import MOST_INPUTS, Search, copied, key_of, verdict_lines
+from rules.scan import stored_names
+from rules.verify import MOST_INPUTS, Search, key_of, only, verdict_lines
 
 from .drawings import Drawer, Names, cased, drawing
 from .pieces import in_a_row, symbol
@@ -117,7 +118,7 @@ def held_of(chance, ladder, names, inputs):
 
 def looked_through(given, folder, written, who):
     """What is told of claims, and behind each verdict what a search through all networks tells, if it is another."""
-    found = written and whole_of(text_in(folder), tuple(given))
+    found, eval_words = whole_of(Texts(texts_in(folder), folder), tuple(given)) if written else (None, "")
     if not found:
         return written
     names = iter(it for option, it in zip(given, given[1:]) if option == "--never")
@@ -125,29 +126,37 @@ def looked_through(given, folder, written, who):
     while ahead:
         line = ahead.pop(0)
         if line.startswith(("HOLDS", "FAILS", "UNDECIDED")):
-            of_whole = list(verdict_lines(found, next(names), given[1]))
+            of_whole = list(verdict_lines(found, next(names), eval_words))
             if not agree(found, [line, *ahead[: len(of_whole) - 1]], of_whole):
                 line += f", which is the {who}'s answer, but of the whole drawing {' '.join(of_whole)}"
         told.append(line)
     return "".join(f"{it}\n" for it in told)
 
 
-def text_in(folder):
-    with open(os.path.join(folder, "it.ladder"), encoding="utf-8", newline="") as file:
-        return file.read()
+@dataclass(frozen=True)
+class Texts:
+    """The texts of drawings, which lie in a folder."""
+
+    texts: tuple
+    folder: str = field(compare=False)
+
+
+def texts_in(folder):
+    names = sorted(it for it in os.listdir(folder) if it.endswith(".ladder"))
+    return tuple((it, Files(folder).text(it)) for it in names)
 
 
 @functools.lru_cache(maxsize=1)
-def whole_of(text, given):
-    """The search through all networks, with each input that is free; None where it is long."""
-    _, options, more = read_words(SHAPES["verify"], given[1:])
-    ladder = ladder_of(text)
-    question = question_of_drawing(ladder, options, more, kept_by_restarts(ladder))
-    rows = 2 ** question.width_in(ladder)
+def whole_of(texts, given):
+    """The search through all networks, with each input that is free, None where it is long; and the words of a run."""
+    [path], options, more = read_words(SHAPES["verify"], given[1:])
+    tried = Files(texts.folder).tried(path, options)
+    question = question_of_drawing(tried.ladder, options, more, tried.kept)
+    rows = 2 ** question.width_in(tried.ladder)
     if rows > MOST_SCANS:
-        return None
+        return None, ""
     found = Search(question, question.ladder, MOST_SCANS // rows).search()
-    return found if found.depth is None or found.runs.keys() == set(question.claims) else None
+    return found if found.depth is None or found.runs.keys() == set(question.claims) else None, tried.eval_words
 
 
 def agree(found, told, of_whole):
@@ -166,15 +175,6 @@ def counts_of_part(found):
     part = found.question.part()
     states = len({key_of(only(it.state, part.networks)) for it in found.met})
     return states, states * 2 ** found.question.width_in(part)
-
-
-def only(state, networks):
-    """Of a state what some networks read or change, and their memories."""
-    part, names = copied(state), needed.names_of(networks)
-    part.values = {name: it for name, it in part.values.items() if name in names}
-    part.blocks = {name: it for name, it in part.blocks.items() if name in names}
-    part.memories = {place: it for place, it in part.memories.items() if any(place in it.places for it in networks)}
-    return part
 
 
 # What the words of a run do.

@@ -15,6 +15,9 @@ NO_LINES = ["HELLO R1", "HELLO R1 x", "HELLO R1 4294967296", "RESTART R1 2", "EV
 EMPTY = ["", " \t", "# a comment"]
 # Incarnations that were kept before: a node goes on from them, maybe to the last one.
 NUMBERS = ["0\n", "6\n", "500000\n", "999998\n", "999999\n", "1000000\n", "4294967293\n"]
+# A journal that has no room for a note, and what a node may be told to do then.
+FULL_DISK = "/dev/full"
+WHERE_FULL = ["go-on", "go-on", "go-on", "stop", None]
 # By so much more is told of an incarnation than is so.
 RISES = [1, 2, 5, 999_999, 1_000_000, 1_000_001, 4_294_967_295]
 
@@ -37,10 +40,14 @@ class Memory(KeptFiles):
 
 
 class Process:
-    """One life of a node: what it read, and the journal to which it writes."""
+    """One life of a node: what it read, the journal to which it writes, and what it is told to do where that is full."""
 
-    def __init__(self, life, journal):
-        self.life, self.journal, self.read, self.node = life, journal, [], None
+    def __init__(self, life, journal, where_full):
+        self.life, self.journal, self.where_full, self.read, self.node = life, journal, where_full, [], None
+
+    def words(self):
+        told = ["--journal-full", self.where_full] if self.where_full else []
+        return ["--state", ".", "--journal", self.journal, *told]
 
 
 class Machines:
@@ -50,6 +57,7 @@ class Machines:
         self.chance, self.text = chance, text
         self.plant = read_plant(text)
         self.loss, self.doubling = chance.choice([0, 0.2, 0.4]), chance.choice([0, 0.2, 0.4])
+        self.fullness = chance.choice([0, 0, 0.25])
         self.journals, self.processes = {}, []
         self.folders = {it: Memory() for it in self.plant.resources}
         self.ahead = {it: [] for it in self.plant.resources}
@@ -58,9 +66,12 @@ class Machines:
 
     def begin(self, resource, journal=None):
         """Begins a node, again and again where it dies at once."""
-        name = journal or next((it.journal for it in reversed(self.processes) if it.life[0] is resource), f"{resource.name}.journal")
+        before = [it.journal for it in self.processes if it.life[0] is resource and it.journal != FULL_DISK]
+        name = journal or (before[-1] if before else f"{resource.name}.journal")
         count = sum(it.life[0] is resource for it in self.processes) + 1
-        process = Process((resource, count), name)
+        is_full = self.chance.random() < self.fullness
+        where_full = self.chance.choice(WHERE_FULL if is_full else [None, None, *WHERE_FULL])
+        process = Process((resource, count), FULL_DISK if is_full else name, where_full)
         self.processes.append(process)
         try:
             process.node = Node(self.plant, resource, self.folders[resource], lambda line: self.note(process, line))
@@ -71,7 +82,11 @@ class Machines:
         self.carry(process.node.first)
 
     def note(self, process, line):
-        """Notes a line; where the process is to die, a beginning of it."""
+        """Notes a line; where the process is to die, a beginning of it. One whose journal is full notes nothing, or dies of that."""
+        if process.journal == FULL_DISK:
+            if self.death is not None or process.where_full != "go-on":
+                raise Died
+            return
         text = f"{line};\n"
         written = len(text) if self.death is None else min(self.death, len(text))
         self.journals[process.journal] = self.journals.get(process.journal, "") + text[:written]
@@ -194,10 +209,9 @@ def nodes(chance):
         resource, life = process.life
         name = f"{resource.name}.{life}.lines"
         files[name] = "".join(f"{line}{chance.choice(['', '', '', chr(13)])}\n" for line in process.read)
-        words = ["--state", ".", "--journal", process.journal]
-        runs.append(["node", "it.plant", cased(chance, resource.name), *words, "<", name])
+        runs.append(["node", "it.plant", cased(chance, resource.name), *process.words(), "<", name])
     if chance.random() < 0.1:
-        runs.append(["node", "it.plant", resource.name, "<", name])
+        runs.append(["node", "it.plant", resource.name, *chance.choice([[], [], ["--journal-full", "go-on"], ["--journal", "J", "--journal-full=no"]]), "<", name])
     return files, [*runs, ["audit", "it.plant", *shuffled(chance, machines.journals)]]
 
 
@@ -212,7 +226,8 @@ def fields(chance):
     for k in range(chance.choice([1, 2, 3])):
         files[f"{k}.lines"] = "".join(f"{field_line(chance, machines, resource)}{chance.choice(['', '', chr(13)])}\n" for _ in range(chance.choice([5, 40, 100])))
         until = chance.choice([[], [], ["--until", "4294967295"], ["--until=0"]])
-        runs.append(["node", "it.plant", resource.name, "--field", "-", *until, "--state", ".", "--journal", "journal", "<", f"{k}.lines"])
+        journal = chance.choice([["--journal", "journal"]] * 4 + [["--journal", FULL_DISK, "--journal-full", "go-on"]])
+        runs.append(["node", "it.plant", resource.name, "--field", "-", *until, "--state", ".", *journal, "<", f"{k}.lines"])
     others = [["--until", "5"], ["--cycle", "--until", "0"], ["--cycle=1"], ["--cycle", "--cycle"], ["--field", "--cycle"], ["--until", "x", "--cycle"]]
     runs.append(["node", "it.plant", resource.name, *chance.choice(others), "<", "0.lines"])
     return files, [*runs, ["audit", "it.plant", "journal"]]
@@ -268,6 +283,8 @@ def journals(chance):
     for _ in range(chance.choice([20, 60, 120])):
         machines.happen(deaths, faults)
     left = {name: text for name, text in machines.journals.items() if first_start(text)}
+    if not left:
+        return journals(chance)
     slip = chance.choice([None, None, None, cut, cut, edited, other_evaluation, other_evaluation, skipping, skipping, "without"])
     name = chance.choice(list(left))
     if slip == "without" and len(left) > 1:

@@ -5,6 +5,7 @@ from rules.plant_text import read_plant
 from rules.refusal import Refusal
 from rules.scan import stored_names
 
+from .beside import with_beside
 from .claims import MOST_FREE
 from .drawings import COMMENTS, cased, digits, further_words
 from .plants import PlantMaker
@@ -38,7 +39,10 @@ def forgetful(chance):
     chance.shuffle(drawn)
     drawn += [claim(chance, chance.choice(pairs), f"NEVER{k}") for k in range(chance.randint(1, 2))]
     outputs = sorted({it[-1][1] for it in drawn if it[-1][1].startswith("NEVER")})
-    return "\n".join(Program("P", ["A", "B"], outputs, drawn, retained, lost).lines()) + "\n" + NOTHING_RUN
+    program = Program("P", ["A", "B"], outputs, drawn, retained, lost)
+    lines = list(program.lines())
+    lines = with_beside(chance, lines, {"BOOL": program.names()}) if chance.random() < 0.4 else lines
+    return "\n".join(lines) + "\n" + NOTHING_RUN
 
 
 def latch(chance, names, sign):

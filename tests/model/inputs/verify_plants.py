@@ -13,12 +13,15 @@ from rules.inputs import Inputs
 from rules.refusal import Refusal
 from rules.schedule import Deliver, Evaluate, Hear, Restart, events_of
 
+from .beside import BITS, with_beside
 from .drawings import Drawer, cased
 from .pieces import in_a_row, symbol
 from .plants import INTERVALS, PlantMaker, Variables
 
 # A plant with more states is drawn anew.
 MOST_STATES = 500
+# So many are enough for the program too, where counters and timers stand beside what is needed, which have more.
+ENOUGH_STATES = 30_000
 # So many runs are tried that are to break a claim with fewer evaluations and restarts.
 MOST_RUNS = 400
 
@@ -33,6 +36,9 @@ class Program:
     rungs: list
     retained: list = field(default_factory=list)
     locals: list = field(default_factory=list)
+
+    def names(self):
+        return [*self.inputs, *self.outputs, *self.locals, *self.retained]
 
     def lines(self):
         yield f"PROGRAM {self.name}"
@@ -154,7 +160,8 @@ class Zone:
 
     def lines(self):
         for program in self.programs:
-            yield from program.lines()
+            lines = list(program.lines())
+            yield from with_beside(self.chance, lines, {"BOOL": program.names()}) if self.chance.random() < 0.4 else lines
         yield "CONFIGURATION ZONE"
         for name in self.askers:
             yield from self.resource(name, [self.use("A", "T", "ASKER", WANT="%IX0", PERMIT=f"R2.O.{'PERMIT' if name == 'R1' else 'OTHER'}", THERE="R2.O.HERE")])
@@ -196,6 +203,7 @@ class SmallPlant(PlantMaker):
     def __init__(self, chance):
         self.chance = chance
         self.types = {name: self.variables() for name in "ABC"[: chance.choice([1, 2, 2, 3])]}
+        self.with_more = {name for name in self.types if chance.random() < 0.5}
         self.resources = ["R1", "R2", "R3"][: chance.choice([2, 2, 2, 3])]
         self.tasks, self.programs = {}, []
         for resource in self.resources:
@@ -213,6 +221,10 @@ class SmallPlant(PlantMaker):
             {"X": chance.choice(["CTU", "CTU", "CTD", "TON", "TOF", "TP", "SR", "RS"])} if chance.random() < 0.6 else {},
         )
 
+    def program_type(self, name, variables):
+        lines = list(super().program_type(name, variables))
+        return with_beside(self.chance, lines, variables.names().reads) if name in self.with_more else lines
+
     def drawer(self, names):
         return SmallDrawer(self.chance, names)
 
@@ -228,7 +240,10 @@ class SmallPlant(PlantMaker):
         ]
 
     def claims(self):
+        """Of outputs that others may take too; now and then of one that is shown beside them."""
         bits = self.bits()
+        if self.chance.random() < 0.06:
+            bits += [f"{resource}.{name}.{BITS[0]}" for resource, name, _, kind in self.programs if kind in self.with_more]
         return [",".join(self.chance.sample(bits, min(len(bits), self.chance.choice([1, 2, 2, 2, 3])))) for _ in range(self.chance.choice([1, 1, 1, 2]))]
 
 
@@ -312,7 +327,7 @@ def plant_claims(chance):
         searches = decided(text, given) if is_read(text) else None
         if searches:
             break
-    given += most_waiting(chance, searches)
+    given += [*most_waiting(chance, searches), *(["--most-states", str(ENOUGH_STATES)] if " E0 : " in text else [])]
     if chance.random() < 0.06:
         given += chance.choice(REFUSED)
     return {"it.plant": text}, [given]

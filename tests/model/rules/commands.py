@@ -11,13 +11,14 @@ from .inputs import BadInput, Inputs, parts_of
 from .kept_files import BadFile, KeptFiles
 from .lines import lines_of, without_comments
 from .networks import networks_of
-from .node import Node, NoFiles
+from .node import Journal, Node, NoFiles
 from .plan import plan_of, schedule_of
 from .plant_text import find, read_plant
 from .refusal import Refusal
 from .run import Run, do_in_turns, lines_of_steps
 from .scan import Ladder, State, kept_by_restarts, stored_names
 from .schedule import MOST_U32, steps_of
+from .second_drawing import with_second
 from .test_words import BadWord, tests_of
 from .traces import Track, diagram, dump
 from .warnings import warnings_of, warnings_of_plant
@@ -67,13 +68,13 @@ MOST_SCANS = 1_000_000
 WARNING_FLAGS = ("--strict", "--no-warnings")
 
 SHAPES = {
-    "eval": Shape(1, ("--dt",), {"--color": COLORS}, ("--vcd", "--svg", "--program"), ("--show", "--chart", *WARNING_FLAGS), scans=("--restart",), has_more=True),
-    "verify": Shape(1, ("--dt", "--most-states", "--most-waiting"), names=("--program",), flags=("--restarts", "--no-restarts", *WARNING_FLAGS), lists=("--never", "--given"), needed=("--never",), has_more=True),
+    "eval": Shape(1, ("--dt",), {"--color": COLORS}, ("--vcd", "--svg", "--program", "--with"), ("--show", "--chart", *WARNING_FLAGS), scans=("--restart",), has_more=True),
+    "verify": Shape(1, ("--dt", "--most-states", "--most-waiting"), names=("--program", "--with"), flags=("--restarts", "--no-restarts", *WARNING_FLAGS), lists=("--never", "--given"), needed=("--never",), has_more=True),
     "check": Shape(1, flags=WARNING_FLAGS),
     "plan": Shape(1, numbers=("--until",), flags=("--schedule",), needed=("--until",)),
     "sim": Shape(2, numbers=("--max-number",), names=("--vcd", "--svg")),
     "run": Shape(1, ("--until",), names=("--state", "--vcd", "--svg"), flags=("--paced",), needed=("--until",), has_more=True),
-    "node": Shape(2, numbers=("--until",), names=("--field", "--state", "--journal"), flags=("--cycle",)),
+    "node": Shape(2, numbers=("--until",), choices={"--journal-full": ("stop", "go-on")}, names=("--field", "--state", "--journal"), flags=("--cycle",)),
     "audit": Shape(2, has_more=True),
 }
 
@@ -181,9 +182,8 @@ class Files:
         """The lines of standard input, each without its line feed and one carriage return before it."""
         return (it.decode("utf-8", "surrogateescape").removesuffix("\n").removesuffix("\r") for it in self.read)
 
-    def append(self, path, text):
-        with open(os.path.join(self.folder, path), "a", encoding="utf-8", newline="") as file:
-            file.write(text)
+    def whole_path(self, path):
+        return os.path.join(self.folder, path)
 
     def text(self, path):
         try:
@@ -211,12 +211,30 @@ class Files:
             raise Refused(REFUSED_TEXT, f"{path}:{refusal.line}: {within}{refusal.kind}") from None
 
     def tried(self, path, options):
-        """What is tried: a drawing, or a program type of a plant."""
+        """What is tried: a drawing, maybe with a second one behind it, or a program type of a plant."""
+        if {"--program", "--with"} <= set(options):
+            raise Refused(REFUSED_WORDS)
         if "--program" in options:
             return self.program_type(path, options["--program"])
+        if "--with" in options:
+            return self.both_drawings(path, options["--with"])
         ladder = self.ladder(path)
         warnings = lambda elapsed=0: warnings_of(ladder.drawing, ladder.networks, elapsed)
         return Tried(ladder, kept_by_restarts(ladder), self.text(path), path, warnings)
+
+    def both_drawings(self, path, second_path):
+        """A drawing and a second one behind it, with an empty row between their texts. What is warned of is the first one's."""
+        if second_path == "-":
+            raise Refused(REFUSED_WORDS)
+        text, second_text = self.text(path), self.text(second_path)
+        first = self.ladder(path)
+        try:
+            ladder = with_second(first, len(lines_of(text)), second_text)
+        except Refusal as refusal:
+            raise Refused(REFUSED_TEXT, f"{second_path}:{refusal.line}:{refusal.column}: {refusal.kind}") from None
+        warnings = lambda elapsed=0: warnings_of(first.drawing, first.networks, elapsed)
+        text = text.removesuffix("\n") + "\n\n" + second_text
+        return Tried(ladder, kept_by_restarts(ladder), text, f"{path} --with {second_path}", warnings)
 
     def program_type(self, path, name):
         """A program type as its plant has it, with its own lines of the text that was read, and the warnings of the plant."""
@@ -367,7 +385,7 @@ def verify(write, files, paths, options, more):
         raise Refused(REFUSED_WORDS)
     names = [name for claim in options["--never"] for name in claim.split(",")]
     dots = {it.count(".") for it in [*names, *options.get("--given", ())]}
-    if dots == {2} and "--program" not in options:
+    if dots == {2} and not {"--program", "--with"} & set(options):
         verify_plants(write, files.plant(paths[0]), options, more)
     elif dots == {0} and "" not in names and not OF_PLANTS & set(options):
         verify_drawing(write, files, paths, options, more)
@@ -531,19 +549,29 @@ def node(write, files, paths, options, _more):
     """Without a clock: a node with a cycle runs for 0 ms, and a field is standard input."""
     if "--until" in options and not {"--cycle", "--field"} & set(options):
         raise Refused(REFUSED_WORDS)
+    if "--journal-full" in options and "--journal" not in options:
+        raise Refused(REFUSED_WORDS)
     plant = files.plant(paths[0])
     resource = find(plant.resources, paths[1])
     if not resource:
         raise Refused(REFUSED_WORDS)
     keeper = KeptFiles(files.folder, options["--state"]) if "--state" in options else NoFiles()
     try:
-        it = Node(plant, resource, keeper, lambda line: "--journal" in options and files.append(options["--journal"], f"{line};\n"))
+        it = Node(plant, resource, keeper, notes_of(files, options, write))
         for line in it.first:
             write(line)
         for line in node_answers(it, files, options):
             write(line)
     except (BadFile, OSError):
         raise Refused(NO_FILE) from None
+
+
+def notes_of(files, options, write):
+    """What notes each line of a node: nothing where there is no journal."""
+    if "--journal" not in options:
+        return lambda line: None
+    told = (lambda: write("UNNOTED")) if options.get("--journal-full") == "go-on" else None
+    return Journal(files.whole_path(options["--journal"]), told).note
 
 
 def node_answers(it, files, options):

@@ -50,6 +50,28 @@ class NoFiles:
         pass
 
 
+class Journal:
+    """The file to whose end a node notes. Where a note has no room the node ends; or it tells that once, and notes nothing more."""
+
+    def __init__(self, path, tell=None):
+        self.path, self.tell, self.is_given_up = path, tell, False
+
+    def note(self, line):
+        if not self.is_given_up:
+            with open(self.path, "ab", buffering=0) as file:
+                self.write(file, f"{line};\n".encode())
+
+    def write(self, file, ahead):
+        try:
+            while ahead:
+                ahead = ahead[file.write(ahead) :]
+        except OSError:
+            if not self.tell:
+                raise
+            self.is_given_up = True
+            self.tell()
+
+
 class Node:
     """A node over a keeper of files; `note` is given each line that is done, before it is."""
 

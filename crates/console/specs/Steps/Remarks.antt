@@ -2,7 +2,7 @@
 use Rattle.std.specs.Prelude.{ℕ, Bool, true, false, List, [], ◌∷◌, nat_eq}
 use Rattle.std.specs.List.{starts_with}
 use Rattle.text_commands.specs.declared.text_fault.TextFault.{TextFault}
-use Rattle.text_commands.specs.declared.text_fault.TextFault.TheVariants.{Draw, Graph, Bind, Plant, TooLong}
+use Rattle.text_commands.specs.declared.text_fault.TextFault.TheVariants.{Draw, Graph, Bind, Plant, TooLong, Second}
 use Rattle.console.specs.declared.remarks.Look.{Look}
 use Rattle.console.specs.declared.remarks.Look.TheVariants as look
 use Rattle.console.specs.declared.remarks.Remark.{Remark}
@@ -32,3 +32,4 @@ remark_of (Graph fault) false look = remark_of_drawing look
 remark_of (Bind fault) false look = remark_of_drawing look
 remark_of (Plant fault) false look = remark_of_plant look
 remark_of TooLong false look = remark.Nothing
+remark_of (Second fault) false look = remark.Nothing

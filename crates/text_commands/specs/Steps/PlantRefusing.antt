@@ -3,7 +3,7 @@ use Rattle.std.specs.Prelude.{ℕ, List}
 use Rattle.text_commands.specs.declared.text_command_fault.TextCommandFault.{TextCommandFault}
 use Rattle.text_commands.specs.declared.text_command_fault.TextCommandFault.TheVariants.{Text, Word, Write, Memory}
 use Rattle.text_commands.specs.declared.text_fault.TextFault.{TextFault}
-use Rattle.text_commands.specs.declared.text_fault.TextFault.TheVariants.{Draw, Graph, Bind, Plant, TooLong}
+use Rattle.text_commands.specs.declared.text_fault.TextFault.TheVariants.{Draw, Graph, Bind, Plant, TooLong, Second}
 use Rattle.text_commands.specs.CheckText.{IsRefusal}
 
 -- only the reader of plants refuses a text
@@ -13,6 +13,7 @@ RefusesAsItStands text (Graph fault) = ⊥
 RefusesAsItStands text (Bind fault) = ⊥
 RefusesAsItStands text (Plant fault) = IsRefusal text fault
 RefusesAsItStands text TooLong = ⊥
+RefusesAsItStands text (Second fault) = ⊥
 
 -- no plant was read: its text is refused, or memory
 abbrev pub GivesNoPlantOfText : List ℕ → TextCommandFault → Type 0

@@ -7,6 +7,7 @@ use Rattle.power_flow.specs.LadderValue.{LadderValue}
 use Rattle.text_commands.specs.CheckText.{GivesNoPlant}
 use Rattle.text_commands.specs.Sources.{AreRetainedFrom, HoldsOfPlant, IsDrawingFrom, IsLadderFrom, IsLadderOfProgram, RefusesName, RefusesSource, SourceValue}
 use Rattle.text_commands.specs.Steps.Refusing.{RefusesLadder}
+use Rattle.text_commands.specs.Steps.SecondDrawing.{RefusesLadders}
 use Rattle.text_commands.specs.declared.text_command_fault.TextCommandFault.{TextCommandFault}
 use Rattle.text_commands.specs.declared.text_command_fault.TextCommandFault.TheVariants.{Text, Word, Write, Memory}
 
@@ -29,14 +30,21 @@ found_ladder text name type (inl found) = inl (record { type = type; found = fou
 found_ladder text name type (inr (none, found)) = inr (none, record { type = type; found = found; declared = refl; networks_are = refl })
 
 -- a refusal by the reader of drawings is one of the source
-pub drawing_not_read : (text : List ℕ) (fault : TextCommandFault) → RefusesLadder text fault → RefusesFrom (record { text = text; program = None }) fault
+pub drawing_not_read : (text : List ℕ) (fault : TextCommandFault) → RefusesLadder text fault → RefusesFrom (record { text = text; program = None; second = None }) fault
 drawing_not_read text (Text fault) refused = refused
 drawing_not_read text (Word fault) refused = absurd refused
 drawing_not_read text Write refused = refused
 drawing_not_read text Memory refused = refused
 
+-- so is one by the reader of two drawings
+pub both_not_read : (text other : List ℕ) (fault : TextCommandFault) → RefusesLadders text other fault → RefusesFrom (record { text = text; program = None; second = Some other }) fault
+both_not_read text other (Text fault) refused = refused
+both_not_read text other (Word fault) refused = absurd refused
+both_not_read text other Write refused = refused
+both_not_read text other Memory refused = refused
+
 -- so is one by the reader of plants
-pub plant_not_read : (text name : List ℕ) (fault : TextCommandFault) → GivesNoPlant text fault → RefusesFrom (record { text = text; program = Some name }) fault
+pub plant_not_read : (text name : List ℕ) (fault : TextCommandFault) → GivesNoPlant text fault → RefusesFrom (record { text = text; program = Some name; second = None }) fault
 plant_not_read text name (Text fault) refused = refused
 plant_not_read text name (Word fault) refused = absurd refused
 plant_not_read text name Write refused = refused

@@ -3,7 +3,7 @@ use Rattle.std.proofs.Common.{codes, Some}
 use Rattle.lists.proofs.Results.{kept_fault}
 use Rattle.clap.specs.Words.{first_of, found_of, rows_of}
 use Rattle.text_commands.specs.Restarts.{AreRestarts}
-use Rattle.console.specs.CommandLine.{AsksFor, GivesColor, GivesNumber, GivesStrictness, GivesView, OnlyMemoryRefuses, is_given, restart_words}
+use Rattle.console.specs.CommandLine.{AsksFor, AsksSecond, GivesColor, GivesNumber, GivesStrictness, GivesView, OnlyMemoryRefuses, is_given, restart_words}
 use Rattle.console.proofs.Matching.{eval_parts, memory_refused, part_refused}
 use Rattle.console.proofs.command_words.eval_request.Goals as goal
 
@@ -39,3 +39,9 @@ returns-in_err-restarts_given-clause-refused c =
     let found = rows_of (found_of c.args.inner.now) in
     kept_fault c.in_err-restarts_given.field-0.0 (OnlyMemoryRefuses (AsksFor (Some (codes "eval", rows_of (found_of c.args.inner.now))))) _ c.from_residual-in_err-restarts_given.ensures.1
     (part_refused (AsksFor (Some (codes "eval", rows_of (found_of c.args.inner.now)))) (AreRestarts (restart_words found)) c.in_err-restarts_given.field-0.0 (λ r asked. let parts = eval_parts found r asked in (parts.8, parts.9)) c.in_err-restarts_given.ensures.refused)
+
+pub returns-in_err-second_of-clause-refused : goal.returns-in_err-second_of-clause-refused
+returns-in_err-second_of-clause-refused c =
+    let found = rows_of (found_of c.args.inner.now) in
+    kept_fault c.in_err-second_of.field-0.0 (OnlyMemoryRefuses (AsksFor (Some (codes "eval", rows_of (found_of c.args.inner.now))))) _ c.from_residual-in_err-second_of.ensures.1
+    (part_refused (AsksFor (Some (codes "eval", rows_of (found_of c.args.inner.now)))) (AsksSecond found) c.in_err-second_of.field-0.0 (λ r asked. let parts = eval_parts found r asked in (parts.10, parts.11)) c.in_err-second_of.ensures.refused)

@@ -2,7 +2,7 @@
 use Rattle.std.proofs.Common.{codes, Some}
 use Rattle.lists.proofs.Results.{kept_fault}
 use Rattle.clap.specs.Words.{first_of, found_of, rows_of}
-use Rattle.console.specs.CommandLine.{AsksFor, GivesNumber, GivesOption, GivesRestarts, GivesStrictness, OnlyMemoryRefuses, is_given}
+use Rattle.console.specs.CommandLine.{AsksFor, AsksSecond, GivesNumber, GivesOption, GivesRestarts, GivesStrictness, OnlyMemoryRefuses, is_given}
 use Rattle.console.proofs.Matching.{memory_refused, part_refused, verify_parts}
 use Rattle.console.proofs.command_words.verify_request.Goals as goal
 
@@ -44,3 +44,9 @@ returns-in_err-restarts_of-clause-refused c =
     let found = rows_of (found_of c.args.inner.now) in
     kept_fault c.in_err-restarts_of.field-0.0 (OnlyMemoryRefuses (AsksFor (Some (codes "verify", rows_of (found_of c.args.inner.now))))) _ c.from_residual-in_err-restarts_of.ensures.1
     (part_refused (AsksFor (Some (codes "verify", rows_of (found_of c.args.inner.now)))) (GivesRestarts (is_given (codes "restarts") found) (is_given (codes "no-restarts") found)) c.in_err-restarts_of.field-0.0 (λ r asked. let parts = verify_parts found r asked in (parts.8, parts.9)) (rw (c.is_given.ensures, c.is_given-2.ensures) at c.in_err-restarts_of.ensures.refused))
+
+pub returns-in_err-second_of-clause-refused : goal.returns-in_err-second_of-clause-refused
+returns-in_err-second_of-clause-refused c =
+    let found = rows_of (found_of c.args.inner.now) in
+    kept_fault c.in_err-second_of.field-0.0 (OnlyMemoryRefuses (AsksFor (Some (codes "verify", rows_of (found_of c.args.inner.now))))) _ c.from_residual-in_err-second_of.ensures.1
+    (part_refused (AsksFor (Some (codes "verify", rows_of (found_of c.args.inner.now)))) (AsksSecond found) c.in_err-second_of.field-0.0 (λ r asked. let parts = verify_parts found r asked in (parts.10, parts.11)) c.in_err-second_of.ensures.refused)

@@ -8,7 +8,8 @@ use Rattle.console.proofs.commands.eval_command.Goals as goal
 pub returns : goal.returns
 returns c =
     let program = c.in_ok-arg.ensures.shape c.program_arg.ensures.local ∙ ap₂ with_rule c.in_ok-shown_command.ensures c.program_arg.ensures.rule in
-    let restart = c.in_ok-command.ensures.shape c.restart_arg.ensures.local ∙ ap₂ with_rule program c.restart_arg.ensures.rule in
+    let second = c.in_ok-arg-2.ensures.shape c.with_file_arg.ensures.local ∙ ap₂ with_rule program c.with_file_arg.ensures.rule in
+    let restart = c.in_ok-command.ensures.shape c.restart_arg.ensures.local ∙ ap₂ with_rule second c.restart_arg.ensures.rule in
     let files = c.in_ok-traced_command.ensures ∙ ap traced restart in
     let flags = c.in_ok-warned_command.ensures ∙ ap warned files in
-    IfOk-weaker c.arg-3.result _ _ (λ new added. added.shape c.words_arg.ensures.local ∙ ap₂ with_rule flags c.words_arg.ensures.rule) c.arg-3.ensures
+    IfOk-weaker c.arg-4.result _ _ (λ new added. added.shape c.words_arg.ensures.local ∙ ap₂ with_rule flags c.words_arg.ensures.rule) c.arg-4.ensures

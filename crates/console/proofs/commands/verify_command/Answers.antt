@@ -7,6 +7,7 @@ use Rattle.console.proofs.commands.verify_command.Goals as goal
 
 pub returns : goal.returns
 returns c =
-    let program = c.in_ok-command.ensures.shape c.program_arg.ensures.local ∙ ap₂ with_rule c.in_ok-claimed_command.ensures c.program_arg.ensures.rule in
-    let flags = c.in_ok-warned_command.ensures ∙ ap warned program in
-    IfOk-weaker c.arg-2.result _ _ (λ new added. added.shape c.words_arg.ensures.local ∙ ap₂ with_rule flags c.words_arg.ensures.rule) c.arg-2.ensures
+    let program = c.in_ok-arg.ensures.shape c.program_arg.ensures.local ∙ ap₂ with_rule c.in_ok-claimed_command.ensures c.program_arg.ensures.rule in
+    let second = c.in_ok-command.ensures.shape c.with_file_arg.ensures.local ∙ ap₂ with_rule program c.with_file_arg.ensures.rule in
+    let flags = c.in_ok-warned_command.ensures ∙ ap warned second in
+    IfOk-weaker c.arg-3.result _ _ (λ new added. added.shape c.words_arg.ensures.local ∙ ap₂ with_rule flags c.words_arg.ensures.rule) c.arg-3.ensures
