@@ -1,7 +1,10 @@
-use Rattle.std.specs.Prelude.{◌≡◌, ℕ, List, Bool, slice_set}
+use Rattle.std.specs.Prelude.{◌≡◌, ℕ, List, Bool, false, slice_get, slice_set}
+use Rattle.std.specs.Option.{option_map_or}
 use Rattle.std_blocks.specs.declared.value.Value.{Value}
+use Rattle.declared_names.specs.Kinds.{kind_of, value_first}
 use Rattle.scan_steps.specs.declared.slot.Slot.{Slot}
-use Rattle.scan_steps.specs.declared.slot.Slot.TheVariants.{Variable}
+use Rattle.scan_steps.specs.declared.slot.Slot.TheVariants.{Variable, Block}
+use Rattle.scan_steps.specs.First.{instance_first}
 
 -- a state: what stands at each declared name, a memory for each element of each network, and how many waiting places
 -- there are
@@ -14,6 +17,21 @@ pub record StateValue : Type 0 where
 -- the state in which the variable at a place has this value
 abbrev pub with_variable : StateValue → ℕ → Value → StateValue
 with_variable s place value = record s { slots = slice_set s.slots place (Variable value) }
+
+-- what stands at a name as it was before the first scan: FALSE, 0 or T#0ms, or a block before its first step
+abbrev pub slot_cleared : Slot → Slot
+slot_cleared (Variable v) = Variable (value_first (kind_of v))
+slot_cleared (Block i) = Block (instance_first i.state.block)
+
+-- the state in which it stands so at a place
+abbrev pub cleared_at : StateValue → ℕ → StateValue
+cleared_at s place = record s {
+  slots = option_map_or (λ x. slice_set s.slots place (slot_cleared x)) (slice_get s.slots place) s.slots;
+}
+
+-- the state in which the memory at a place is OFF
+abbrev pub turned_off_at : StateValue → ℕ → StateValue
+turned_off_at s memory = record s { memories = slice_set s.memories memory false }
 
 -- waiting places do not count where states are compared
 pub record IsSame (a b : StateValue) : Type 0 where
