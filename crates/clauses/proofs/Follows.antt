@@ -1,5 +1,5 @@
 -- What follows from clauses.
-use Rattle.std.proofs.Common.{◌≡◌, ℕ, ◌<◌, Bool, true, false, not, List, [], Option, Some, All, Contains, length, get_or, set, map, ap, ◌∙◌, arith, take, subst, ◌+◌}
+use Rattle.std.proofs.Common.{◌≡◌, ℕ, ◌<◌, Bool, true, false, not, List, [], Option, Some, All, Any, Contains, length, get_or, set, map, ap, ◌∙◌, arith, take, subst, ◌+◌}
 use Rattle.std.proofs.lemmas.List.{get_or-map, length-map}
 use Rattle.std.proofs.lemmas.List.Elements.{All-append, All-contains, All-get_or, All-map, All-more, All-weaker, Contains-append_right}
 use Rattle.std.proofs.lemmas.Bool.{true_from_ne_false}
@@ -9,8 +9,8 @@ use Rattle.clauses.specs.declared.step.Step.{Step}
 use Rattle.clauses.specs.Clauses.{AreFollowing, AreTrue, FollowsFrom, IsUnsatisfiable, clause_value}
 use Rattle.clauses.specs.Steps.Assignments.{AreAgreed}
 use Rattle.clauses.specs.Steps.Following.{clauses_of}
-use Rattle.clauses.specs.Steps.Readings.{AreFalseBut, IsFalse}
-use Rattle.clauses.proofs.Agreeing.{agreed_set, conflict_false, unit_true, variable_of_true}
+use Rattle.clauses.specs.Steps.Readings.{AreFalseBut, IsFalse, IsKnownTrue}
+use Rattle.clauses.proofs.Agreeing.{agreed_set, conflict_false, false_in, unit_true, variable_of_false, variable_of_true}
 
 -- the clause of a step is among the clauses
 pub contains_clause : (formula : List (Vec Literal)) (steps : List Step) (k : ℕ) (s : Step) → k < length steps
@@ -71,3 +71,17 @@ refuted formula steps k s lt is empty all = λ v trues.
     (All-get_or (λ (t : Step). FollowsFrom formula t.clause.items) steps k s lt all) in
     let no : false ≡ true = subst (λ (clause : List Literal). clause_value v clause ≡ true) empty (follows v trues) in
     absurd (cc)
+
+-- no values that agree with what is known make a clause FALSE of which a literal is known to be TRUE
+pub never_false : (v : ℕ → Bool) (values : List (Option Bool)) (clause : List Literal) → Any (IsKnownTrue values) clause
+    → AreAgreed v values → clause_value v clause ≡ false → ⊥
+never_false v values clause any agreed falses =
+    let d : Literal = record { variable = 0; is_negated = false } in
+    let l = get_or clause any.0 d in
+    let here : v l.variable ≡ not l.is_negated = agreed l.variable (not l.is_negated) (any.2 d) in
+    let there : v l.variable ≡ l.is_negated = variable_of_false v l (false_in v clause any.0 d any.1 falses) in
+    not_both l.is_negated (sym there ∙ here)
+  where
+    not_both : (b : Bool) → b ≡ not b → ⊥
+    not_both true e = absurd (cc)
+    not_both false e = absurd (cc)

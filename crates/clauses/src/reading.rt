@@ -1,5 +1,5 @@
-ghost use Rattle.std.specs.Prelude.{◌≡◌, ◌↔◌, IsTrue};
-ghost use Rattle.clauses.specs.Steps.Readings.{IsFalse, IsReading};
+ghost use Rattle.std.specs.Prelude.{◌≡◌, ◌↔◌, IsTrue, Any};
+ghost use Rattle.clauses.specs.Steps.Readings.{IsFalse, IsKnownTrue, IsReading};
 
 use crate::assignment::Assignment;
 use crate::literal::Literal;
@@ -20,6 +20,18 @@ fn is_false(known: &Assignment, literal: Literal) -> bool
     ensures { IsTrue result ↔ IsFalse known.now literal }
 {
     known.value(literal.variable) == Some(literal.is_negated)
+}
+
+/// Whether a literal of a clause is known to be TRUE.
+pub(crate) fn is_any_true(known: &Assignment, clause: &[Literal]) -> bool
+    ensures { IsTrue result → Any (IsKnownTrue known.now) clause.now }
+{
+    for literal in clause {
+        if known.value(literal.variable) == Some(literal.wanted()) {
+            return true;
+        }
+    }
+    false
 }
 
 /// Reads a clause.

@@ -4,7 +4,7 @@ ghost use Rattle.clauses.specs.Steps.Following.{AllButTrue, IsNarrowed, clauses_
 
 use crate::assignment::Assignment;
 use crate::literal::Literal;
-use crate::reading::{Reading, read_clause};
+use crate::reading::{Reading, is_any_true, read_clause};
 use crate::step::Step;
 use std::alloc::{AllocError, Global};
 
@@ -56,7 +56,8 @@ fn leads_to_conflict(
     false
 }
 
-/// Whether the clause of a step follows, by its hints, from the formula and the steps before.
+/// Whether the clause of a step follows, by its hints, from the formula and the steps before. One with a literal and its
+/// negation is always TRUE.
 fn is_followed(
     known: &mut Assignment,
     formula: &[Vec<Literal>],
@@ -69,6 +70,9 @@ fn is_followed(
         return false;
     }
     note_false(known, step.clause.as_slice());
+    if is_any_true(known, step.clause.as_slice()) {
+        return true;
+    }
     leads_to_conflict(known, formula, before, step.hints.as_slice())
 }
 

@@ -9,6 +9,10 @@ use Rattle.clauses.specs.Steps.Assignments.{value_in}
 abbrev pub IsFalse : List (Option Bool) → Literal → Type 0
 IsFalse values l = value_in values l.variable ≡ Some l.is_negated
 
+-- the literal is known to be TRUE
+abbrev pub IsKnownTrue : List (Option Bool) → Literal → Type 0
+IsKnownTrue values l = value_in values l.variable ≡ Some (not l.is_negated)
+
 -- each literal is known to be FALSE, but this one
 abbrev pub AreFalseBut : List (Option Bool) → List Literal → Literal → Type 0
 AreFalseBut values clause unit = All (λ (l : Literal). IsFalse values l ⊎ (l ≡ unit)) clause
