@@ -1,4 +1,4 @@
-use crate::solver::{Notes, Solver, opposite};
+use crate::solver::{Solver, opposite};
 use crate::trail::Reason;
 use clauses::{Literal, Step};
 use std::alloc::AllocError;
@@ -149,7 +149,7 @@ impl Solver {
         }
         literals.extend_from_slice(&analysis.literals)?;
         let level = self.put_last_second(&mut literals);
-        if self.notes == Notes::Kept {
+        if self.keeps_notes() {
             let mut clause = Vec::new(self.alloc);
             clause.extend_from_slice(&literals)?;
             self.note(&analysis, clause, Some(conflict))?;
@@ -313,12 +313,12 @@ impl Solver {
 
     /// The number of the last step.
     pub(crate) fn last_number(&self) -> usize {
-        self.formula.saturating_add(self.steps.len()).saturating_sub(1)
+        self.next_number().saturating_sub(1)
     }
 
     /// Notes the clause of one literal that shows what came to be known at level 0.
     pub(crate) fn note_unit(&mut self, literal: Literal, clause: usize) -> Result<(), AllocError> {
-        if self.notes == Notes::None {
+        if !self.keeps_notes() {
             return Ok(());
         }
         let is_unit = match self.clauses.get(clause) {
@@ -348,8 +348,8 @@ impl Solver {
             return Ok(());
         }
         self.is_refuted = true;
-        self.shown_by = self.formula.saturating_add(self.steps.len());
-        if self.notes == Notes::Kept {
+        self.shown_by = self.next_number();
+        if self.keeps_notes() {
             let mut analysis = self.new_analysis();
             self.meet_units(&mut analysis, clause)?;
             let empty = Vec::new(self.alloc);
@@ -387,7 +387,7 @@ impl Solver {
                 }
             }
         }
-        if self.notes == Notes::Kept {
+        if self.keeps_notes() {
             let mut clause = Vec::new(self.alloc);
             for literal in &core {
                 clause.push(opposite(*literal))?;

@@ -1,5 +1,5 @@
 use crate::outcome::Outcome;
-use crate::solver::{Notes, Solver};
+use crate::solver::Solver;
 use crate::trail::Reason;
 use crate::watching::{Watch, Watched};
 use clauses::Literal;

@@ -7,7 +7,8 @@ use std::alloc::{AllocError, Global};
 /// Whether a solver notes how it comes by what it learns.
 #[derive(Clone, Copy, Debug, PartialEq, Eq)]
 pub enum Notes {
-    Kept,
+    /// In steps behind the formula, which has so many clauses.
+    Behind(usize),
     None,
 }
 
@@ -20,8 +21,8 @@ pub struct Solver {
     pub(crate) trail: Trail,
     pub(crate) decisions: Decisions,
     pub(crate) notes: Notes,
-    /// How many clauses of the formula there are; steps are numbered behind them.
-    pub(crate) formula: usize,
+    /// How many clauses of the formula were added.
+    pub(crate) added: usize,
     pub(crate) steps: Vec<Step>,
     /// The number of the clause of one literal that shows what is known of a variable at level 0.
     pub(crate) units: Vec<Option<usize>>,
@@ -51,7 +52,7 @@ impl Solver {
             trail: Trail::new(alloc),
             decisions: Decisions::new(alloc),
             notes,
-            formula: 0,
+            added: 0,
             steps: Vec::new(alloc),
             units: Vec::new(alloc),
             seen: Vec::new(alloc),
@@ -96,6 +97,19 @@ impl Solver {
         Ok(place)
     }
 
+    /// Whether it notes steps.
+    pub(crate) fn keeps_notes(&self) -> bool {
+        matches!(self.notes, Notes::Behind(_))
+    }
+
+    /// The number of the next step.
+    pub(crate) fn next_number(&self) -> usize {
+        match self.notes {
+            Notes::Behind(formula) => formula.saturating_add(self.steps.len()),
+            Notes::None => 0,
+        }
+    }
+
     /// Forgets all decisions.
     pub fn restart(&mut self) -> Result<(), AllocError> {
         self.go_back(0)
@@ -104,8 +118,8 @@ impl Solver {
     /// Adds a clause of the formula. All decisions are forgotten.
     pub fn add_clause(&mut self, literals: &[Literal]) -> Result<(), AllocError> {
         self.restart()?;
-        let number = self.formula;
-        self.formula = self.formula.saturating_add(1);
+        let number = self.added;
+        self.added = self.added.saturating_add(1);
         let mut clause = Vec::new(self.alloc);
         for literal in literals {
             if self.trail.value(*literal) == Some(true) {

@@ -1,12 +1,12 @@
 -- What follows from clauses.
-use Rattle.std.proofs.Common.{◌≡◌, ℕ, ◌<◌, Bool, true, false, not, List, [], Option, Some, All, Any, Contains, length, get_or, set, map, ap, ◌∙◌, arith, take, subst, ◌+◌}
+use Rattle.std.proofs.Common.{◌≡◌, ℕ, ◌<◌, Bool, true, false, not, List, [], Option, Some, All, Any, Contains, length, get_or, set, map, ap, sym, ◌∙◌, arith, take, subst, ◌+◌}
 use Rattle.std.proofs.lemmas.List.{get_or-map, length-map}
 use Rattle.std.proofs.lemmas.List.Elements.{All-append, All-contains, All-get_or, All-map, All-more, All-weaker, Contains-append_right}
 use Rattle.std.proofs.lemmas.Bool.{true_from_ne_false}
 use Rattle.std.specs.Global.{Vec}
 use Rattle.clauses.specs.declared.literal.Literal.{Literal}
 use Rattle.clauses.specs.declared.step.Step.{Step}
-use Rattle.clauses.specs.Clauses.{AreFollowing, AreTrue, FollowsFrom, IsUnsatisfiable, clause_value}
+use Rattle.clauses.specs.Clauses.{AreFollowing, AreTrue, FollowsFrom, IsUnsatisfiable, clause_value, literal_value}
 use Rattle.clauses.specs.Steps.Assignments.{AreAgreed}
 use Rattle.clauses.specs.Steps.Following.{clauses_of}
 use Rattle.clauses.specs.Steps.Readings.{AreFalseBut, IsFalse, IsKnownTrue}
@@ -76,10 +76,11 @@ refuted formula steps k s lt is empty all = λ v trues.
 pub never_false : (v : ℕ → Bool) (values : List (Option Bool)) (clause : List Literal) → Any (IsKnownTrue values) clause
     → AreAgreed v values → clause_value v clause ≡ false → ⊥
 never_false v values clause any agreed falses =
-    let d : Literal = record { variable = 0; is_negated = false } in
-    let l = get_or clause any.0 d in
-    let here : v l.variable ≡ not l.is_negated = agreed l.variable (not l.is_negated) (any.2 d) in
-    let there : v l.variable ≡ l.is_negated = variable_of_false v l (false_in v clause any.0 d any.1 falses) in
+    let l = any.1 in
+    let here : v l.variable ≡ not l.is_negated = agreed l.variable (not l.is_negated) any.4 in
+    let reads : literal_value v l ≡ false =
+        subst (λ (m : Literal). literal_value v m ≡ false) any.3 (false_in v clause any.0 l any.2 falses) in
+    let there : v l.variable ≡ l.is_negated = variable_of_false v l reads in
     not_both l.is_negated (sym there ∙ here)
   where
     not_both : (b : Bool) → b ≡ not b → ⊥

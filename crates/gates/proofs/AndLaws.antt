@@ -54,6 +54,9 @@ choice_by true false e = refl
 choice_by false t true = refl
 choice_by false t false = refl
 
+pub chosen_by : (c t e x n y : Bool) → x ≡ (c && t) → n ≡ not c → y ≡ (n && e) → (x || y) ≡ cond c t e
+chosen_by c t e x n y p q r = let h = choice_by c t e in cc
+
 -- the three clauses of an AND
 pub and_first : (k l r : Bool) → k ≡ (l && r) → (not k || (l || false)) ≡ true
 and_first true true r e = refl

@@ -1,12 +1,13 @@
 -- Values of variables, by their gates.
-use Rattle.std.proofs.Common.{◌≡◌, ℕ, zero, suc, ◌+◌, ◌-◌, ◌<◌, ◌≤◌, ◌&&◌, Bool, true, false, not, cond, List, Some, length, get_or, refl, ap, sym, ◌∙◌, arith}
-use Rattle.std.proofs.lemmas.Bool.{eq-eqb, ne_eqb}
-use Rattle.std.proofs.lemmas.Option.{get_or_from_slice_get, slice_get_within}
+use Rattle.std.proofs.Common.{◌≡◌, ℕ, zero, suc, ◌+◌, ◌-◌, ◌<◌, ◌≤◌, ◌&&◌, Bool, true, false, not, cond, List, [], ◌∷◌, ◌++◌, Some, length, get_or, refl, ap, sym, ◌∙◌, ◌⊎◌, ⊎_elim, add-one, subst, arith}
+use Rattle.std.proofs.lemmas.Bool.{cases_lt, cases_order, eq-eqb, ne_eqb}
+use Rattle.std.proofs.lemmas.List.{get_or_append_left, get_or_past, get_or_push, length_push}
+use Rattle.std.proofs.lemmas.Option.{get_or_from_slice_get, same_Some, slice_get_within}
 use Rattle.std.specs.Prelude.{slice_get}
 use Rattle.gates.specs.declared.signal.Signal.{Signal}
 use Rattle.gates.specs.declared.gates.Gate.{Gate}
 use Rattle.gates.specs.declared.gates.Gate.TheVariants.{Off, Input, And}
-use Rattle.gates.specs.Signals.{signal_value}
+use Rattle.gates.specs.Signals.{bit_of, signal_value}
 use Rattle.gates.specs.Gates.{Agrees, AreValues, IsBefore, IsGate, IsOrdered}
 use Rattle.gates.specs.Steps.Values.{first_values, own_value}
 
@@ -96,3 +97,48 @@ same_are inputs gates v w same are = record {
         let one = signal_same w v left (same left.variable) in
         let two = signal_same w v right (same right.variable) in
         cc
+
+-- one value more
+pub values_more : (inputs : ℕ → Bool) (gates : List Gate) (values new : List Bool) (i : ℕ) (g : Gate) → i < length gates
+    → get_or gates i Off ≡ g → length values ≡ i → ((k : ℕ) → bit_of values k ≡ first_values inputs gates i k)
+    → new ≡ values ++ own_value inputs (bit_of values) g ∷ [] → (k : ℕ) → bit_of new k ≡ first_values inputs gates (i + 1) k
+values_more inputs gates values new i g lt is long same e k =
+    let own = own_value inputs (bit_of values) g in
+    let pushed : bit_of new k ≡ bit_of (values ++ own ∷ []) k = ap (λ (bits : List Bool). bit_of bits k) e in
+    let next : suc i ≡ i + 1 = sym (add-one i) in
+    let at_next = ap (λ n. first_values inputs gates n k) next in
+    ⊎_elim
+    (λ here.
+        let one : get_or (values ++ own ∷ []) k false ≡ own = get_or_push values own false k (long ∙ sym here) in
+        let two : own ≡ own_value inputs (first_values inputs gates i) g = own_equal inputs (bit_of values) (first_values inputs gates i) g same in
+        let three : own_value inputs (first_values inputs gates i) g ≡ own_value inputs (first_values inputs gates i) (get_or gates i Off) =
+            ap (own_value inputs (first_values inputs gates i)) (sym is) in
+        let four : first_values inputs gates (suc i) k ≡ own_value inputs (first_values inputs gates i) (get_or gates i Off) =
+            ap (first_values inputs gates (suc i)) here ∙ first_last inputs gates i in
+        pushed ∙ one ∙ two ∙ three ∙ sym four ∙ at_next)
+    (⊎_elim
+        (λ before.
+            let ne : k ≡ i → ⊥ = λ e'. omega arith in
+            let one : get_or (values ++ own ∷ []) k false ≡ get_or values k false = get_or_append_left values (own ∷ []) false k (omega arith) in
+            pushed ∙ one ∙ same k ∙ sym (first_other inputs gates i k ne) ∙ at_next)
+        (λ behind.
+            let ne : k ≡ i → ⊥ = λ e'. omega arith in
+            let one : get_or (values ++ own ∷ []) k false ≡ false =
+                get_or_past (values ++ own ∷ []) k false (omega (arith, length_push values own)) in
+            let two : get_or values k false ≡ false = get_or_past values k false (omega arith) in
+            pushed ∙ one ∙ sym two ∙ same k ∙ sym (first_other inputs gates i k ne) ∙ at_next))
+    (cases_order k i)
+
+-- the first gates are ordered, one more
+pub ordered_more : (gates : List Gate) (n : ℕ) (item : Gate) → slice_get gates n ≡ Some item → IsBefore n item
+    → ((k : ℕ) (g : Gate) → k < n → slice_get gates k ≡ Some g → IsBefore k g)
+    → (k : ℕ) (g : Gate) → k < n + 1 → slice_get gates k ≡ Some g → IsBefore k g
+ordered_more gates n item here before below k g lt at =
+    ⊎_elim
+    (λ less. below k g less at)
+    (λ le.
+        let same : n ≡ k = omega arith in
+        let found : Some item ≡ Some g = sym here ∙ ap (slice_get gates) same ∙ at in
+        let is : item ≡ g = same_Some item g found in
+        subst (λ (j : ℕ). IsBefore j g) same (subst (λ (h : Gate). IsBefore n h) is before))
+    (cases_lt k n)

@@ -16,18 +16,18 @@ impl Gates {
         Ok(neither.negated())
     }
 
-    /// A signal that is one where the condition is TRUE, and the other where it isn't.
+    /// A signal that is the first where the condition is TRUE, and the second where it isn't.
     pub fn if_then_else(
         &mut self,
         condition: Signal,
-        then: Signal,
-        other: Signal,
+        first: Signal,
+        second: Signal,
     ) -> Result<Signal, AllocError>
         ensures { IfOk result (λ s. IsBuilt self.old self.new
-            (λ v. signal_value v s ≡ (if signal_value v condition then signal_value v then else signal_value v other))) }
+            (λ v. signal_value v s ≡ (if signal_value v condition then signal_value v first else signal_value v second))) }
     {
-        let chosen = self.and(condition, then)?;
-        let not_chosen = self.and(condition.negated(), other)?;
+        let chosen = self.and(condition, first)?;
+        let not_chosen = self.and(condition.negated(), second)?;
         self.or(chosen, not_chosen)
     }
 

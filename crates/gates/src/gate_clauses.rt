@@ -1,4 +1,4 @@
-ghost use Rattle.std.specs.Prelude.{◌≡◌, ◌&&◌, ℕ, Bool, true, OnOk};
+ghost use Rattle.std.specs.Prelude.{◌≡◌, ◌&&◌, ℕ, Bool, true, false, OnOk};
 ghost use Rattle.clauses.specs.Clauses.{AreTrue, clause_value};
 ghost use Rattle.gates.specs.Signals.{signal_value};
 ghost use Rattle.gates.specs.Gates.{IsGate};
@@ -16,6 +16,15 @@ fn put_clause(clauses: &mut Vec<Vec<Literal>>, clause: Vec<Literal>) -> Result<(
     Ok(())
 }
 
+/// Puts down that a signal is FALSE.
+fn put_off(alloc: Global, clauses: &mut Vec<Vec<Literal>>, itself: Signal) -> Result<(), AllocError>
+    ensures { OnOk result ((v : ℕ → Bool) → signal_value v itself ≡ false → AreTrue v clauses.old.items → AreTrue v clauses.new.items) }
+{
+    let is_not = itself.negated().literal();
+    let clause = vec![in alloc; is_not]?;
+    put_clause(clauses, clause)
+}
+
 /// Puts down that a signal is the AND of two others.
 fn put_and(
     alloc: Global,
@@ -27,12 +36,18 @@ fn put_and(
     ensures { OnOk result ((v : ℕ → Bool) → signal_value v itself ≡ (signal_value v left && signal_value v right)
         → AreTrue v clauses.old.items → AreTrue v clauses.new.items) }
 {
+    let is = itself.literal();
     let is_not = itself.negated().literal();
-    put_clause(clauses, vec![in alloc; is_not, left.literal()]?)?;
-    put_clause(clauses, vec![in alloc; is_not, right.literal()]?)?;
+    let left_is = left.literal();
+    let right_is = right.literal();
     let left_is_not = left.negated().literal();
     let right_is_not = right.negated().literal();
-    put_clause(clauses, vec![in alloc; itself.literal(), left_is_not, right_is_not]?)
+    let needs_left = vec![in alloc; is_not, left_is]?;
+    put_clause(clauses, needs_left)?;
+    let needs_right = vec![in alloc; is_not, right_is]?;
+    put_clause(clauses, needs_right)?;
+    let needs_no_more = vec![in alloc; is, left_is_not, right_is_not]?;
+    put_clause(clauses, needs_no_more)
 }
 
 /// Puts down what the gate of a variable says.
@@ -49,7 +64,7 @@ fn put_gate(
         is_negated: false,
     };
     match gate {
-        Gate::Off => put_clause(clauses, vec![in alloc; itself.negated().literal()]?),
+        Gate::Off => put_off(alloc, clauses, itself),
         Gate::Input(_) => Ok(()),
         Gate::And(left, right) => put_and(alloc, clauses, itself, left, right),
     }

@@ -22,7 +22,8 @@ impl Gates {
         ensures ordered { IsTrue result → IsOrdered self.now }
         ensures values { IsTrue result → HaveValues self.now }
     {
-        for (number, gate) in self.gates().iter().enumerate() {
+        let gates = self.gates();
+        for (number, gate) in gates.iter().enumerate() {
             if !is_before(*gate, number) {
                 return false;
             }

@@ -1,6 +1,5 @@
 -- What a transition system does.
-use Rattle.std.specs.Prelude.{◌≡◌, ℕ, ◌⊎◌, ⊤, List, [], ◌∷◌, Bool, true, false, length, map}
-use Rattle.std.specs.Global.{Vec}
+use Rattle.std.specs.Prelude.{◌≡◌, ℕ, ⊤, List, [], ◌∷◌, Bool, true, false, length, map}
 use Rattle.gates.specs.declared.signal.Signal.{Signal}
 use Rattle.gates.specs.Signals.{signal_value}
 use Rattle.gates.specs.Gates.{Agrees}
@@ -25,16 +24,6 @@ NeverBadFrom t state (row ∷ rows) = (v : ℕ → Bool) → AreValuesAt t state
 -- so it is from the first state on, whatever the rows are
 abbrev pub NeverBad : TransitionSystem → Type 0
 NeverBad t = (rows : List (List Bool)) → NeverBadFrom t t.first.items rows
-
--- from this state on the rows keep the constraint until one is bad
-abbrev pub ReachesBadFrom : TransitionSystem → List Bool → List (List Bool) → Type 0
-ReachesBadFrom t state [] = ⊥
-ReachesBadFrom t state (row ∷ rows) = (v : ℕ → Bool) × AreValuesAt t state row v × (signal_value v t.constraint ≡ true)
-    × ((signal_value v t.bad ≡ true) ⊎ ReachesBadFrom t (bits_at v t.next.items) rows)
-
--- so it is from the first state on
-abbrev pub ReachesBad : TransitionSystem → List (List Bool) → Type 0
-ReachesBad t rows = ReachesBadFrom t t.first.items rows
 
 -- the system goes on from each state under each row
 pub record IsWhole (t : TransitionSystem) : Type 0 where

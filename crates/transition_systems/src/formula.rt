@@ -37,7 +37,8 @@ pub fn formula_of(
 {
     let mut formula = system.gates.clauses(alloc)?;
     put_over(alloc, &mut formula, &system.state, clauses)?;
-    let given = vec![in alloc; system.constraint.literal()]?;
+    let is_kept = system.constraint.literal();
+    let given = vec![in alloc; is_kept]?;
     formula.push(given)?;
     Ok(formula)
 }

@@ -51,7 +51,8 @@ pub(crate) fn check_safe(
 ) -> Result<(), CertificateFault>
     ensures { OnOk result (IsShownFalse steps.now bad) }
 {
-    let not_bad = vec![in alloc; bad.negated().literal()]?;
+    let is_not = bad.negated().literal();
+    let not_bad = vec![in alloc; is_not]?;
     if is_shown(steps, safe, &not_bad) {
         Ok(())
     } else {

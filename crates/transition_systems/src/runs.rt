@@ -1,7 +1,6 @@
-ghost use Rattle.std.specs.Prelude.{◌≡◌, ℕ, Bool, IsTrue, IfOk, map};
-ghost use Rattle.std.specs.Global.{Vec};
+ghost use Rattle.std.specs.Prelude.{◌≡◌, IfOk};
 ghost use Rattle.gates.specs.Signals.{bit_of};
-ghost use Rattle.transition_systems.specs.Systems.{AreValuesAt, IsWhole, ReachesBad, bits_at};
+ghost use Rattle.transition_systems.specs.Systems.{bits_at};
 
 use crate::system::TransitionSystem;
 use gates::{Signal, value_in};

@@ -34,11 +34,19 @@ fn are_inputs(gates: &[Gate], from: usize, signals: &[Signal]) -> bool
 pub fn is_whole(system: &TransitionSystem) -> bool
     ensures { IsTrue result → IsWhole system.now }
 {
-    if system.first.len() != system.state.len() || system.next.len() != system.state.len() {
+    let count = system.state.len();
+    if system.first.len() != count {
+        return false;
+    }
+    if system.next.len() != count {
+        return false;
+    }
+    if !system.gates.is_ordered() {
         return false;
     }
     let gates = system.gates.gates();
-    system.gates.is_ordered()
-        && are_inputs(gates, 0, &system.state)
-        && are_inputs(gates, system.state.len(), &system.inputs)
+    if !are_inputs(gates, 0, &system.state) {
+        return false;
+    }
+    are_inputs(gates, count, &system.inputs)
 }

@@ -1,5 +1,5 @@
 -- What a clause tells where something is known of variables.
-use Rattle.std.specs.Prelude.{◌≡◌, ◌⊎◌, ⊤, List, Bool, All, Option, Some}
+use Rattle.std.specs.Prelude.{◌≡◌, ◌⊎◌, ⊤, List, Bool, All, not, Option, Some}
 use Rattle.clauses.specs.declared.literal.Literal.{Literal}
 use Rattle.clauses.specs.declared.reading.Reading.{Reading}
 use Rattle.clauses.specs.declared.reading.Reading.TheVariants.{Conflict, Unit, Open}

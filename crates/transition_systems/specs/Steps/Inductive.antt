@@ -1,9 +1,9 @@
 -- Clauses that hold of each state.
-use Rattle.std.specs.Prelude.{◌≡◌, ℕ, List, [], ◌∷◌, Bool, true, false}
+use Rattle.std.specs.Prelude.{◌≡◌, ℕ, List, Bool, true, false}
 use Rattle.std.specs.Global.{Vec}
 use Rattle.clauses.specs.declared.literal.Literal.{Literal}
 use Rattle.clauses.specs.declared.step.Step.{Step}
-use Rattle.clauses.specs.Clauses.{AreFollowing, AreTrue, FollowsFrom, clause_value}
+use Rattle.clauses.specs.Clauses.{AreFollowing, AreTrue}
 use Rattle.gates.specs.declared.signal.Signal.{Signal}
 use Rattle.gates.specs.Signals.{bit_of, signal_value}
 use Rattle.gates.specs.Gates.{Agrees}

@@ -5,4 +5,4 @@ use Rattle.gates.specs.Gates.{IsBefore}
 use Rattle.gates.proofs.gates.Gates.is_ordered.Given as goal
 
 abbrev pub invariant-loop-number : goal.invariant-loop-number
-invariant-loop-number l = (k : ℕ) (g : Gate) → k < l.number → slice_get l.self k ≡ Some g → IsBefore k g
+invariant-loop-number l = (k : ℕ) (g : Gate) → k < l.number → slice_get l.gates k ≡ Some g → IsBefore k g
