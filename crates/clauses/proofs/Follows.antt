@@ -79,7 +79,7 @@ never_false v values clause any agreed falses =
     let l = any.1 in
     let here : v l.variable ≡ not l.is_negated = agreed l.variable (not l.is_negated) any.4 in
     let reads : literal_value v l ≡ false =
-        subst (λ (m : Literal). literal_value v m ≡ false) any.3 (false_in v clause any.0 l any.2 falses) in
+    subst (λ (m : Literal). literal_value v m ≡ false) any.3 (false_in v clause any.0 l any.2 falses) in
     let there : v l.variable ≡ l.is_negated = variable_of_false v l reads in
     not_both l.is_negated (sym there ∙ here)
   where

@@ -1,6 +1,7 @@
 -- Clauses over bits, and over the signals of bits.
 use Rattle.std.proofs.Common.{◌≡◌, ℕ, ◌+◌, ◌<◌, ◌||◌, Bool, true, false, not, cond, List, [], ◌∷◌, ◌++◌, length, get_or, take, map, refl, ap, sym, ◌∙◌, zero, suc, arith}
 use Rattle.std.proofs.lemmas.List.{get_or-map, take_more}
+use Rattle.std.proofs.lemmas.Bool.{or_from}
 use Rattle.clauses.specs.declared.literal.Literal.{Literal}
 use Rattle.clauses.specs.Clauses.{clause_value, literal_value}
 use Rattle.gates.specs.declared.signal.Signal.{Signal}
@@ -53,3 +54,14 @@ true_at v (l ∷ clause) (suc k) d lt e = ap (λ b. literal_value v l || b) (tru
     or_true : (a : Bool) → (a || true) ≡ true
     or_true true = refl
     or_true false = refl
+
+-- no literal so far is TRUE, nor the next one
+pub false_more : (v : ℕ → Bool) (clause : List Literal) (i : ℕ) (d : Literal) → i < length clause → clause_value v (take i clause) ≡ false
+    → literal_value v (get_or clause i d) ≡ false → clause_value v (take (i + 1) clause) ≡ false
+false_more v clause i d lt so_far next =
+    clause_more v clause i d lt ∙ or_from (clause_value v (take i clause)) (literal_value v (get_or clause i d)) so_far next
+
+-- what is TRUE where its negation isn't
+pub false_of_not : (a : Bool) → (not a || false) ≡ true → a ≡ false
+false_of_not true h = absurd (cc)
+false_of_not false h = refl

@@ -1,7 +1,9 @@
 -- Values of inputs.
-use Rattle.std.proofs.Common.{◌≡◌, ℕ, ◌+◌, ◌<◌, ◌≤◌, Bool, false, not, cond, List, ◌++◌, Some, length, get_or, map, ap, sym, ◌∙◌, arith, get_or-append-add}
-use Rattle.std.proofs.lemmas.List.{ext_get_or, get_or-map, get_or_append_left, length-map}
-use Rattle.std.proofs.lemmas.Option.{slice_get-get_or}
+use Rattle.std.proofs.Common.{◌≡◌, ℕ, ◌+◌, ◌<◌, ◌≤◌, Bool, false, not, cond, List, ◌++◌, Some, length, get_or, map, ap, sym, ◌∙◌, arith, subst, ⊎_elim}
+use Rattle.std.proofs.lemmas.List.{ext_get_or, get_or-append-add, get_or-map, get_or_append_left, length-map}
+use Rattle.std.proofs.lemmas.Option.{same_Some, slice_get-get_or}
+use Rattle.std.proofs.lemmas.Bool.{cases_lt}
+use Rattle.std.specs.Prelude.{slice_get}
 use Rattle.gates.specs.declared.signal.Signal.{Signal}
 use Rattle.gates.specs.declared.gates.Gate.{Gate}
 use Rattle.gates.specs.Signals.{bit_of, signal_value}
@@ -45,3 +47,18 @@ whole t first next have states inputs = record {
         (λ k lt. ap (λ n. bit_of (state ++ row) (n + k)) (sym state_long) ∙ get_or-append-add state row k false)
     })
 }
+
+-- one input more
+pub inputs_more : (gates : List Gate) (from : ℕ) (signals : List Signal) (i number : ℕ) (item : Signal) → slice_get signals i ≡ Some item
+    → number ≡ from + i → IsInput gates number item
+    → ((k : ℕ) (s : Signal) → k < i → slice_get signals k ≡ Some s → IsInput gates (from + k) s)
+    → (k : ℕ) (s : Signal) → k < i + 1 → slice_get signals k ≡ Some s → IsInput gates (from + k) s
+inputs_more gates from signals i number item here e is below k s lt at =
+    ⊎_elim
+    (λ less. below k s less at)
+    (λ le.
+        let same : i ≡ k = omega arith in
+        let found : item ≡ s = same_Some item s (sym here ∙ ap (slice_get signals) same ∙ at) in
+        let number_is : number ≡ from + k = e ∙ ap (λ n. from + n) same in
+        subst (λ (n : ℕ). IsInput gates n s) number_is (subst (λ (m : Signal). IsInput gates number m) found is))
+    (cases_lt k i)
