@@ -1,8 +1,6 @@
 -- Gates that are added to.
-use Rattle.std.proofs.Common.{◌≡◌, ℕ, zero, suc, Bool, true, false, cond, List, [], ◌∷◌, ◌++◌, Some, refl, subst, sym}
-use Rattle.std.specs.List.{list_any}
+use Rattle.std.proofs.Common.{◌≡◌, ℕ, zero, suc, Bool, true, false, cond, List, [], ◌∷◌, ◌++◌, Some, subst, sym}
 use Rattle.std.specs.Prelude.{slice_get}
-use Rattle.indexmap.specs.IndexSet.{insert_key}
 use Rattle.gates.specs.declared.gates.Gate.{Gate}
 use Rattle.gates.specs.Gates.{Agrees}
 
@@ -17,13 +15,8 @@ get_if : (b : Bool) (gates : List Gate) (m : Gate) (k : ℕ) (g : Gate) → slic
 get_if true gates m k g at = at
 get_if false gates m k g at = get_left gates m k g at
 
--- a gate that is put leaves the others where they are
-pub get_put : (eq : Gate → Gate → Bool) (gates new : List Gate) (m : Gate) → new ≡ insert_key eq gates m → (k : ℕ) (g : Gate)
-    → slice_get gates k ≡ Some g → slice_get new k ≡ Some g
-get_put eq gates new m e k g at =
-    subst (λ (gs : List Gate). slice_get gs k ≡ Some g) (sym e) (get_if (list_any (eq m) gates) gates m k g at)
-
--- so what agrees with the gates now agreed with those before
-pub agrees_put : (eq : Gate → Gate → Bool) (gates new : List Gate) (m : Gate) → new ≡ insert_key eq gates m → (v : ℕ → Bool)
+-- a gate that is put leaves the others where they are, so what agrees with the gates now agreed with those before
+pub agrees_put : (b : Bool) (gates new : List Gate) (m : Gate) → new ≡ cond b gates (gates ++ m ∷ []) → (v : ℕ → Bool)
     → Agrees v new → Agrees v gates
-agrees_put eq gates new m e v agrees k g at = agrees k g (get_put eq gates new m e k g at)
+agrees_put b gates new m e v agrees k g at =
+    agrees k g (subst (λ (gs : List Gate). slice_get gs k ≡ Some g) (sym e) (get_if b gates m k g at))
