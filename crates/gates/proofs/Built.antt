@@ -3,7 +3,7 @@ use Rattle.std.proofs.Common.{◌≡◌, ◌&&◌, ◌||◌, ℕ, Bool, not, con
 use Rattle.gates.specs.declared.signal.Signal.{Signal}
 use Rattle.gates.specs.declared.gates.Gate.{Gate}
 use Rattle.gates.specs.Signals.{signal_value}
-use Rattle.gates.specs.Gates.{Agrees, IsBuilt, IsGate}
+use Rattle.gates.specs.Gates.{IsBuilt, IsGate}
 use Rattle.gates.proofs.AndLaws.{chosen_by}
 
 -- a choice
@@ -17,9 +17,11 @@ pub choice_built : {E : Type 0} (old mid late new : List Gate) (condition first 
 choice_built old mid late new condition first second chosen not_condition not_chosen one opposite two (Ok s) built = λ v agrees.
     let third = built v agrees in
     let other = two v third.0 in
-    let begun = one v other.0 in
-    (begun.0, third.1 ∙ chosen_by (signal_value v condition) (signal_value v first) (signal_value v second) (signal_value v chosen)
-        (signal_value v not_condition) (signal_value v not_chosen) begun.1 (opposite v) other.1)
+    let begun = one v other.0 in (
+      begun.0,
+      third.1 ∙ chosen_by (signal_value v condition) (signal_value v first) (signal_value v second) (signal_value v chosen)
+          (signal_value v not_condition) (signal_value v not_chosen) begun.1 (opposite v) other.1,
+    )
 choice_built old mid late new condition first second chosen not_condition not_chosen one opposite two (Err e) built = tt
 
 -- the same with another value at the first place, or at the second

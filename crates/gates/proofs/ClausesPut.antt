@@ -1,5 +1,5 @@
 -- Clauses that are put down.
-use Rattle.std.proofs.Common.{◌≡◌, ◌&&◌, ◌||◌, ℕ, Bool, true, false, not, List, [], ◌∷◌, Result, Ok, Err, OnOk, ap, ◌∙◌}
+use Rattle.std.proofs.Common.{◌≡◌, ◌||◌, ℕ, Bool, true, false, List, [], ◌∷◌, Result, Ok, Err, OnOk, ap, ◌∙◌}
 use Rattle.std.specs.Global.{Vec}
 use Rattle.clauses.specs.declared.literal.Literal.{Literal}
 use Rattle.clauses.specs.Clauses.{AreTrue, clause_value, literal_value}

@@ -1,5 +1,5 @@
 -- Values of variables, by their gates.
-use Rattle.std.proofs.Common.{◌≡◌, ℕ, zero, suc, ◌+◌, ◌-◌, ◌<◌, ◌≤◌, ◌&&◌, Bool, true, false, not, cond, List, [], ◌∷◌, ◌++◌, Some, length, get_or, refl, ap, sym, ◌∙◌, ◌⊎◌, ⊎_elim, add-one, subst, arith}
+use Rattle.std.proofs.Common.{◌≡◌, ℕ, zero, suc, ◌+◌, ◌-◌, ◌<◌, ◌≤◌, Bool, false, not, cond, List, [], ◌∷◌, ◌++◌, Some, length, get_or, refl, ap, sym, ◌∙◌, ⊎_elim, add-one, subst, arith}
 use Rattle.std.proofs.lemmas.Bool.{cases_lt, cases_order, eq-eqb, ne_eqb}
 use Rattle.std.proofs.lemmas.List.{get_or_append_left, get_or_past, get_or_push, length_push}
 use Rattle.std.proofs.lemmas.Option.{get_or_from_slice_get, same_Some, slice_get_within}
@@ -8,7 +8,7 @@ use Rattle.gates.specs.declared.signal.Signal.{Signal}
 use Rattle.gates.specs.declared.gates.Gate.{Gate}
 use Rattle.gates.specs.declared.gates.Gate.TheVariants.{Off, Input, And}
 use Rattle.gates.specs.Signals.{bit_of, signal_value}
-use Rattle.gates.specs.Gates.{Agrees, AreValues, IsBefore, IsGate, IsOrdered}
+use Rattle.gates.specs.Gates.{AreValues, IsBefore, IsGate, IsOrdered}
 use Rattle.gates.specs.Steps.Values.{first_values, own_value}
 
 -- a signal under values that agree at its variable
@@ -73,21 +73,21 @@ own_of_first inputs gates k g at before =
     let lt : k < length gates = slice_get_within gates k g at in
     let is : get_or gates k Off ≡ g = get_or_from_slice_get gates k g Off at in
     let same : own_value inputs (first_values inputs gates k) g ≡ own_value inputs (first_values inputs gates all) g =
-        own_same inputs (first_values inputs gates k) (first_values inputs gates all) g k before (λ j less. first_is inputs gates k all j less (omega arith)) in
+    own_same inputs (first_values inputs gates k) (first_values inputs gates all) g k before (λ j less. first_is inputs gates k all j less (omega arith)) in
     sym (first_is inputs gates (suc k) all k (omega arith) (omega arith)) ∙ first_last inputs gates k
     ∙ ap (own_value inputs (first_values inputs gates k)) is ∙ same
 
 pub first_are : (inputs : ℕ → Bool) (gates : List Gate) → IsOrdered gates → AreValues inputs gates (first_values inputs gates (length gates))
 first_are inputs gates ordered = record {
   agree = λ k g at. own_is_gate inputs (first_values inputs gates (length gates)) g _ (own_of_first inputs gates k g at (ordered k g at));
-  given = λ k number at. own_of_first inputs gates k (Input number) at tt
+  given = λ k number at. own_of_first inputs gates k (Input number) at tt;
 }
 
 -- values that are the same are values too
 pub same_are : (inputs : ℕ → Bool) (gates : List Gate) (v w : ℕ → Bool) → ((k : ℕ) → w k ≡ v k) → AreValues inputs gates v → AreValues inputs gates w
 same_are inputs gates v w same are = record {
   agree = λ k g at. gate_same v w same g (v k) (w k) (same k) (are.agree k g at);
-  given = λ k number at. same k ∙ are.given k number at
+  given = λ k number at. same k ∙ are.given k number at;
 }
   where
     gate_same : (v w : ℕ → Bool) → ((k : ℕ) → w k ≡ v k) → (g : Gate) (a b : Bool) → b ≡ a → IsGate a v g → IsGate b w g
@@ -109,24 +109,24 @@ values_more inputs gates values new i g lt is long same e k =
     let at_next = ap (λ n. first_values inputs gates n k) next in
     ⊎_elim
     (λ here.
-        let one : get_or (values ++ own ∷ []) k false ≡ own = get_or_push values own false k (long ∙ sym here) in
-        let two : own ≡ own_value inputs (first_values inputs gates i) g = own_equal inputs (bit_of values) (first_values inputs gates i) g same in
-        let three : own_value inputs (first_values inputs gates i) g ≡ own_value inputs (first_values inputs gates i) (get_or gates i Off) =
-            ap (own_value inputs (first_values inputs gates i)) (sym is) in
-        let four : first_values inputs gates (suc i) k ≡ own_value inputs (first_values inputs gates i) (get_or gates i Off) =
-            ap (first_values inputs gates (suc i)) here ∙ first_last inputs gates i in
-        pushed ∙ one ∙ two ∙ three ∙ sym four ∙ at_next)
+    let one : get_or (values ++ own ∷ []) k false ≡ own = get_or_push values own false k (long ∙ sym here) in
+    let two : own ≡ own_value inputs (first_values inputs gates i) g = own_equal inputs (bit_of values) (first_values inputs gates i) g same in
+    let three : own_value inputs (first_values inputs gates i) g ≡ own_value inputs (first_values inputs gates i) (get_or gates i Off) =
+    ap (own_value inputs (first_values inputs gates i)) (sym is) in
+    let four : first_values inputs gates (suc i) k ≡ own_value inputs (first_values inputs gates i) (get_or gates i Off) =
+    ap (first_values inputs gates (suc i)) here ∙ first_last inputs gates i in
+    pushed ∙ one ∙ two ∙ three ∙ sym four ∙ at_next)
     (⊎_elim
-        (λ before.
-            let ne : k ≡ i → ⊥ = λ e'. omega arith in
-            let one : get_or (values ++ own ∷ []) k false ≡ get_or values k false = get_or_append_left values (own ∷ []) false k (omega arith) in
-            pushed ∙ one ∙ same k ∙ sym (first_other inputs gates i k ne) ∙ at_next)
-        (λ behind.
-            let ne : k ≡ i → ⊥ = λ e'. omega arith in
-            let one : get_or (values ++ own ∷ []) k false ≡ false =
-                get_or_past (values ++ own ∷ []) k false (omega (arith, length_push values own)) in
-            let two : get_or values k false ≡ false = get_or_past values k false (omega arith) in
-            pushed ∙ one ∙ sym two ∙ same k ∙ sym (first_other inputs gates i k ne) ∙ at_next))
+    (λ before.
+    let ne : k ≡ i → ⊥ = λ e'. omega arith in
+    let one : get_or (values ++ own ∷ []) k false ≡ get_or values k false = get_or_append_left values (own ∷ []) false k (omega arith) in
+    pushed ∙ one ∙ same k ∙ sym (first_other inputs gates i k ne) ∙ at_next)
+    (λ behind.
+    let ne : k ≡ i → ⊥ = λ e'. omega arith in
+    let one : get_or (values ++ own ∷ []) k false ≡ false =
+    get_or_past (values ++ own ∷ []) k false (omega (arith, length_push values own)) in
+    let two : get_or values k false ≡ false = get_or_past values k false (omega arith) in
+    pushed ∙ one ∙ sym two ∙ same k ∙ sym (first_other inputs gates i k ne) ∙ at_next))
     (cases_order k i)
 
 -- the first gates are ordered, one more
@@ -137,8 +137,8 @@ ordered_more gates n item here before below k g lt at =
     ⊎_elim
     (λ less. below k g less at)
     (λ le.
-        let same : n ≡ k = omega arith in
-        let found : Some item ≡ Some g = sym here ∙ ap (slice_get gates) same ∙ at in
-        let is : item ≡ g = same_Some item g found in
-        subst (λ (j : ℕ). IsBefore j g) same (subst (λ (h : Gate). IsBefore n h) is before))
+    let same : n ≡ k = omega arith in
+    let found : Some item ≡ Some g = sym here ∙ ap (slice_get gates) same ∙ at in
+    let is : item ≡ g = same_Some item g found in
+    subst (λ (j : ℕ). IsBefore j g) same (subst (λ (h : Gate). IsBefore n h) is before))
     (cases_lt k n)

@@ -1,6 +1,5 @@
 -- What gates say of variables.
 use Rattle.std.specs.Prelude.{◌≡◌, ℕ, ◌<◌, ◌&&◌, List, Bool, false, Some, slice_get}
-use Rattle.gates.specs.declared.signal.Signal.{Signal}
 use Rattle.gates.specs.declared.gates.Gate.{Gate}
 use Rattle.gates.specs.declared.gates.Gate.TheVariants.{Off, Input, And}
 use Rattle.gates.specs.Signals.{signal_value}

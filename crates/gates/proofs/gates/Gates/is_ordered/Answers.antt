@@ -15,11 +15,11 @@ loop-number-preserved c =
 pub returns : goal.returns
 returns c =
     let ordered : IsOrdered c.args.self.now = λ k g at.
-        let here : slice_get c.gates-gates.result.now k ≡ Some g = rw c.gates-gates.ensures at in
-        let within = slice_get_within c.gates-gates.result.now k g here in
-        c.loop-number.invariant k g (omega arith) here
+    let here : slice_get c.gates-gates.result.now k ≡ Some g = rw c.gates-gates.ensures at in
+    let within = slice_get_within c.gates-gates.result.now k g here in
+    c.loop-number.invariant k g (omega arith) here
     in
     record {
       ordered = λ _. ordered;
-      values = λ _ inputs. (first_values inputs c.args.self.now (length c.args.self.now), first_are inputs c.args.self.now ordered)
+      values = λ _ inputs. (first_values inputs c.args.self.now (length c.args.self.now), first_are inputs c.args.self.now ordered);
     }
