@@ -19,7 +19,7 @@ over_value v signals literal l s negated lt is sign e =
     e ∙ ap (λ b. cond negated (not b) b) (sym bit)
     ∙ ap (λ n. cond n (not (bit_of (bits_at v signals) literal.variable)) (bit_of (bits_at v signals) literal.variable)) (sym sign)
 
-or_false : (a : Bool) → (a || false) ≡ a
+pub or_false : (a : Bool) → (a || false) ≡ a
 or_false true = refl
 or_false false = refl
 

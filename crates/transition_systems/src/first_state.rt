@@ -30,7 +30,7 @@ pub(crate) fn hold_of(clauses: &[Vec<Literal>], state: &[bool]) -> bool
     ensures { IsTrue result → HoldOf clauses.now state.now }
 {
     for clause in clauses {
-        if !is_clause_on(state, clause) {
+        if !is_clause_on(state, clause.as_slice()) {
             return false;
         }
     }

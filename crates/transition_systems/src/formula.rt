@@ -4,7 +4,7 @@ ghost use Rattle.transition_systems.specs.Systems.{bits_at};
 ghost use Rattle.transition_systems.specs.Steps.Inductive.{HoldOf, IsFormula};
 
 use crate::certificate_fault::CertificateFault;
-use crate::over_signals::clause_over;
+use crate::over_signals::{clause_of, clause_over, put_clause};
 use crate::system::TransitionSystem;
 use clauses::Literal;
 use gates::Signal;
@@ -20,8 +20,8 @@ fn put_over(
     ensures { OnOk result ((v : ℕ → Bool) → HoldOf clauses.now (bits_at v signals.now) → AreTrue v formula.old.items → AreTrue v formula.new.items) }
 {
     for clause in clauses {
-        let over = clause_over(alloc, signals, clause)?;
-        formula.push(over)?;
+        let over = clause_over(alloc, signals, clause.as_slice())?;
+        put_clause(formula, over)?;
     }
     Ok(())
 }
@@ -37,8 +37,7 @@ pub fn formula_of(
 {
     let mut formula = system.gates.clauses(alloc)?;
     put_over(alloc, &mut formula, &system.state, clauses)?;
-    let is_kept = system.constraint.literal();
-    let given = vec![in alloc; is_kept]?;
-    formula.push(given)?;
+    let given = clause_of(alloc, system.constraint)?;
+    put_clause(&mut formula, given)?;
     Ok(formula)
 }

@@ -5,19 +5,19 @@ ghost use Rattle.clauses.specs.Clauses.{AreFollowing, FollowsFrom};
 ghost use Rattle.transition_systems.specs.Steps.Inductive.{AreShown, IsShownFalse};
 
 use crate::certificate_fault::CertificateFault;
-use crate::over_signals::clause_over;
+use crate::over_signals::{clause_of, clause_over};
 use clauses::{Literal, Step};
 use gates::Signal;
-use std::alloc::{AllocError, Global};
+use std::alloc::Global;
 
 /// Whether a step's clause is this one.
 fn is_shown(steps: &[Step], number: usize, clause: &[Literal]) -> bool
     ensures { IsTrue result → (formula : List (Vec LiteralValue)) → AreFollowing formula steps.now → FollowsFrom formula clause.now }
 {
-    match steps.get(number) {
-        Some(step) => step.clause.as_slice() == clause,
-        None => false,
-    }
+    let Some(step) = steps.get(number) else {
+        return false;
+    };
+    step.clause.as_slice() == clause
 }
 
 /// Whether steps show that the clauses hold of the signals that the state bits become.
@@ -34,8 +34,8 @@ pub(crate) fn check_kept(
         let Some(number) = kept.get(place) else {
             return Err(CertificateFault::NotKept);
         };
-        let over = clause_over(alloc, next, clause)?;
-        if !is_shown(steps, *number, &over) {
+        let over = clause_over(alloc, next, clause.as_slice())?;
+        if !is_shown(steps, *number, over.as_slice()) {
             return Err(CertificateFault::NotKept);
         }
     }
@@ -51,9 +51,8 @@ pub(crate) fn check_safe(
 ) -> Result<(), CertificateFault>
     ensures { OnOk result (IsShownFalse steps.now bad) }
 {
-    let is_not = bad.negated().literal();
-    let not_bad = vec![in alloc; is_not]?;
-    if is_shown(steps, safe, &not_bad) {
+    let not_bad = clause_of(alloc, bad.negated())?;
+    if is_shown(steps, safe, not_bad.as_slice()) {
         Ok(())
     } else {
         Err(CertificateFault::NotSafe)

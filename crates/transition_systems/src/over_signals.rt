@@ -1,12 +1,40 @@
-ghost use Rattle.std.specs.Prelude.{◌≡◌, ℕ, Bool, IfOk, IfSome};
-ghost use Rattle.clauses.specs.Clauses.{clause_value, literal_value};
-ghost use Rattle.gates.specs.Signals.{bit_of};
+ghost use Rattle.std.specs.Prelude.{◌≡◌, ◌++◌, [], ◌∷◌, ℕ, Bool, true, IfOk, IfSome, OnOk};
+ghost use Rattle.clauses.specs.Clauses.{AreTrue, clause_value, literal_value};
+ghost use Rattle.gates.specs.Signals.{bit_of, signal_value};
 ghost use Rattle.transition_systems.specs.Systems.{bits_at};
 
 use crate::certificate_fault::CertificateFault;
 use clauses::Literal;
 use gates::Signal;
-use std::alloc::Global;
+use std::alloc::{AllocError, Global};
+
+/// The clause of one signal.
+pub(crate) fn clause_of(alloc: Global, signal: Signal) -> Result<Vec<Literal>, AllocError>
+    ensures { IfOk result (λ clause. (v : ℕ → Bool) → clause_value v clause.items ≡ signal_value v signal) }
+{
+    let is = signal.literal();
+    let clause = vec![in alloc; is]?;
+    Ok(clause)
+}
+
+/// Puts a clause at the end.
+pub(crate) fn put_clause(
+    formula: &mut Vec<Vec<Literal>>,
+    clause: Vec<Literal>,
+) -> Result<(), AllocError>
+    ensures { OnOk result ((v : ℕ → Bool) → clause_value v clause.items ≡ true → AreTrue v formula.old.items → AreTrue v formula.new.items) }
+{
+    formula.push(clause)?;
+    Ok(())
+}
+
+/// Puts a literal at the end.
+fn put_literal(clause: &mut Vec<Literal>, literal: Literal) -> Result<(), AllocError>
+    ensures { OnOk result (clause.new.items ≡ clause.old.items ++ literal ∷ []) }
+{
+    clause.push(literal)?;
+    Ok(())
+}
 
 /// The literal of the signal of a bit.
 fn literal_over(signals: &[Signal], literal: Literal) -> Option<Literal>
@@ -34,7 +62,7 @@ pub fn clause_over(
         let Some(found) = literal_over(signals, *literal) else {
             return Err(CertificateFault::NoSuchBit);
         };
-        over.push(found)?;
+        put_literal(&mut over, found)?;
     }
     Ok(over)
 }

@@ -12,7 +12,8 @@ fn bits_of(alloc: Global, values: &[bool], signals: &[Signal]) -> Result<Vec<boo
 {
     let mut bits = Vec::new(alloc);
     for signal in signals {
-        bits.push(value_in(values, *signal))?;
+        let bit = value_in(values, *signal);
+        bits.push(bit)?;
     }
     Ok(bits)
 }
