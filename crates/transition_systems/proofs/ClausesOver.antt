@@ -1,5 +1,5 @@
 -- Clauses over bits, and over the signals of bits.
-use Rattle.std.proofs.Common.{◌≡◌, ℕ, ◌+◌, ◌<◌, ◌||◌, Bool, true, false, not, cond, List, [], ◌∷◌, ◌++◌, length, get_or, take, map, refl, ap, sym, ◌∙◌, zero, suc, arith}
+use Rattle.std.proofs.Common.{◌≡◌, ℕ, ◌+◌, ◌<◌, ◌||◌, Bool, true, false, not, cond, List, [], ◌∷◌, ◌++◌, length, get_or, take, refl, ap, sym, ◌∙◌, zero, suc, arith}
 use Rattle.std.proofs.lemmas.List.{get_or-map, take_more}
 use Rattle.std.proofs.lemmas.Bool.{or_from}
 use Rattle.clauses.specs.declared.literal.Literal.{Literal}
@@ -15,7 +15,7 @@ pub over_value : (v : ℕ → Bool) (signals : List Signal) (literal l : Literal
     → literal_value v l ≡ literal_value (bit_of (bits_at v signals)) literal
 over_value v signals literal l s negated lt is sign e =
     let bit : bit_of (bits_at v signals) literal.variable ≡ signal_value v s =
-        get_or-map (signal_value v) signals literal.variable s false lt ∙ ap (signal_value v) (sym is) in
+    get_or-map (signal_value v) signals literal.variable s false lt ∙ ap (signal_value v) (sym is) in
     e ∙ ap (λ b. cond negated (not b) b) (sym bit)
     ∙ ap (λ n. cond n (not (bit_of (bits_at v signals) literal.variable)) (bit_of (bits_at v signals) literal.variable)) (sym sign)
 

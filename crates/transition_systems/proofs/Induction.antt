@@ -1,5 +1,5 @@
 -- A certificate holds for ever.
-use Rattle.std.proofs.Common.{◌≡◌, ℕ, Bool, List, [], ◌∷◌, subst, sym}
+use Rattle.std.proofs.Common.{Bool, List, [], ◌∷◌, subst, sym}
 use Rattle.std.specs.Global.{Vec}
 use Rattle.clauses.specs.declared.literal.Literal.{Literal}
 use Rattle.clauses.specs.declared.step.Step.{Step}
@@ -15,6 +15,7 @@ pub never_from : (t : TransitionSystem) (clauses formula : List (Vec Literal)) (
 never_from t clauses formula steps is following kept safe [] state holds = tt
 never_from t clauses formula steps is following kept safe (row ∷ rows) state holds = λ v at given.
     let now = subst (HoldOf clauses) (sym at.state_is) holds in
-    let trues = is v at.agree given now in
-    (safe formula following v trues,
-        never_from t clauses formula steps is following kept safe rows (bits_at v t.next.items) (kept formula following v trues))
+    let trues = is v at.agree given now in (
+      safe formula following v trues,
+      never_from t clauses formula steps is following kept safe rows (bits_at v t.next.items) (kept formula following v trues),
+    )

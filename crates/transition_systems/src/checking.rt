@@ -26,14 +26,17 @@ pub fn check_certificate(
     }
     let clauses = certificate.clauses.as_slice();
     let steps = certificate.steps.as_slice();
-    if !hold_of(clauses, &system.first) {
+    let first = system.first.as_slice();
+    let next = system.next.as_slice();
+    if !hold_of(clauses, first) {
         return Err(CertificateFault::NotAtFirst);
     }
-    check_kept(alloc, &system.next, clauses, &certificate.kept, steps)?;
+    check_kept(alloc, next, clauses, &certificate.kept, steps)?;
     check_safe(alloc, system.bad, certificate.safe, steps)?;
     let formula = formula_of(alloc, system, clauses)?;
     let variables = system.gates.gates().len();
-    if are_following(alloc, variables, &formula, steps)? {
+    let follows = are_following(alloc, variables, formula.as_slice(), steps)?;
+    if follows {
         Ok(())
     } else {
         Err(CertificateFault::NotFollowing)

@@ -1,5 +1,5 @@
 -- Signals of inputs.
-use Rattle.std.specs.Prelude.{◌≡◌, ℕ, ◌+◌, List, Bool, false, Some, slice_get}
+use Rattle.std.specs.Prelude.{◌≡◌, ℕ, ◌+◌, List, false, Some, slice_get}
 use Rattle.gates.specs.declared.signal.Signal.{Signal}
 use Rattle.gates.specs.declared.gates.Gate.{Gate}
 use Rattle.gates.specs.declared.gates.Gate.TheVariants.{Input}

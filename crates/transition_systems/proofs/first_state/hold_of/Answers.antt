@@ -14,7 +14,7 @@ loop-clause-preserved c =
     let IsOn : Vec Literal → Type 0 = λ d. clause_value (bit_of c.args.state.now) d.items ≡ true in
     let item = c.clause-item.result in
     let here : IsOn item =
-        ap (clause_value (bit_of c.args.state.now)) (sym c.as_slice.ensures.value) ∙ sym c.is_clause_on.ensures ∙ c.if-not-is_clause_on.false in
+    ap (clause_value (bit_of c.args.state.now)) (sym c.as_slice.ensures.value) ∙ sym c.is_clause_on.ensures ∙ c.if-not-is_clause_on.false in
     All-more IsOn c.args.clauses.now c.loop-clause.clause-index item c.loop-clause-test.true c.loop-clause.invariant
     (subst IsOn c.clause-item.is here)
 

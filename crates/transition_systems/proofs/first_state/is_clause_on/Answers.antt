@@ -16,9 +16,9 @@ pub returns-then-is_literal_on : goal.returns-then-is_literal_on
 returns-then-is_literal_on c =
     let d : Literal = record { variable = 0; is_negated = false } in
     sym (true_at (bit_of c.args.state.now) c.args.clause.now c.loop-literal.literal-index d c.loop-literal-test.true
-        (sym c.is_literal_on.ensures ∙ c.if-is_literal_on.true))
+    (sym c.is_literal_on.ensures ∙ c.if-is_literal_on.true))
 
 pub returns : goal.returns
 returns c =
     sym (ap (clause_value (bit_of c.args.state.now)) (sym (take_all c.loop-literal.literal-index c.args.clause.now c.loop-literal-test.false))
-        ∙ c.loop-literal.invariant)
+    ∙ c.loop-literal.invariant)

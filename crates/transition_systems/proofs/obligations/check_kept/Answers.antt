@@ -15,8 +15,8 @@ loop-place-preserved c = λ formula following v trues.
     let item = c.index-clauses-place.result in
     let shown = c.is_shown.ensures c.if-not-is_shown.false formula following v trues in
     let here : IsOn item =
-        ap (clause_value (bit_of (bits_at v c.args.next.now))) (sym c.as_slice.ensures.value) ∙ sym (c.in_ok-over.ensures v)
-        ∙ ap (clause_value v) (sym c.as_slice-2.ensures.value) ∙ shown in
+    ap (clause_value (bit_of (bits_at v c.args.next.now))) (sym c.as_slice.ensures.value) ∙ sym (c.in_ok-over.ensures v)
+    ∙ ap (clause_value v) (sym c.as_slice-in-loop-place.ensures.value) ∙ shown in
     All-more IsOn c.args.clauses.now c.loop-place.place item c.loop-place-test.true (c.loop-place.invariant formula following v trues)
     (subst IsOn c.index-clauses-place.is here)
 

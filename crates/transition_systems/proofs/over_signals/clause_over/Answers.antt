@@ -12,7 +12,7 @@ loop-literal-preserved c = λ v.
     let d : Literal = record { variable = 0; is_negated = false } in
     rw c.in_ok-put_literal.ensures
     (over_more v (bit_of (bits_at v c.args.signals.now)) c.loop-literal.over.items c.args.clause.now c.loop-literal.literal-index d
-        c.in-Some.found c.loop-literal-test.true (c.loop-literal.invariant v) (c.in-Some.ensures v))
+    c.in-Some.found c.loop-literal-test.true (c.loop-literal.invariant v) (c.in-Some.ensures v))
 
 pub returns : goal.returns
 returns c = λ v.
