@@ -173,7 +173,10 @@ impl Solver {
         };
         let watched = self.clauses.get(clause)?;
         for other in &watched.literals {
-            if other.variable != literal.variable && !self.is_seen(other.variable) && self.is_above_zero(*other) {
+            if other.variable != literal.variable
+                && !self.is_seen(other.variable)
+                && self.is_above_zero(*other)
+            {
                 return None;
             }
         }
@@ -360,7 +363,10 @@ impl Solver {
     }
 
     /// The assumptions that make an assumption FALSE, with it: they can't be TRUE together. That is noted as a step.
-    pub(crate) fn analyze_assumption(&mut self, assumption: Literal) -> Result<Vec<Literal>, AllocError> {
+    pub(crate) fn analyze_assumption(
+        &mut self,
+        assumption: Literal,
+    ) -> Result<Vec<Literal>, AllocError> {
         let mut analysis = self.new_analysis();
         let mut core = vec![in self.alloc; assumption]?;
         self.meet_lower(&mut analysis, opposite(assumption))?;
@@ -417,7 +423,11 @@ impl Solver {
     }
 
     /// Meets the literals of a clause, whatever their levels are.
-    fn meet_lower_clause(&mut self, analysis: &mut Analysis, clause: usize) -> Result<(), AllocError> {
+    fn meet_lower_clause(
+        &mut self,
+        analysis: &mut Analysis,
+        clause: usize,
+    ) -> Result<(), AllocError> {
         let len = match self.clauses.get(clause) {
             Some(watched) => watched.literals.len(),
             None => 0,

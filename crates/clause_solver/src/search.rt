@@ -66,8 +66,20 @@ impl Solver {
             number,
         })?;
         if let (Some(first), Some(second)) = (first, second) {
-            self.watches.put(first, Watch { clause: place, other: second })?;
-            self.watches.put(second, Watch { clause: place, other: first })?;
+            self.watches.put(
+                first,
+                Watch {
+                    clause: place,
+                    other: second,
+                },
+            )?;
+            self.watches.put(
+                second,
+                Watch {
+                    clause: place,
+                    other: first,
+                },
+            )?;
         }
         match first {
             Some(first) => self.assign(first, Reason::Clause(place)),

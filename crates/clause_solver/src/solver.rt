@@ -156,8 +156,20 @@ impl Solver {
         let Some(second) = second else {
             return self.attach_unit(place, first);
         };
-        self.watches.put(first, Watch { clause: place, other: second })?;
-        self.watches.put(second, Watch { clause: place, other: first })?;
+        self.watches.put(
+            first,
+            Watch {
+                clause: place,
+                other: second,
+            },
+        )?;
+        self.watches.put(
+            second,
+            Watch {
+                clause: place,
+                other: first,
+            },
+        )?;
         match (self.trail.value(first), self.trail.value(second)) {
             (Some(false), _) => self.refute(place),
             (None, Some(false)) => self.assign(first, Reason::Clause(place)),

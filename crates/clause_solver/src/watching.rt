@@ -41,39 +41,44 @@ impl Watches {
 
     /// Watches a literal.
     pub(crate) fn put(&mut self, literal: Literal, watch: Watch) -> Result<(), AllocError> {
-        let lists = if literal.is_negated {
-            &mut self.negated
+        if literal.is_negated {
+            put_in(&mut self.negated, literal.variable, watch)
         } else {
-            &mut self.plain
-        };
-        if let Some(list) = lists.get_mut(literal.variable) {
-            list.push(watch)?;
+            put_in(&mut self.plain, literal.variable, watch)
         }
-        Ok(())
     }
 
     /// The watches of a literal, which are taken out.
     pub(crate) fn take(&mut self, alloc: Global, literal: Literal) -> Vec<Watch> {
-        let lists = if literal.is_negated {
-            &mut self.negated
+        if literal.is_negated {
+            exchange_in(&mut self.negated, literal.variable, Vec::new(alloc))
         } else {
-            &mut self.plain
-        };
-        match lists.get_mut(literal.variable) {
-            Some(list) => mem::replace(list, Vec::new(alloc)),
-            None => Vec::new(alloc),
+            exchange_in(&mut self.plain, literal.variable, Vec::new(alloc))
         }
     }
 
     /// Puts the watches of a literal back.
     pub(crate) fn put_back(&mut self, literal: Literal, watches: Vec<Watch>) {
-        let lists = if literal.is_negated {
-            &mut self.negated
+        if literal.is_negated {
+            exchange_in(&mut self.negated, literal.variable, watches);
         } else {
-            &mut self.plain
-        };
-        if let Some(list) = lists.get_mut(literal.variable) {
-            *list = watches;
+            exchange_in(&mut self.plain, literal.variable, watches);
         }
+    }
+}
+
+/// Puts a watch into the list of a variable.
+fn put_in(lists: &mut Vec<Vec<Watch>>, variable: usize, watch: Watch) -> Result<(), AllocError> {
+    if let Some(list) = lists.get_mut(variable) {
+        list.push(watch)?;
+    }
+    Ok(())
+}
+
+/// Puts watches in the place of those of a variable, which it gives.
+fn exchange_in(lists: &mut Vec<Vec<Watch>>, variable: usize, watches: Vec<Watch>) -> Vec<Watch> {
+    match lists.get_mut(variable) {
+        Some(list) => mem::replace(list, watches),
+        None => watches,
     }
 }
