@@ -1,0 +1,3 @@
+-- Steps of the proofs.
+pub mod Latches
+pub mod Pairs

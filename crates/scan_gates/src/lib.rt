@@ -1,0 +1,17 @@
+//! The steps of a scan with signals in the place of values: under each values of the variables, they leave what the steps do.
+#![tactic(auto)]
+
+mod boxes;
+mod contact;
+mod encode_fault;
+mod encoded;
+mod joining;
+mod reading;
+mod sources;
+mod stepping;
+mod storing;
+
+pub use encode_fault::EncodeFault;
+pub use encoded::{EncodedInstance, EncodedSlot, EncodedValue, Latch};
+pub use stepping::pass_signals;
+pub use storing::{put_instance, put_value};
