@@ -1,0 +1,5 @@
+pub mod Bits
+pub mod Marking
+pub mod Results
+pub mod Slots
+pub mod Stepping

@@ -6,14 +6,13 @@ use Rattle.std_blocks.specs.declared.value.Value.{Value}
 use Rattle.std_blocks.specs.declared.value.Value.TheVariants as value
 use Rattle.std_blocks.specs.declared.block_type.BlockType.{BlockType}
 use Rattle.std_blocks.specs.declared.block_type.BlockType.TheVariants.{SR, RS, CTU, CTD, CTUD, TP, TON, TOF}
+use Rattle.std_blocks.specs.declared.pins.PinsOut.{PinsOut}
 use Rattle.std_blocks.specs.Blocks.{initial}
 use Rattle.scan_steps.specs.declared.slot.Instance.{Instance}
 use Rattle.scan_steps.specs.declared.slot.Slot.{Slot}
 use Rattle.scan_steps.specs.declared.slot.Slot.TheVariants as slot
 use Rattle.scan_steps.specs.declared.bound_box.BoundBox.{BoundBox}
 use Rattle.scan_steps.specs.Steps.Passing.{Pass, pass_of}
-use Rattle.scan_gates.specs.declared.encoded.Latch.{Latch}
-use Rattle.scan_gates.specs.declared.encoded.Latch.TheVariants.{SetDominant, ResetDominant}
 use Rattle.scan_gates.specs.declared.encoded.EncodedValue.{EncodedValue}
 use Rattle.scan_gates.specs.declared.encoded.EncodedValue.TheVariants as encoded
 use Rattle.scan_gates.specs.declared.encoded.EncodedInstance.{EncodedInstance}
@@ -33,21 +32,18 @@ value_at v (encoded.Bool s) = value.Bool (signal_value v s)
 value_at v (encoded.Int n) = value.Int n
 value_at v (encoded.Time t) = value.Time t
 
--- the type of a latch
-abbrev pub block_of_latch : Latch → BlockType
-block_of_latch SetDominant = SR
-block_of_latch ResetDominant = RS
+-- what a latch shows, by its Q1
+abbrev pub latch_outputs : Bool → PinsOut
+latch_outputs on = record { bits = on ∷ false ∷ []; int = pos 0; time = 0 }
 
--- a latch whose output Q1 is in this state
-abbrev pub latch_instance : Latch → Bool → Instance
-latch_instance latch on = record {
-  state = record (initial (block_of_latch latch)) { on = on };
-  outputs = record { bits = on ∷ false ∷ []; int = pos 0; time = 0 };
-}
+-- a latch of this type whose Q1 is in this state
+abbrev pub latch : BlockType → Bool → Instance
+latch block on = record { state = record (initial block) { on = on }; outputs = latch_outputs on }
 
 -- a block, where Q1 of a latch is in the state of its signal
 abbrev pub instance_at : (ℕ → Bool) → EncodedInstance → Instance
-instance_at v (block.Latch latch s) = latch_instance latch (signal_value v s)
+instance_at v (block.SR s) = latch SR (signal_value v s)
+instance_at v (block.RS s) = latch RS (signal_value v s)
 
 abbrev pub instances_at : (ℕ → Bool) → List EncodedInstance → List Instance
 instances_at v instances = map (instance_at v) instances

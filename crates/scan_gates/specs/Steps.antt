@@ -1,3 +1,2 @@
 -- Steps of the proofs.
-pub mod Latches
 pub mod Pairs

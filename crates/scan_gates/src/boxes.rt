@@ -1,22 +1,21 @@
-ghost use Rattle.std.specs.Prelude.{◌≡◌, ◌<◌, ◌↔◌, ◌⊎◌, ◌&&◌, ◌||◌, not, ℕ, Bool, All, IfOk, OnOk, IfErr, Some, true, false, length, slice_get};
+ghost use Rattle.std.specs.Prelude.{◌≡◌, ◌<◌, ◌&&◌, ◌||◌, not, ℕ, Bool, All, IfOk, OnOk, IfErr, length, slice_get};
 ghost use Rattle.gates.specs.Signals.{signal_value};
 ghost use Rattle.gates.specs.Gates.{IsBuilt, Agrees};
-ghost use Rattle.std_blocks.specs.Pins.{field_value};
+ghost use Rattle.std_blocks.specs.declared.pins.PinsIn.{PinsIn};
+ghost use Rattle.std_blocks.specs.Blocks.{bit};
 ghost use Rattle.scan_steps.specs.Conducting.{bit_at};
-ghost use Rattle.scan_steps.specs.Values.{is_true};
-ghost use Rattle.scan_steps.specs.Steps.BoxSteps.{HasOutput, IsMarked, box_result, state_in};
+ghost use Rattle.scan_steps.specs.Steps.BoxSteps.{HasOutput, box_result, made_by, state_in};
 ghost use Rattle.scan_steps.specs.Steps.Passing.{AreMarked, ArePinsShown, AreShown};
 ghost use Rattle.scan_gates.specs.Encoded.{bits_at, slots_at, instance_at, IsNoLatchFault};
-ghost use Rattle.scan_gates.specs.Steps.Latches.{latch_after};
 
 use crate::encode_fault::EncodeFault;
-use crate::encoded::{EncodedInstance, EncodedSlot, Latch};
+use crate::encoded::{EncodedInstance, EncodedSlot};
 use crate::sources::{output_of, source_or_row_on, truth_of};
 use gates::{Gates, Signal};
 use scan_steps::{BoundBox, BoundOutput};
 use std::alloc::AllocError;
 
-/// What stands at the place of a box before its step: a latch, or a new one.
+/// What stands at the place of a box before its step, or else a new block of its type.
 fn instance_of(gates: &Gates, bound: &BoundBox, slots: &[EncodedSlot]) -> Result<EncodedInstance, EncodeFault>
     ensures ok { IfOk result (λ i. (v : ℕ → Bool) → Agrees v gates.now
         → (instance_at v i).state ≡ state_in bound.now.block (slice_get (slots_at v slots.now) bound.now.instance)) }
@@ -25,31 +24,51 @@ fn instance_of(gates: &Gates, bound: &BoundBox, slots: &[EncodedSlot]) -> Result
     if let Some(EncodedSlot::Block(instance)) = slots.get(bound.instance) {
         return Ok(*instance);
     }
-    match Latch::of(bound.block) {
-        Some(latch) => Ok(EncodedInstance::Latch(latch, gates.constant(false))),
+    match EncodedInstance::initial(bound.block, gates.constant(false)) {
+        Some(instance) => Ok(instance),
         None => Err(EncodeFault::NoLatch(bound.block)),
     }
 }
 
-/// Q1 of a latch once it is stepped, by its inputs.
-fn latch_step(
+/// Q1 of an SR once it is stepped, by its inputs.
+fn step_set_dominant(gates: &mut Gates, set: Signal, reset: Signal, q1: Signal) -> Result<Signal, AllocError>
+    ensures { IfOk result (λ s. IsBuilt gates.old gates.new
+        (λ v. signal_value v s ≡ (signal_value v set || (not (signal_value v reset) && signal_value v q1)))) }
+{
+    let kept = gates.and(reset.negated(), q1)?;
+    let on = gates.or(set, kept)?;
+    Ok(on)
+}
+
+/// Q1 of an RS once it is stepped, by its inputs.
+fn step_reset_dominant(gates: &mut Gates, set: Signal, reset: Signal, q1: Signal) -> Result<Signal, AllocError>
+    ensures { IfOk result (λ s. IsBuilt gates.old gates.new
+        (λ v. signal_value v s ≡ (not (signal_value v reset) && (signal_value v set || signal_value v q1)))) }
+{
+    let on = gates.or(set, q1)?;
+    let kept = gates.and(reset.negated(), on)?;
+    Ok(kept)
+}
+
+/// What the step of a block leaves, by its first two inputs.
+fn step_instance(
     gates: &mut Gates,
-    latch: Latch,
+    instance: EncodedInstance,
     first: Signal,
     second: Signal,
-    q1: Signal,
-) -> Result<Signal, AllocError>
-    ensures { IfOk result (λ s. IsBuilt gates.old gates.new (λ v. signal_value v s
-        ≡ latch_after latch (signal_value v first) (signal_value v second) (signal_value v q1))) }
+) -> Result<EncodedInstance, AllocError>
+    ensures { IfOk result (λ i. IsBuilt gates.old gates.new (λ v. (pins : PinsIn) (dt : ℕ)
+        → bit pins 0 ≡ signal_value v first → bit pins 1 ≡ signal_value v second
+        → instance_at v i ≡ made_by (instance_at v instance).state pins dt)) }
 {
-    match latch {
-        Latch::SetDominant => {
-            let kept = gates.and(second.negated(), q1)?;
-            gates.or(first, kept)
+    match instance {
+        EncodedInstance::SR(q1) => {
+            let q1 = step_set_dominant(gates, first, second, q1)?;
+            Ok(EncodedInstance::SR(q1))
         }
-        Latch::ResetDominant => {
-            let set = gates.or(first, q1)?;
-            gates.and(second.negated(), set)
+        EncodedInstance::RS(q1) => {
+            let q1 = step_reset_dominant(gates, first, second, q1)?;
+            Ok(EncodedInstance::RS(q1))
         }
     }
 }
@@ -65,11 +84,11 @@ fn step_box(
         → instance_at v i ≡ box_result bound.now (slots_at v slots.now) dt (bits_at v rows.now))) }
     ensures only { IfErr result (IsNoLatchFault bound.now) }
 {
-    let EncodedInstance::Latch(latch, q1) = instance_of(gates, bound, slots)?;
+    let instance = instance_of(gates, bound, slots)?;
     let first = source_or_row_on(gates, slots, rows, bound.bits[0]);
     let second = source_or_row_on(gates, slots, rows, bound.bits[1]);
-    let q1 = latch_step(gates, latch, first, second, q1)?;
-    Ok(EncodedInstance::Latch(latch, q1))
+    let made = step_instance(gates, instance, first, second)?;
+    Ok(made)
 }
 
 /// Turns off the rows of the output pins.

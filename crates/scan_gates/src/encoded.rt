@@ -1,17 +1,10 @@
-ghost use Rattle.std.specs.Prelude.{◌≡◌, MatchOption};
-ghost use Rattle.scan_gates.specs.Encoded.{block_of_latch, IsNoLatch};
+ghost use Rattle.std.specs.Prelude.{◌≡◌, ℕ, Bool, false, MatchOption};
+ghost use Rattle.gates.specs.Signals.{signal_value};
+ghost use Rattle.scan_steps.specs.First.{instance_first};
+ghost use Rattle.scan_gates.specs.Encoded.{IsNoLatch, instance_at};
 
 use gates::Signal;
 use std_blocks::BlockType;
-
-/// Which input of a latch wins.
-#[derive(Clone, Copy, Debug, PartialEq, Eq)]
-pub enum Latch {
-    /// SR.
-    SetDominant,
-    /// RS.
-    ResetDominant,
-}
 
 /// A value: that of a BOOL as a signal.
 #[derive(Clone, Copy, Debug)]
@@ -25,8 +18,10 @@ pub enum EncodedValue {
 /// A block of the drawing: its state and its stored outputs.
 #[derive(Clone, Copy, Debug)]
 pub enum EncodedInstance {
-    /// Q1 of a latch.
-    Latch(Latch, Signal),
+    /// Q1 of an SR.
+    SR(Signal),
+    /// Q1 of an RS.
+    RS(Signal),
 }
 
 /// What stands at a declared name.
@@ -36,14 +31,15 @@ pub enum EncodedSlot {
     Block(EncodedInstance),
 }
 
-impl Latch {
-    /// The latch of this type; none for a counter or a timer.
-    pub fn of(block: BlockType) -> Option<Latch>
-        ensures { MatchOption result (IsNoLatch block) (λ latch. block_of_latch latch ≡ block) }
+impl EncodedInstance {
+    /// A block of this type before its first step, by a signal that is never TRUE; none for a counter or a timer.
+    pub fn initial(block: BlockType, off: Signal) -> Option<EncodedInstance>
+        ensures { MatchOption result (IsNoLatch block)
+            (λ i. (v : ℕ → Bool) → signal_value v off ≡ false → instance_at v i ≡ instance_first block) }
     {
         match block {
-            BlockType::SR => Some(Latch::SetDominant),
-            BlockType::RS => Some(Latch::ResetDominant),
+            BlockType::SR => Some(EncodedInstance::SR(off)),
+            BlockType::RS => Some(EncodedInstance::RS(off)),
             _ => None,
         }
     }

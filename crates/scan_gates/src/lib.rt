@@ -12,6 +12,6 @@ mod stepping;
 mod storing;
 
 pub use encode_fault::EncodeFault;
-pub use encoded::{EncodedInstance, EncodedSlot, EncodedValue, Latch};
+pub use encoded::{EncodedInstance, EncodedSlot, EncodedValue};
 pub use stepping::pass_signals;
 pub use storing::{put_instance, put_value};

@@ -3,26 +3,36 @@ ghost use Rattle.std.specs.Option.{option_and_then};
 ghost use Rattle.gates.specs.Signals.{signal_value};
 ghost use Rattle.gates.specs.Gates.{Agrees};
 ghost use Rattle.std_blocks.specs.Pins.{field_value};
+ghost use Rattle.scan_steps.specs.Conducting.{bit_at};
 ghost use Rattle.scan_steps.specs.Slots.{variable_at};
 ghost use Rattle.scan_steps.specs.Values.{is_true};
 ghost use Rattle.scan_steps.specs.Steps.Sources.{slot_output, source_value, source_bit};
-ghost use Rattle.scan_gates.specs.Encoded.{bits_at, slots_at, instance_at, value_at};
+ghost use Rattle.scan_gates.specs.Encoded.{bits_at, slots_at, instance_at, latch_outputs, value_at};
 
 use crate::encoded::{EncodedInstance, EncodedSlot, EncodedValue};
 use gates::{Gates, Signal};
 use scan_steps::Source;
 use std_blocks::{Field, Value};
 
-/// What an output pin of a block gives.
-pub(crate) fn output_of(gates: &Gates, instance: EncodedInstance, field: Field) -> EncodedValue
-    ensures { (v : ℕ → Bool) → Agrees v gates.now → value_at v result ≡ field_value (instance_at v instance).outputs field }
+/// What an output pin of a latch gives, by its Q1.
+fn latch_output(gates: &Gates, q1: Signal, field: Field) -> EncodedValue
+    ensures { (v : ℕ → Bool) → Agrees v gates.now
+        → value_at v result ≡ field_value (latch_outputs (signal_value v q1)) field }
 {
-    let EncodedInstance::Latch(_, q1) = instance;
     match field {
         Field::Bit(0) => EncodedValue::Bool(q1),
         Field::Bit(_) => EncodedValue::Bool(gates.constant(false)),
         Field::Int => EncodedValue::Int(0),
         Field::Time => EncodedValue::Time(0),
+    }
+}
+
+/// What an output pin of a block gives.
+pub(crate) fn output_of(gates: &Gates, instance: EncodedInstance, field: Field) -> EncodedValue
+    ensures { (v : ℕ → Bool) → Agrees v gates.now → value_at v result ≡ field_value (instance_at v instance).outputs field }
+{
+    match instance {
+        EncodedInstance::SR(q1) | EncodedInstance::RS(q1) => latch_output(gates, q1, field),
     }
 }
 
