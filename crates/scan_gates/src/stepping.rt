@@ -130,42 +130,69 @@ fn obey(
     ensures only { IfErr result (HasNoLatchFault boxes.now) }
 {
     match step {
-        Step::Rail(row) => set_row(gates, rows, *row as usize, true),
-        Step::Off(row) => set_row(gates, rows, *row as usize, false),
-        Step::Upright(first, last) => join_rows(gates, rows, *first as usize, *last as usize)?,
+        Step::Rail(row) => {
+            set_row(gates, rows, *row as usize, true);
+            Ok(())
+        }
+        Step::Off(row) => {
+            set_row(gates, rows, *row as usize, false);
+            Ok(())
+        }
+        Step::Upright(first, last) => {
+            join_rows(gates, rows, *first as usize, *last as usize)?;
+            Ok(())
+        }
         Step::OffUpright(row, first, last) => {
-            join_off(gates, rows, *row as usize, *first as usize, *last as usize)?
+            join_off(gates, rows, *row as usize, *first as usize, *last as usize)?;
+            Ok(())
         }
         Step::Down(row) => {
             let upper = *row as usize;
-            join_off(gates, rows, upper + 1, upper, upper + 1)?
+            join_off(gates, rows, upper + 1, upper, upper + 1)?;
+            Ok(())
         }
         Step::Up(row) => {
             let upper = *row as usize;
-            join_off(gates, rows, upper, upper, upper + 1)?
+            join_off(gates, rows, upper, upper, upper + 1)?;
+            Ok(())
         }
-        Step::Contact(contact) => read_contact(gates, Contact::of(contact), slots, rows, memories)?,
-        Step::RailContact(contact) => read_at_rail(gates, contact, slots, rows, memories)?,
+        Step::Contact(contact) => {
+            read_contact(gates, Contact::of(contact), slots, rows, memories)?;
+            Ok(())
+        }
+        Step::RailContact(contact) => {
+            read_at_rail(gates, contact, slots, rows, memories)?;
+            Ok(())
+        }
         Step::Pair(pair, places) => {
             let first = Contact::first(pair, places);
             let second = Contact::second(pair, places);
-            read_pair(gates, first, second, slots, rows, memories)?
+            read_pair(gates, first, second, slots, rows, memories)?;
+            Ok(())
         }
         Step::JoinedPair(pair, places) => {
-            read_joined_pair(gates, pair, places, slots, rows, memories)?
+            read_joined_pair(gates, pair, places, slots, rows, memories)?;
+            Ok(())
         }
-        Step::PairOver(row, places) => read_pair_over(gates, *row, places, slots, rows, memories)?,
+        Step::PairOver(row, places) => {
+            read_pair_over(gates, *row, places, slots, rows, memories)?;
+            Ok(())
+        }
         Step::Rung(row, coil, contacts) => {
-            read_rung(gates, *row, *coil, contacts, slots, rows, links)?
+            read_rung(gates, *row, *coil, contacts, slots, rows, links)?;
+            Ok(())
         }
-        Step::Coil(row, coil) => links[*coil as usize] = rows[*row as usize],
-        Step::Box(number) => obey_numbered(gates, *number as usize, boxes, slots, rows, results)?,
+        Step::Coil(row, coil) => {
+            links[*coil as usize] = rows[*row as usize];
+            Ok(())
+        }
+        Step::Box(number) => obey_numbered(gates, *number as usize, boxes, slots, rows, results),
         Step::BoxCoil(number, row, coil) => {
             obey_numbered(gates, *number as usize, boxes, slots, rows, results)?;
             links[*coil as usize] = rows[*row as usize];
+            Ok(())
         }
     }
-    Ok(())
 }
 
 /// Does what the steps of a network say, each once, in their order, with signals in the place of states: whatever values

@@ -1,6 +1,6 @@
 use Rattle.gates.specs.Signals.{signal_value}
 use Rattle.scan_gates.specs.Encoded.{bits_at, slots_at, instance_at}
-use Rattle.scan_gates.proofs.Stepping.{box_stepped}
+use Rattle.scan_gates.proofs.BoxesStepped.{box_stepped}
 use Rattle.scan_gates.proofs.boxes.step_box.Goals as goal
 
 pub returns-clause-ok : goal.returns-clause-ok

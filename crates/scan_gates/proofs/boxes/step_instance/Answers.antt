@@ -1,5 +1,5 @@
 use Rattle.gates.specs.Signals.{signal_value}
-use Rattle.scan_gates.proofs.Stepping.{set_dominant_made, reset_dominant_made}
+use Rattle.scan_gates.proofs.BoxesStepped.{set_dominant_made, reset_dominant_made}
 use Rattle.scan_gates.proofs.boxes.step_instance.Goals as goal
 
 pub returns-in_ok-q1-in-SR : goal.returns-in_ok-q1-in-SR
