@@ -1,5 +1,5 @@
 -- Boxes that are no latches.
-use Rattle.std.proofs.Common.{◌≡◌, ℕ, ◌<◌, List, length, get_or, refl}
+use Rattle.std.proofs.Common.{◌≡◌, ℕ, ◌<◌, List, length, get_or}
 use Rattle.scan_steps.specs.declared.bound_box.BoundBox.{BoundBox}
 use Rattle.scan_gates.specs.declared.encode_fault.EncodeFault.{EncodeFault}
 use Rattle.scan_gates.specs.declared.encode_fault.EncodeFault.TheVariants.{Memory, NoLatch}

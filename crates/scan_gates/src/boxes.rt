@@ -16,7 +16,11 @@ use scan_steps::{BoundBox, BoundOutput};
 use std::alloc::AllocError;
 
 /// What stands at the place of a box before its step, or else a new block of its type.
-fn instance_of(gates: &Gates, bound: &BoundBox, slots: &[EncodedSlot]) -> Result<EncodedInstance, EncodeFault>
+fn instance_of(
+    gates: &Gates,
+    bound: &BoundBox,
+    slots: &[EncodedSlot],
+) -> Result<EncodedInstance, EncodeFault>
     ensures ok { IfOk result (λ i. (v : ℕ → Bool) → Agrees v gates.now
         → (instance_at v i).state ≡ state_in bound.now.block (slice_get (slots_at v slots.now) bound.now.instance)) }
     ensures only { IfErr result (IsNoLatchFault bound.now) }
@@ -31,7 +35,12 @@ fn instance_of(gates: &Gates, bound: &BoundBox, slots: &[EncodedSlot]) -> Result
 }
 
 /// Q1 of an SR once it is stepped, by its inputs.
-fn step_set_dominant(gates: &mut Gates, set: Signal, reset: Signal, q1: Signal) -> Result<Signal, AllocError>
+fn step_set_dominant(
+    gates: &mut Gates,
+    set: Signal,
+    reset: Signal,
+    q1: Signal,
+) -> Result<Signal, AllocError>
     ensures { IfOk result (λ s. IsBuilt gates.old gates.new
         (λ v. signal_value v s ≡ (signal_value v set || (not (signal_value v reset) && signal_value v q1)))) }
 {
@@ -41,7 +50,12 @@ fn step_set_dominant(gates: &mut Gates, set: Signal, reset: Signal, q1: Signal) 
 }
 
 /// Q1 of an RS once it is stepped, by its inputs.
-fn step_reset_dominant(gates: &mut Gates, set: Signal, reset: Signal, q1: Signal) -> Result<Signal, AllocError>
+fn step_reset_dominant(
+    gates: &mut Gates,
+    set: Signal,
+    reset: Signal,
+    q1: Signal,
+) -> Result<Signal, AllocError>
     ensures { IfOk result (λ s. IsBuilt gates.old gates.new
         (λ v. signal_value v s ≡ (not (signal_value v reset) && (signal_value v set || signal_value v q1)))) }
 {

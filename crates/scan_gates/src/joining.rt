@@ -9,7 +9,12 @@ use gates::{Gates, Signal};
 use std::alloc::AllocError;
 
 /// Whether any of the rows from first to last is ON.
-fn any_on(gates: &mut Gates, rows: &[Signal], first: usize, last: usize) -> Result<Signal, AllocError>
+fn any_on(
+    gates: &mut Gates,
+    rows: &[Signal],
+    first: usize,
+    last: usize,
+) -> Result<Signal, AllocError>
     requires { last < length rows.now }
     ensures { IfOk result (λ s. IsBuilt gates.old gates.new (λ v. (signal_value v s ≡ true)
         ↔ ((k : ℕ) × (first ≤ k) × (k ≤ last) × (bit_at (bits_at v rows.now) k ≡ true)))) }

@@ -13,5 +13,6 @@ mod storing;
 
 pub use encode_fault::EncodeFault;
 pub use encoded::{EncodedInstance, EncodedSlot, EncodedValue};
+pub use sources::{output_of, variable_on};
 pub use stepping::pass_signals;
 pub use storing::{put_instance, put_value};

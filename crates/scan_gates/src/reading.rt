@@ -17,7 +17,12 @@ use scan_steps::VariableContact;
 use std::alloc::AllocError;
 
 /// Whether a contact conducts, by its variable and its memory.
-fn conducts(gates: &mut Gates, kind: ContactKind, on: Signal, memory: Signal) -> Result<Signal, AllocError>
+fn conducts(
+    gates: &mut Gates,
+    kind: ContactKind,
+    on: Signal,
+    memory: Signal,
+) -> Result<Signal, AllocError>
     ensures { IfOk result (λ s. IsBuilt gates.old gates.new
         (λ v. signal_value v s ≡ contact_conducts kind (signal_value v on) (signal_value v memory))) }
 {

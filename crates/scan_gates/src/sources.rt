@@ -28,7 +28,7 @@ fn latch_output(gates: &Gates, q1: Signal, field: Field) -> EncodedValue
 }
 
 /// What an output pin of a block gives.
-pub(crate) fn output_of(gates: &Gates, instance: EncodedInstance, field: Field) -> EncodedValue
+pub fn output_of(gates: &Gates, instance: EncodedInstance, field: Field) -> EncodedValue
     ensures { (v : ℕ → Bool) → Agrees v gates.now → value_at v result ≡ field_value (instance_at v instance).outputs field }
 {
     match instance {
@@ -47,7 +47,7 @@ pub(crate) fn truth_of(gates: &Gates, value: EncodedValue) -> Signal
 }
 
 /// Whether the variable at a place is TRUE.
-pub(crate) fn variable_on(gates: &Gates, slots: &[EncodedSlot], place: usize) -> Signal
+pub fn variable_on(gates: &Gates, slots: &[EncodedSlot], place: usize) -> Signal
     ensures { (v : ℕ → Bool) → Agrees v gates.now
         → signal_value v result ≡ is_true (variable_at (slots_at v slots.now) place) }
 {

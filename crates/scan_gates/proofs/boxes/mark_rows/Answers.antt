@@ -19,9 +19,11 @@ loop-pin-preserved c =
       long = length-set c.loop-pin.rows _ c.in_ok-rows.field-0 ∙ c.loop-pin.invariant.long;
       built = λ v agrees.
           let or = c.in_ok-rows.ensures v agrees in
-          let was = c.loop-pin.invariant.built v or.0 in
-          (was.0, mark_one v c.args.pins.now (instance_at v c.args.shown).outputs c.loop-pin.pin-index _ (bits_at v c.args.rows.now) c.loop-pin.rows _ c.in_ok-rows.field-0 c.truth_of-on.result lt
-          (rw c.loop-pin.invariant.long here) was.1 or.1 (c.truth_of-on.ensures v or.0 ∙ ap (λ x. is_true (Some x)) (c.output_of.ensures v or.0)));
+          let was = c.loop-pin.invariant.built v or.0 in (
+            was.0,
+            mark_one v c.args.pins.now (instance_at v c.args.shown).outputs c.loop-pin.pin-index _ (bits_at v c.args.rows.now) c.loop-pin.rows _ c.in_ok-rows.field-0 c.truth_of-on.result lt
+                (rw c.loop-pin.invariant.long here) was.1 or.1 (c.truth_of-on.ensures v or.0 ∙ ap (λ x. is_true (Some x)) (c.output_of.ensures v or.0)),
+          );
     }
 
 pub returns : goal.returns

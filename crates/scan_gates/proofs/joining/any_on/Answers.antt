@@ -1,8 +1,7 @@
-use Rattle.std.proofs.Common.{◌≡◌, ◌<◌, ◌≤◌, ◌+◌, ◌⊎◌, ◌↔◌, inl, inr, ℕ, Bool, true, ◌||◌, length, get_or, arith, sym, ap, ◌∙◌}
+use Rattle.std.proofs.Common.{◌<◌, inl, inr, ◌||◌, length, arith, sym, ap, ◌∙◌}
 use Rattle.gates.specs.Signals.{signal_value}
-use Rattle.scan_steps.specs.Conducting.{bit_at}
 use Rattle.scan_gates.specs.Encoded.{bits_at}
-use Rattle.scan_gates.proofs.Bits.{IsAnyOn, any_more, any_none, any_all, bit_there}
+use Rattle.scan_gates.proofs.Bits.{any_more, any_none, any_all, bit_there}
 use Rattle.scan_gates.proofs.joining.any_on.Goals as goal
 
 pub loop-row-init : goal.loop-row-init
@@ -18,9 +17,11 @@ loop-row-preserved c =
       built = λ v agrees.
           let or = c.in_ok-on.ensures v agrees in
           let was = c.loop-row.invariant.built v or.0 in
-          let here = bit_there v c.args.rows.now c.loop-row.row _ more in
-          (was.0, any_more (bits_at v c.args.rows.now) (signal_value v c.loop-row.on) (signal_value v c.in_ok-on.on) c.args.first c.loop-row.row c.loop-row.auto.row was.1
-          (or.1 ∙ ap (λ on. signal_value v c.loop-row.on || on) (sym here)));
+          let here = bit_there v c.args.rows.now c.loop-row.row _ more in (
+            was.0,
+            any_more (bits_at v c.args.rows.now) (signal_value v c.loop-row.on) (signal_value v c.in_ok-on.on) c.args.first c.loop-row.row c.loop-row.auto.row was.1
+                (or.1 ∙ ap (λ on. signal_value v c.loop-row.on || on) (sym here)),
+          );
       bound = inl (omega arith);
     }
 

@@ -1,4 +1,4 @@
-use Rattle.std.proofs.Common.{◌≡◌, ◌<◌, ◌≤◌, ◌+◌, ◌⊎◌, ◌≢◌, inl, inr, ℕ, Bool, length, length-set, arith, ◌∙◌}
+use Rattle.std.proofs.Common.{◌<◌, ◌≢◌, inl, inr, length, length-set, arith, ◌∙◌}
 use Rattle.scan_gates.proofs.Bits.{set_more, bit_set_other}
 use Rattle.scan_gates.proofs.joining.set_rows.Goals as goal
 

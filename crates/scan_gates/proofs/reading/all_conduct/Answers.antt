@@ -12,9 +12,11 @@ loop-contact-init c = λ v agrees. (agrees, ap (λ b. behind_all (slots_at v c.a
 pub loop-contact-preserved : goal.loop-contact-preserved
 loop-contact-preserved c = λ v agrees.
     let and = c.in_ok-on.ensures v agrees in
-    let was = c.loop-contact.invariant v and.0 in
-    (was.0, behind_more v (slots_at v c.args.slots.now) c.args.contacts.now c.loop-contact.contact-index _ c.loop-contact.on c.variable_conducts-here.result c.in_ok-on.on _ c.loop-contact-test.true
-    was.1 and.1 (c.variable_conducts-here.ensures v and.0))
+    let was = c.loop-contact.invariant v and.0 in (
+      was.0,
+      behind_more v (slots_at v c.args.slots.now) c.args.contacts.now c.loop-contact.contact-index _ c.loop-contact.on c.variable_conducts-here.result c.in_ok-on.on _ c.loop-contact-test.true
+          was.1 and.1 (c.variable_conducts-here.ensures v and.0),
+    )
 
 pub returns : goal.returns
 returns c = λ v agrees.

@@ -66,9 +66,12 @@ returns-in_ok-read_rung-in-Rung-clause-ok c = rw c.in-Rung.is (λ v agrees.
 pub returns-in-Coil-clause-ok : goal.returns-in-Coil-clause-ok
 returns-in-Coil-clause-ok c =
     let within : (c.in-Coil.row < length c.args.rows.now) × (c.in-Coil.coil < length c.args.links.now) = rw c.in-Coil.is at c.requires.step in
-    rw c.in-Coil.is (λ v agrees. (agrees, λ dt.
-        ap (λ l. pass_of (bits_at v c.args.rows.now) (bits_at v c.args.memories.now) l (instances_at v c.args.results.now))
-        (bits_set v c.args.links.now c.in-Coil.coil _ _ (sym (bit_there v c.args.rows.now c.in-Coil.row _ within.0)))))
+    rw c.in-Coil.is (λ v agrees. (
+      agrees,
+      λ dt.
+          ap (λ l. pass_of (bits_at v c.args.rows.now) (bits_at v c.args.memories.now) l (instances_at v c.args.results.now))
+          (bits_set v c.args.links.now c.in-Coil.coil _ _ (sym (bit_there v c.args.rows.now c.in-Coil.row _ within.0))),
+    ))
 
 pub returns-in-Box-clause-ok : goal.returns-in-Box-clause-ok
 returns-in-Box-clause-ok c = rw c.in-Box.is (on_ok _ _ c.obey_numbered.result c.obey_numbered.ensures.ok (λ built v agrees.
@@ -85,9 +88,14 @@ returns-in_ok-obey_numbered-in-BoxCoil-clause-ok c =
     let long : length new ≡ length c.args.rows.now = c.obey_numbered-in-BoxCoil.auto.rows in
     let within : row < length new = omega (arith, before, long) in
     rw c.in-BoxCoil.is (λ v agrees.
-        let memories = bits_at v c.args.memories.now in
-        let links = bits_at v c.args.links.now in
-        let results = instances_at v c.obey_numbered-in-BoxCoil.new.results in
-        let obeyed = c.in_ok-obey_numbered-in-BoxCoil.ensures.ok v agrees in
-        (obeyed.0, λ dt. (pass_of (bits_at v new) memories links results, obeyed.1 dt memories links,
-            ap (λ l. pass_of (bits_at v new) memories l results) (bits_set v c.args.links.now c.in-BoxCoil.coil _ _ (sym (bit_there v new row _ within))))))
+    let memories = bits_at v c.args.memories.now in
+    let links = bits_at v c.args.links.now in
+    let results = instances_at v c.obey_numbered-in-BoxCoil.new.results in
+    let obeyed = c.in_ok-obey_numbered-in-BoxCoil.ensures.ok v agrees in (
+      obeyed.0,
+      λ dt. (
+        pass_of (bits_at v new) memories links results,
+        obeyed.1 dt memories links,
+        ap (λ l. pass_of (bits_at v new) memories l results) (bits_set v c.args.links.now c.in-BoxCoil.coil _ _ (sym (bit_there v new row _ within))),
+      ),
+    ))

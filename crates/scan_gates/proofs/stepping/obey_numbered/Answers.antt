@@ -17,12 +17,14 @@ pub returns-clause-ok : goal.returns-clause-ok
 returns-clause-ok c = λ v agrees.
     let made = c.in_ok-results.ensures.ok v agrees in
     let results = c.args.results.now in
-    let number = c.args.number in
-    (made.0, λ dt memories links. record {
-      box = c.index-boxes-number.result;
-      at = slice_get-get_or c.args.boxes.now number c.index-boxes-number.result c.requires.number ∙ ap Some (sym c.index-boxes-number.is);
-      results = map-set (instance_at v) results number c.in_ok-results.field-0 ∙ ap (set (instances_at v results) number) (made.1 dt).0;
-      shown = (made.1 dt).1;
-      memories = refl;
-      links = refl;
-    })
+    let number = c.args.number in (
+      made.0,
+      λ dt memories links. record {
+        box = c.index-boxes-number.result;
+        at = slice_get-get_or c.args.boxes.now number c.index-boxes-number.result c.requires.number ∙ ap Some (sym c.index-boxes-number.is);
+        results = map-set (instance_at v) results number c.in_ok-results.field-0 ∙ ap (set (instances_at v results) number) (made.1 dt).0;
+        shown = (made.1 dt).1;
+        memories = refl;
+        links = refl;
+      },
+    )

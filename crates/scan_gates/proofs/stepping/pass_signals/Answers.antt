@@ -20,16 +20,20 @@ loop-step-preserved c =
           let obeyed = c.in_ok-obey.ensures.ok v agrees in
           let was = c.loop-step.invariant.passed v obeyed.0 in
           let a = pass_at v c.loop-step.rows c.loop-step.memories c.loop-step.links c.loop-step.results in
-          let b = pass_at v c.obey.new.rows c.obey.new.memories c.obey.new.links c.obey.new.results in
-          (was.0, λ dt final rest.
-              let Passed : List Step → Type 0 = λ l. ArePassed c.args.boxes.now (slots_at v c.args.slots.now) dt l a final in
-              was.1 dt final (subst Passed (sym whole) (b, obeyed.1 dt, rest)));
+          let b = pass_at v c.obey.new.rows c.obey.new.memories c.obey.new.links c.obey.new.results in (
+            was.0,
+            λ dt final rest.
+                let Passed : List Step → Type 0 = λ l. ArePassed c.args.boxes.now (slots_at v c.args.slots.now) dt l a final in
+                was.1 dt final (subst Passed (sym whole) (b, obeyed.1 dt, rest)),
+          );
     }
 
 pub returns-clause-ok : goal.returns-clause-ok
 returns-clause-ok c = λ v agrees.
     let was = c.loop-step.invariant.passed v agrees in
-    let b = pass_at v c.loop-step.rows c.loop-step.memories c.loop-step.links c.loop-step.results in
-    (was.0, λ dt.
-        let Passed : List Step → Type 0 = λ steps. ArePassed c.args.boxes.now (slots_at v c.args.slots.now) dt steps b b in
-        was.1 dt b (subst Passed (sym (drop_all c.loop-step.step-index c.args.steps.now c.loop-step-test.false)) refl))
+    let b = pass_at v c.loop-step.rows c.loop-step.memories c.loop-step.links c.loop-step.results in (
+      was.0,
+      λ dt.
+          let Passed : List Step → Type 0 = λ steps. ArePassed c.args.boxes.now (slots_at v c.args.slots.now) dt steps b b in
+          was.1 dt b (subst Passed (sym (drop_all c.loop-step.step-index c.args.steps.now c.loop-step-test.false)) refl),
+    )

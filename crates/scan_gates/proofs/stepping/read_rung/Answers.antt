@@ -14,8 +14,10 @@ returns c = λ v agrees.
     let is = on.1 ∙ ap (behind_all (slots_at v c.args.slots.now) true) c.contacts.ensures in
     let long = bits_long v c.args.rows.now in
     let within = c.requires.row in
-    let lt : row < length rows = omega arith in
-    (on.0, (
-      bits_set v c.args.rows.now row c.in_ok-on.on behind is,
-      bits_set v c.args.links.now c.args.coil c.in_ok-on.on (bit_at (set rows row behind) row) (is ∙ sym (get_or-set_same rows row behind false lt)),
-    ))
+    let lt : row < length rows = omega arith in (
+      on.0,
+      (
+        bits_set v c.args.rows.now row c.in_ok-on.on behind is,
+        bits_set v c.args.links.now c.args.coil c.in_ok-on.on (bit_at (set rows row behind) row) (is ∙ sym (get_or-set_same rows row behind false lt)),
+      ),
+    )
