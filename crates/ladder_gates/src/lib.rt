@@ -1,0 +1,8 @@
+//! A scan of a ladder with signals in the place of values.
+#![tactic(auto)]
+
+mod box_stores;
+mod coil_stores;
+mod steps_encoded;
+
+pub use steps_encoded::encode_steps;
