@@ -3,6 +3,8 @@ use Rattle.std.proofs.Common.{◌≡◌, ℕ, ◌+◌, ◌<◌, List, Bool, ◌&
 use Rattle.std.proofs.lemmas.List.{at_drop_more}
 use Rattle.gates.specs.declared.signal.Signal.{Signal}
 use Rattle.gates.specs.Signals.{signal_value}
+use Rattle.drawings.specs.declared.contact.ContactKind.{ContactKind}
+use Rattle.scan_steps.specs.declared.source.Source.{Source}
 use Rattle.scan_steps.specs.declared.slot.Slot.{Slot}
 use Rattle.scan_steps.specs.declared.bound_contact.VariableContact.{VariableContact}
 use Rattle.scan_steps.specs.Conducting.{bit_at, contact_conducts, contact_memory}
@@ -66,3 +68,13 @@ same_pair first one second two slots rows memories new later a b read =
     let One : ContactValue → Type 0 = λ k. IsPairReadBy k second slots rows memories new later in
     let Two : ContactValue → Type 0 = λ k. IsPairReadBy one k slots rows memories new later in
     subst Two b (subst One a read)
+
+-- a contact by its parts
+pub same_fields : (kind : ContactKind) (row : ℕ) (source : Source) (memory : ℕ) (c : ContactValue) → kind ≡ c.kind → row ≡ c.row → source ≡ c.source → memory ≡ c.memory
+    → record { kind = kind; row = row; source = source; memory = memory } ≡ c
+same_fields kind row source memory c one two three four =
+    let of_kind : ContactKind → ContactValue = λ x. record { kind = x; row = row; source = source; memory = memory } in
+    let of_row : ℕ → ContactValue = λ x. record { kind = c.kind; row = x; source = source; memory = memory } in
+    let of_source : Source → ContactValue = λ x. record { kind = c.kind; row = c.row; source = x; memory = memory } in
+    let of_memory : ℕ → ContactValue = λ x. record { kind = c.kind; row = c.row; source = c.source; memory = x } in
+    ap of_kind one ∙ ap of_row two ∙ ap of_source three ∙ ap of_memory four

@@ -1,8 +1,9 @@
 use Rattle.std.proofs.Common.{◌≡◌, ◌<◌, length, refl, sym, ap, arith}
 use Rattle.scan_steps.specs.Steps.Passing.{pass_of}
 use Rattle.scan_gates.specs.Encoded.{bits_at, slots_at, instances_at}
+use Rattle.scan_gates.specs.Steps.Pairs.{contact_value}
 use Rattle.scan_gates.proofs.Bits.{bits_set, bit_there}
-use Rattle.scan_gates.proofs.ContactsRead.{same_pair}
+use Rattle.scan_gates.proofs.ContactsRead.{same_pair, same_read as contact_read}
 use Rattle.scan_gates.proofs.Passed.{same_read, same_linked}
 use Rattle.scan_gates.proofs.Results.{on_ok}
 use Rattle.scan_gates.proofs.stepping.obey.Goals as goal
@@ -28,6 +29,15 @@ pub returns-in_ok-join_off-in-Up-clause-ok : goal.returns-in_ok-join_off-in-Up-c
 returns-in_ok-join_off-in-Up-clause-ok c = rw c.in-Up.is (λ v agrees.
     let joined = c.in_ok-join_off-in-Up.ensures v agrees in
     (joined.0, λ dt. (joined.1, refl, refl, refl)))
+
+pub returns-in_ok-read_contact-in-Contact-clause-ok :
+    goal.returns-in_ok-read_contact-in-Contact-clause-ok
+returns-in_ok-read_contact-in-Contact-clause-ok c = rw c.in-Contact.is (λ v agrees.
+    let read = c.in_ok-read_contact-in-Contact.ensures v agrees in
+    let rows = bits_at v c.args.rows.now in
+    let same = contact_read (contact_value c.of.result) _ (slots_at v c.args.slots.now) (bits_at v c.read_contact.new.rows) rows rows (bits_at v c.args.memories.now) (bits_at v c.read_contact.new.memories)
+    c.of.ensures refl read.1 in
+    (read.0, λ dt. same_read _ _ _ _ (bits_at v c.args.links.now) (instances_at v c.args.results.now) same.0 same.1))
 
 pub returns-in_ok-read_at_rail-in-RailContact-clause-ok :
     goal.returns-in_ok-read_at_rail-in-RailContact-clause-ok
