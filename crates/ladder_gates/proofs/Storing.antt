@@ -68,14 +68,13 @@ pub coils_more : (coils : List BoundCoil) (k : ℕ) (c : BoundCoil) (links memor
     × (bound_memories (drop (k + 1) coils) (k + 1) links later ≡ bound_memories (drop k coils) k links memories)
 coils_more coils k c links memories later slots next lt at is kept =
     let rest = drop (k + 1) coils in
-    let here = ap (λ d. bound_stores (d ∷ rest) k links memories) (sym at) ∙ sym (at_drop_more (λ l. bound_stores l k links memories) coils k c lt) in
-    (
+    let here = ap (λ d. bound_stores (d ∷ rest) k links memories) (sym at) ∙ sym (at_drop_more (λ l. bound_stores l k links memories) coils k c lt) in (
       ap (λ s. kinds_stored s (bound_stores rest (k + 1) links later)) is
-      ∙ ap (λ m. kinds_stored (kinds_stored slots (bound_store c (bit_at links k) memories)) (bound_stores rest (k + 1) links m)) kept
-      ∙ sym (kinds_stored-append slots (bound_store c (bit_at links k) memories) (bound_stores rest (k + 1) links (bound_memory c (bit_at links k) memories)))
-      ∙ ap (kinds_stored slots) here,
+          ∙ ap (λ m. kinds_stored (kinds_stored slots (bound_store c (bit_at links k) memories)) (bound_stores rest (k + 1) links m)) kept
+          ∙ sym (kinds_stored-append slots (bound_store c (bit_at links k) memories) (bound_stores rest (k + 1) links (bound_memory c (bit_at links k) memories)))
+          ∙ ap (kinds_stored slots) here,
       ap (bound_memories rest (k + 1) links) kept ∙ ap (λ d. bound_memories (d ∷ rest) k links memories) (sym at)
-      ∙ sym (at_drop_more (λ l. bound_memories l k links memories) coils k c lt)
+          ∙ sym (at_drop_more (λ l. bound_memories l k links memories) coils k c lt),
     )
 
 -- one more box

@@ -30,8 +30,10 @@ returns c = λ v agrees.
     let coils = c.args.coils.now in
     let links = bits_at v c.args.links.now in
     let memories = bits_at v c.loop-k.memories in
-    let end = c.loop-k-test.false in
-    (was.0, (
-      sym (at_drop_all (λ l. kinds_stored (slots_at v c.loop-k.slots) (bound_stores l k links memories)) coils k end) ∙ was.1,
-      sym (at_drop_all (λ l. bound_memories l k links memories) coils k end) ∙ was.2,
-    ))
+    let end = c.loop-k-test.false in (
+      was.0,
+      (
+        sym (at_drop_all (λ l. kinds_stored (slots_at v c.loop-k.slots) (bound_stores l k links memories)) coils k end) ∙ was.1,
+        sym (at_drop_all (λ l. bound_memories l k links memories) coils k end) ∙ was.2,
+      ),
+    )

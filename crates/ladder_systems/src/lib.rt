@@ -1,0 +1,10 @@
+//! The system of state bits that a ladder is under a setup, for certificates that a variable is never TRUE.
+#![tactic(auto)]
+
+mod opening;
+mod state_signals;
+mod system_fault;
+mod systems;
+
+pub use system_fault::SystemFault;
+pub use systems::system_of;
