@@ -1,4 +1,6 @@
-//! The steps of a scan with signals in the place of values: under each values of the variables, they leave what the steps do.
+//! The steps of a scan with signals in the place of values: whatever the variables of the gates are, the signals have the
+//! values that the steps leave. In this order: values, blocks and slots as signals, faults, what a source gives, rows that
+//! are joined, contacts, boxes, steps, and what is stored.
 #![tactic(auto)]
 
 mod boxes;
