@@ -4,7 +4,11 @@ use scan_gates::{EncodedInstance, EncodedSlot, EncodedValue};
 use std::alloc::AllocError;
 
 /// What stands at a name after a restart if one is, and else what stood there.
-fn restart_slot(gates: &mut Gates, slot: EncodedSlot, goes_on: Signal) -> Result<EncodedSlot, AllocError> {
+fn restart_slot(
+    gates: &mut Gates,
+    slot: EncodedSlot,
+    goes_on: Signal,
+) -> Result<EncodedSlot, AllocError> {
     Ok(match slot {
         EncodedSlot::Variable(EncodedValue::Bool(on)) => {
             EncodedSlot::Variable(EncodedValue::Bool(gates.and(on, goes_on)?))

@@ -12,7 +12,12 @@ use transition_systems::TransitionSystem;
 use verifying::Setup;
 
 /// A signal for each digit of a row, behind so many state bits.
-fn row_signals(alloc: Global, gates: &mut Gates, bits: usize, digits: usize) -> Result<Vec<Signal>, AllocError> {
+fn row_signals(
+    alloc: Global,
+    gates: &mut Gates,
+    bits: usize,
+    digits: usize,
+) -> Result<Vec<Signal>, AllocError> {
     let mut row = Vec::new(alloc);
     for digit in 0..digits {
         row.push(gates.input(bits + digit)?)?;
@@ -45,14 +50,16 @@ fn open(
 fn changed_number(before: &[EncodedSlot], after: &[EncodedSlot]) -> Option<usize> {
     for (place, (old, new)) in before.iter().zip(after).enumerate() {
         match (old, new) {
-            (EncodedSlot::Variable(EncodedValue::Int(a)), EncodedSlot::Variable(EncodedValue::Int(b)))
-                if a != b =>
-            {
+            (
+                EncodedSlot::Variable(EncodedValue::Int(a)),
+                EncodedSlot::Variable(EncodedValue::Int(b)),
+            ) if a != b => {
                 return Some(place);
             }
-            (EncodedSlot::Variable(EncodedValue::Time(a)), EncodedSlot::Variable(EncodedValue::Time(b)))
-                if a != b =>
-            {
+            (
+                EncodedSlot::Variable(EncodedValue::Time(a)),
+                EncodedSlot::Variable(EncodedValue::Time(b)),
+            ) if a != b => {
                 return Some(place);
             }
             _ => {}
@@ -62,7 +69,11 @@ fn changed_number(before: &[EncodedSlot], after: &[EncodedSlot]) -> Option<usize
 }
 
 /// Whether all these variables are TRUE.
-fn all_on(gates: &mut Gates, slots: &[EncodedSlot], places: &[usize]) -> Result<Signal, AllocError> {
+fn all_on(
+    gates: &mut Gates,
+    slots: &[EncodedSlot],
+    places: &[usize],
+) -> Result<Signal, AllocError> {
     let mut on = gates.constant(true);
     for place in places {
         let here = variable_on(gates, slots, *place);
@@ -72,17 +83,31 @@ fn all_on(gates: &mut Gates, slots: &[EncodedSlot], places: &[usize]) -> Result<
 }
 
 /// The system that the ladder of a setup is, where it is bad that the variable at a place is TRUE after a scan.
-pub fn system_of(alloc: Global, setup: &Setup, place: usize) -> Result<TransitionSystem, SystemFault>
+pub fn system_of(
+    alloc: Global,
+    setup: &Setup,
+    place: usize,
+) -> Result<TransitionSystem, SystemFault>
     ensures { IfOk result (IsSystemOf setup.now place) }
 {
     let ladder = setup.ladder();
     let mut gates = Gates::new(alloc)?;
-    let (mut state, bits) =
-        StateSignals::new(alloc, &mut gates, ladder.declarations(), ladder.memories())?;
+    let (mut state, bits) = StateSignals::new(
+        alloc,
+        &mut gates,
+        ladder.declarations(),
+        ladder.memories(),
+    )?;
     let row = row_signals(alloc, &mut gates, bits.len(), setup.width())?;
     let numbers = Vec::from_slice(alloc, &state.slots)?;
     open(&mut gates, setup, &row, &mut state)?;
-    encode_scan(alloc, &mut gates, ladder, &mut state.slots, &mut state.memories)?;
+    encode_scan(
+        alloc,
+        &mut gates,
+        ladder,
+        &mut state.slots,
+        &mut state.memories,
+    )?;
     if let Some(changed) = changed_number(&numbers, &state.slots) {
         return Err(SystemFault::Number(changed));
     }

@@ -13,7 +13,7 @@ pub returns : goal.returns
 returns c = λ u place t wide off system whole never rows last run on.
     never_bad Moment (ScansWith u) (Meets u) (λ s. IsOn s place) t system.before system.after (first u)
     (λ row s a b one two.
-        let same = c.one_scan.ensures u.ladder.declarations u.dt u.ladder.networks (before_scan u row (opened u row s).slots) (opened u row s).memories a.slots b.slots a.memories b.memories wide
-        one.scan two.scan in
-        ap (λ x. moment x a.memories) same.0 ∙ ap (moment b.slots) same.1)
+    let same = c.one_scan.ensures u.ladder.declarations u.dt u.ladder.networks (before_scan u row (opened u row s).slots) (opened u row s).memories a.slots b.slots a.memories b.memories wide
+    one.scan two.scan in
+    ap (λ x. moment x a.memories) same.0 ∙ ap (moment b.slots) same.1)
     (λ row s a one. one.whole ∙ sym system.rows) system.scan system.goes_on system.given system.claim whole system.first off never rows last (led u rows (first u) last run) on
