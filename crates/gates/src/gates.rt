@@ -1,23 +1,24 @@
-ghost use Rattle.std.specs.Prelude.{◌≡◌, ℕ, Bool, ◌&&◌, ◌||◌, IfOk};
-ghost use Rattle.gates.specs.Signals.{signal_value};
-ghost use Rattle.gates.specs.Gates.{Agrees, IsBuilt, IsGate};
-
+use crate::ands::{and_gate, simple_and};
 use crate::signal::Signal;
+use indexmap::IndexSet;
 use std::alloc::{AllocError, Global};
 use std::marker::Model;
 
-/// What a variable is: FALSE, an input, or TRUE where two signals are.
-#[derive(Clone, Copy, Debug)]
+/// What a variable is.
+#[derive(Clone, Copy, Debug, PartialEq, Eq, Hash)]
 pub enum Gate {
+    /// Always FALSE.
     Off,
-    Input,
+    /// An input by its number.
+    Input(usize),
+    /// TRUE where both signals are.
     And(Signal, Signal),
 }
 
-/// Gates, each with the variable of its place. The first is FALSE.
+/// Gates, each once: a gate's variable has the number of its place. The first is FALSE.
 #[derive(Drop)]
 pub struct Gates {
-    list: Vec<Gate>,
+    gates: IndexSet<Gate>,
 }
 
 impl Model for Gates {
@@ -27,63 +28,75 @@ impl Model for Gates {
 
     ghost Value = { List Gate };
 
-    ghost view = { λ g. g.list.items };
+    ghost view = { λ g. g.gates.keys };
 
-    ghost invariant = { λ g. slice_get g.list.items 0 ≡ Some Off };
+    ghost invariant = { λ g. slice_get g.gates.keys 0 ≡ Some Off };
 }
 
 impl Gates {
-    /// No inputs, and no gates.
-    pub fn new(alloc: Global) -> Result<Gates, AllocError> {
-        Ok(Gates {
-            list: vec![in alloc; Gate::Off; 1]?,
-        })
+    ghost use Rattle.std.specs.Prelude.{◌≡◌, ◌&&◌, ℕ, Bool, [], ◌∷◌, IfOk, Some, slice_get};
+    ghost use Rattle.gates.specs.declared.gates.Gate.TheVariants.{Off, Input};
+    ghost use Rattle.gates.specs.Signals.{signal_value};
+    ghost use Rattle.gates.specs.Gates.{Agrees, IsBuilt, IsGate};
+
+    /// No gate but the first.
+    pub fn new(alloc: Global) -> Result<Gates, AllocError>
+        ensures { IfOk result (λ gates. gates ≡ Off ∷ []) }
+    {
+        let mut gates = IndexSet::new(alloc);
+        gates.insert(Gate::Off)?;
+        Ok(Gates { gates })
+    }
+
+    /// The gates by the numbers of their variables.
+    pub fn gates(&self) -> &[Gate]
+        ensures { result.now ≡ self.now }
+    {
+        self.gates.as_slice()
     }
 
     /// A signal that is always TRUE, or never.
     pub fn constant(&self, on: bool) -> Signal
         ensures { (v : ℕ → Bool) → Agrees v self.now → signal_value v result ≡ on }
     {
-        let _ = &self.list;
+        // A proof learns here what the first gate is.
+        let _gates = &self.gates;
         Signal {
             variable: 0,
             is_negated: on,
         }
     }
 
-    /// A new variable at this gate.
-    fn push(&mut self, gate: Gate) -> Result<Signal, AllocError>
+    /// The signal of a gate, which is put at the end unless it is there.
+    fn put(&mut self, gate: Gate) -> Result<Signal, AllocError>
         ensures { IfOk result (λ s. IsBuilt self.old self.new (λ v. IsGate (signal_value v s) v gate)) }
     {
-        let variable = self.list.len();
-        self.list.push(gate)?;
+        let (variable, _) = self.gates.insert_full(gate)?;
         Ok(Signal {
             variable,
             is_negated: false,
         })
     }
 
-    /// A new input.
-    pub fn input(&mut self) -> Result<Signal, AllocError>
-        ensures { IfOk result (λ s. IsBuilt self.old self.new (λ v. Unit {0})) }
+    /// The signal of an input.
+    pub fn input(&mut self, number: usize) -> Result<Signal, AllocError>
+        ensures { IfOk result (λ s. IsBuilt self.old self.new (λ _. Unit {0})) }
     {
-        self.push(Gate::Input)
+        self.put(Gate::Input(number))
     }
 
-    /// A signal that is TRUE where both are.
+    /// A signal that is TRUE where both are. No gate is made where one is there, or none is needed.
     pub fn and(&mut self, left: Signal, right: Signal) -> Result<Signal, AllocError>
         ensures { IfOk result (λ s. IsBuilt self.old self.new
             (λ v. signal_value v s ≡ (signal_value v left && signal_value v right))) }
     {
-        self.push(Gate::And(left, right))
-    }
-
-    /// A signal that is TRUE where one of both is.
-    pub fn or(&mut self, left: Signal, right: Signal) -> Result<Signal, AllocError>
-        ensures { IfOk result (λ s. IsBuilt self.old self.new
-            (λ v. signal_value v s ≡ (signal_value v left || signal_value v right))) }
-    {
-        let neither = self.and(left.negated(), right.negated())?;
-        Ok(neither.negated())
+        match simple_and(left, right) {
+            Some(signal) => {
+                // A proof learns here what the first gate is.
+                let _gates = &self.gates;
+                Ok(signal)
+            }
+            None => self.put(and_gate(left, right)),
+        }
     }
 }
