@@ -11,5 +11,6 @@ pub mod TakenLines
 pub mod LiveNode
 pub mod NodeAnswers
 pub mod Syncing
+pub mod LenientNotes
 pub mod Stops
 pub mod Steps

@@ -48,7 +48,7 @@ struct Room {
 }
 
 /// Writes answers, and hands them on.
-fn hand_on<W: Write>(answers: &str, out: &mut W) -> Result<(), LiveStop>
+pub(crate) fn hand_on<W: Write>(answers: &str, out: &mut W) -> Result<(), LiveStop>
     ensures whole { OnOk result (Appends (W.contents out.old) (W.contents out.new) answers.now) }
     ensures part { IfErr result (IsUnwritten answers.now (W.contents out.old) (W.contents out.new)) }
 {
