@@ -34,7 +34,7 @@ use Rattle.live_node.specs.Stops.{IsNotedAsked, NotesPart, NotesStart, NotesUnan
 use Rattle.live_node.specs.Steps.Answering.{IsNotKeepers, NotesRestartPart, NotesUndone, NotesUnevaluated, NotesUnrisen, TellsNothing, stop_for, stop_of}
 use Rattle.live_node.specs.Steps.Sent.{all_sent}
 use Rattle.live_node.specs.TakenLines.{Takes, TakesLine, TakesWithin}
-use Rattle.live_node.proofs.Syncing.{synced_same}
+use Rattle.live_node.specs.Steps.Growing.{synced_same}
 
 -- nothing is a beginning
 pub none_sent : (text : List ℕ) (old : Option (List ℕ)) → SendsPart text old old

@@ -21,10 +21,11 @@ use Rattle.live_node.specs.Keeping.{HasNotFailed}
 use Rattle.live_node.specs.Stops.{IsNodes, LeavesLine, LeavesUntold, NotesPart, NotesUnanswered, ReadsNoLine, StopsNode, StopsTogether, StopsWithin}
 use Rattle.live_node.specs.Syncing.{Grows}
 use Rattle.live_node.specs.Steps.Answering.{HasAnsweredNext, IsUnwritten}
+use Rattle.live_node.specs.Steps.Growing.{grows_trans, keeps_grow, synced_same}
+use Rattle.live_node.specs.Steps.Unanswered.{unanswered_noted}
 use Rattle.live_node.specs.Steps.Together.{HasAnsweredTogether, HasDone, Stands, StandsAtEnd, StopsAtThem, StopsBehindDone, told_cause}
 use Rattle.live_node.proofs.Standing.{fed_each, lines_answered, more_written, read_fed, stands_ended, stands_first}
 use Rattle.live_node.proofs.Stopping.{stops_endless}
-use Rattle.live_node.proofs.Syncing.{appends_grow, grows_trans, keeps_grow, part_grows, synced_same}
 
 -- these lines and those
 whole_both : (lines more : List (List ℕ)) → AllByRecursion HasNoFeed lines → AllByRecursion HasNoFeed more → AllByRecursion HasNoFeed (lines ++ more)
@@ -130,16 +131,6 @@ pub told_done : (raising : Raising) (old new : NodeValue) (given left noted_old 
 told_done raising old new given left noted_old noted_new from to waiting true d h = (d.0, stands_written raising old new d.0 given left noted_old noted_new from to waiting d.1 h)
 told_done raising old new given left noted_old noted_new from to waiting false d h =
     at_end raising old d.mid new d.lines given d.now left noted_old d.noted noted_new d.written from to waiting d.stands d.last h
-
--- what was noted of a line at which a node stopped stands behind what was noted before
-part_noted : (raising : Raising) (s : NodeValue) (line : List ℕ) (old new : Option (List ℕ)) → NotesPart raising s line old new → Grows old new
-part_noted raising s line old new h = part_grows h.0 old new h.2
-
-unanswered_noted : (raising : Raising) (s : NodeValue) (line : List ℕ) (why : NodeStop) (old new : Option (List ℕ)) → NotesUnanswered raising s line why old new → Grows old new
-unanswered_noted raising s line (ends.Keeper f) old new h = appends_grow old new _ h.1.noted
-unanswered_noted raising s line ends.Note old new h = part_noted raising s line old new h
-unanswered_noted raising s line ends.Memory old new (inl h) = keeps_grow old new h
-unanswered_noted raising s line ends.Memory old new (inr h) = part_noted raising s line old new h
 
 line_noted : (raising : Raising) (s : NodeValue) (stop : LiveStop) (line : List ℕ) (old new : Option (List ℕ)) → LeavesLine raising s stop line old new → Grows old new
 line_noted raising s (Node why) line old new h = unanswered_noted raising s line why old new h.1

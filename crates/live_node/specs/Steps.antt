@@ -2,6 +2,8 @@
 -- believe them.
 pub mod Reading
 pub mod Answering
+pub mod Growing
+pub mod Unanswered
 pub mod ByOne
 pub mod LineTaking
 pub mod Keeping

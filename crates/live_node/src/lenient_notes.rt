@@ -2,8 +2,8 @@ ghost use Rattle.std.specs.Prelude.{◌≡◌, ◌≢◌, None, OnOk, OnErr};
 ghost use Rattle.live_node.specs.LenientNotes.{NotesOrGivesUp, SyncsOrGivesUp, TellsGivenUp};
 ghost use Rattle.live_node.specs.declared.lenient_notes.Noting.TheVariants as noting;
 
-use crate::notes::{NoteFault, Notes};
 use crate::answering::hand_on;
+use crate::notes::{NoteFault, Notes};
 use std::io::Write;
 
 /// What is noted.

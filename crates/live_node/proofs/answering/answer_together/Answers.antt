@@ -9,7 +9,7 @@ use Rattle.live_node.specs.NodeValue.{NodeValue}
 use Rattle.live_node.specs.NodeAnswers.{a_keeper_gives}
 use Rattle.live_node.specs.Stops.{LeavesUntold}
 use Rattle.live_node.specs.Steps.Together.{HasAnsweredTogether, StopsAtThem}
-use Rattle.live_node.proofs.Syncing.{all_synced, grows_trans}
+use Rattle.live_node.specs.Steps.Growing.{all_synced, grows_trans}
 use Rattle.live_node.proofs.Together.{stop_after, told_done, unfailed_before, untold_done}
 use Rattle.live_node.proofs.answering.answer_together.Goals as goal
 

@@ -7,7 +7,8 @@ use Rattle.live_node.specs.Keeping.{KeepsAllButOne, KeepsCore}
 use Rattle.live_node.specs.NodeAnswers.{keeper_gives}
 use Rattle.live_node.specs.declared.node_stop.NodeStop.TheVariants.{Memory}
 use Rattle.live_node.specs.Stops.{NotesUnanswered}
-use Rattle.live_node.proofs.Noted.{held_answer, unheld}
+use Rattle.live_node.specs.Steps.Unanswered.{unheld}
+use Rattle.live_node.proofs.Noted.{held_answer}
 use Rattle.live_node.proofs.Outliving.{all_but_one}
 use Rattle.live_node.proofs.answering.do_line.Goals as goal
 

@@ -9,7 +9,7 @@ use Rattle.live_node.specs.Steps.Answering.{HasAnsweredNext}
 use Rattle.live_node.specs.Steps.Together.{Stands, StopsBehindDone}
 use Rattle.live_node.proofs.Outliving.{same_failure}
 use Rattle.live_node.proofs.Standing.{stands_first, stands_next}
-use Rattle.live_node.proofs.Syncing.{grows_refl, grows_trans}
+use Rattle.live_node.specs.Steps.Growing.{grows_refl, grows_trans}
 use Rattle.live_node.proofs.answering.do_those_at_hand.Goals as goal
 
 pub loop-init : goal.loop-init

@@ -9,7 +9,8 @@ use Rattle.live_node.specs.NodeValue.{NodeValue}
 use Rattle.live_node.specs.Stops.{NotesUnanswered}
 use Rattle.live_node.proofs.Noted.{answered_then, synced_then, unsynced}
 use Rattle.live_node.proofs.Outliving.{all_but_one}
-use Rattle.live_node.proofs.Syncing.{grows_trans, synced_later}
+use Rattle.live_node.specs.Steps.Growing.{grows_trans}
+use Rattle.live_node.proofs.Syncing.{synced_later}
 use Rattle.live_node.proofs.node.Node.answer.Goals as goal
 
 pub returns-in_err-do_line-clause-stopped : goal.returns-in_err-do_line-clause-stopped

@@ -9,7 +9,8 @@ use Rattle.live_node.specs.NodeValue.{NodeValue}
 use Rattle.live_node.proofs.Telling.{evaluated_answer}
 use Rattle.live_node.specs.Steps.Sent.{all_sent}
 use Rattle.live_node.proofs.Stopping.{none_unevaluated, noted_then, part_unevaluated, unkept}
-use Rattle.live_node.proofs.Syncing.{asked_first, grows_trans, same_first}
+use Rattle.live_node.specs.Steps.Growing.{grows_trans}
+use Rattle.live_node.proofs.Syncing.{asked_first, same_first}
 use Rattle.live_node.proofs.Outliving.{all_but_one, unchanged_rest, evaluated_keeps, evaluated_rest, made_rest}
 use Rattle.live_node.proofs.node.Node.answer_evaluate.Goals as goal
 

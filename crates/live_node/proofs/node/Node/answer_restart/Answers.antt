@@ -5,7 +5,8 @@ use Rattle.live_node.specs.NodeAnswers.{keeper_gives}
 use Rattle.live_node.proofs.Stopping.{none_unrisen, restart_unrisen, unraised_unrisen}
 use Rattle.live_node.proofs.Telling.{refused_raise, on_ok}
 use Rattle.live_node.proofs.Outliving.{keeps_alike, restart_keeps, alike_same}
-use Rattle.live_node.proofs.Syncing.{grows_refl, raised_first}
+use Rattle.live_node.specs.Steps.Growing.{grows_refl}
+use Rattle.live_node.proofs.Syncing.{raised_first}
 use Rattle.live_node.proofs.node.Node.answer_restart.Goals as goal
 
 pub returns-in_err-push_refused-clause-stopped : goal.returns-in_err-push_refused-clause-stopped
