@@ -19,6 +19,8 @@ use Rattle.console.specs.declared.request.Strictness.{Strictness}
 use Rattle.console.specs.declared.request.Strictness.TheVariants.{Told, Strict, Silent}
 use Rattle.console.specs.declared.request.Restarts.{Restarts}
 use Rattle.console.specs.declared.request.Restarts.TheVariants.{Unsaid, Asked, LeftOut}
+use Rattle.console.specs.declared.request.JournalFull.{JournalFull}
+use Rattle.console.specs.declared.request.JournalFull.TheVariants.{Stop, GoOn}
 use Rattle.console.specs.declared.request.Pace.{Pace}
 use Rattle.console.specs.declared.request.Pace.TheVariants.{Free, Paced, Clock}
 use Rattle.console.specs.declared.request.TraceFiles.{TraceFiles}
@@ -71,6 +73,10 @@ state_rule = option_of (codes "state")
 -- an option `--journal FILE`
 abbrev pub journal_rule : Rule
 journal_rule = option_of (codes "journal")
+
+-- an option `--journal-full HOW`
+abbrev pub journal_full_rule : Rule
+journal_full_rule = option_of (codes "journal-full")
 
 -- a flag `--id`
 abbrev pub flag_of : Text → Rule
@@ -215,12 +221,12 @@ paced_app =
 abbrev pub run_app : App
 run_app = with_rule (traced paced_app) words_rule
 
--- `node PLANT RESOURCE [--cycle] [--field FILE] [--until MS] [--state DIR] [--journal FILE]`
+-- `node PLANT RESOURCE [--cycle] [--field FILE] [--until MS] [--state DIR] [--journal FILE] [--journal-full HOW]`
 abbrev pub node_app : App
 node_app =
     let resource = with_rule (with_rule (new_app (codes "node")) plant_rule) resource_rule in
     let until = with_rule (with_rule (with_rule resource cycle_rule) node_field_rule) end_rule in
-    with_rule (with_rule until state_rule) journal_rule
+    with_rule (with_rule (with_rule until state_rule) journal_rule) journal_full_rule
 
 -- the names of journals, one or more
 abbrev pub journals_rule : Rule
@@ -360,6 +366,22 @@ GivesEnd found end =
     GivesOption (first_of (codes "until") found) end
     × MayEnd (is_given (codes "cycle") found) (first_of (codes "field") found) end
 
+-- the word behind `--journal-full`; where there is none it is `stop`
+abbrev pub GivesFull : Option (List ℕ) → JournalFull → Type 0
+GivesFull word Stop = (word ≡ None) ⊎ (word ≡ Some (codes "stop"))
+GivesFull word GoOn = word ≡ Some (codes "go-on")
+
+-- it needs `--journal`
+abbrev pub NeedsJournal : Option Text → Option Text → Type 0
+NeedsJournal None journal = Unit {0}
+NeedsJournal (Some word) journal = journal ≡ None → ⊥
+
+-- what is done where a node's journal can't be written, by the word behind `--journal-full`, where it may be given
+abbrev pub GivesJournalFull : List Row → JournalFull → Type 0
+GivesJournalFull found full =
+    GivesFull (first_of (codes "journal-full") found) full
+    × NeedsJournal (first_of (codes "journal-full") found) (first_of (codes "journal") found)
+
 -- the word behind `--color`; where there is none it is `auto`
 abbrev pub GivesColor : Option (List ℕ) → Color → Type 0
 GivesColor word Always = word ≡ Some (codes "always")
@@ -428,6 +450,7 @@ Asks found (Node node) =
     × (option_map (λ f. f.now) node.field ≡ first_of (codes "field") found) × GivesEnd found node.until
     × (option_map (λ d. d.now) node.state ≡ first_of (codes "state") found)
     × (option_map (λ f. f.now) node.journal ≡ first_of (codes "journal") found)
+    × GivesJournalFull found node.journal_full
 Asks found (Page file) = file.now ≡ given_word (codes "FILE") found
 Asks found (Explain kind) = option_map (λ k. k.now) kind ≡ first_of (codes "KIND") found
 Asks found (Audit audit) =

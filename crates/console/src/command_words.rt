@@ -4,12 +4,12 @@ ghost use Rattle.std.specs.Str.Parse.{digits_value};
 ghost use Rattle.clap.specs.Words.{rows_of, found_of, first_of, subcommand_of};
 ghost use Rattle.clap.specs.Takes.{takes};
 ghost use Rattle.text_commands.specs.Restarts.{AreRestarts};
-ghost use Rattle.console.specs.CommandLine.{plc_app, IsNumber, GivesNumber, GivesOption, AsksFiles, AsksFor, OnlyMemoryRefuses, given_word, words_given, claims_given, premises_given, restart_words, journals_given, is_given, GivesOneOf, GivesView, GivesColor, GivesStrictness, GivesRestarts, GivesPace, GivesEnd, plan_form};
+ghost use Rattle.console.specs.CommandLine.{plc_app, IsNumber, GivesNumber, GivesOption, AsksFiles, AsksFor, OnlyMemoryRefuses, given_word, words_given, claims_given, premises_given, restart_words, journals_given, is_given, GivesOneOf, GivesView, GivesColor, GivesStrictness, GivesRestarts, GivesPace, GivesEnd, GivesFull, GivesJournalFull, plan_form};
 
 use crate::commands::commands;
 use crate::request::{
-    AuditRequest, Color, NodeRequest, Pace, Request, Restarts, RunRequest, SimRequest, Strictness,
-    TextRequest, TraceFiles, VerifyRequest, View,
+    AuditRequest, Color, JournalFull, NodeRequest, Pace, Request, Restarts, RunRequest, SimRequest,
+    Strictness, TextRequest, TraceFiles, VerifyRequest, View,
 };
 use clap::error::ErrorKind;
 use clap::{ArgMatches, Command, Error};
@@ -445,6 +445,42 @@ fn end_of<'a>(command: &mut Command<'a>, matches: &ArgMatches<'a>) -> Result<Opt
     )?)
 }
 
+/// What a node does whose journal can't be written, by the word behind `--journal-full`.
+fn full_of<'a>(command: &mut Command<'a>, word: Option<&'a str>) -> Result<JournalFull, Error>
+    ensures ok { IfOk result (GivesFull (option_map (λ w. w.now) word.entry)) }
+    ensures refused { IfErr result (OnlyMemoryRefuses (GivesFull (option_map (λ w. w.now) word.entry))) }
+{
+    match word {
+        None | Some("stop") => Ok(JournalFull::Stop),
+        Some("go-on") => Ok(JournalFull::GoOn),
+        Some(_) => {
+            Err(command.error(
+                ErrorKind::InvalidValue,
+                "HOW of --journal-full is stop or go-on",
+            )?)
+        }
+    }
+}
+
+/// What a node does whose journal can't be written, where that is given: it needs `--journal`.
+fn journal_full_of<'a>(
+    command: &mut Command<'a>,
+    matches: &ArgMatches<'a>,
+) -> Result<JournalFull, Error>
+    ensures ok { IfOk result (GivesJournalFull (rows_of (found_of matches.now))) }
+    ensures refused { IfErr result (OnlyMemoryRefuses (GivesJournalFull (rows_of (found_of matches.now)))) }
+{
+    let word = word_of(matches, "journal-full");
+    let full = full_of(command, word)?;
+    if word.is_none() || word_of(matches, "journal").is_some() {
+        return Ok(full);
+    }
+    Err(command.error(
+        ErrorKind::MissingRequiredArgument,
+        "--journal-full needs --journal",
+    )?)
+}
+
 fn node_request<'a>(command: &mut Command<'a>, inner: &ArgMatches<'a>) -> Result<Request<'a>, Error>
     ensures ok { IfOk result (AsksFor (Some (codes "node", rows_of (found_of inner.now)))) }
     ensures refused { IfErr result (OnlyMemoryRefuses (AsksFor (Some (codes "node", rows_of (found_of inner.now))))) }
@@ -457,6 +493,7 @@ fn node_request<'a>(command: &mut Command<'a>, inner: &ArgMatches<'a>) -> Result
         until: end_of(command, inner)?,
         state: word_of(inner, "state"),
         journal: word_of(inner, "journal"),
+        journal_full: journal_full_of(command, inner)?,
     }))
 }
 

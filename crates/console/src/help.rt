@@ -269,7 +269,8 @@ With --state DIR the resource counts its incarnations in DIR/NAME.inc, one more 
 keeps what stands in VAR RETAIN in DIR/NAME.K.ret; without it the incarnation is 1: for one life alone. With --journal FILE
 each EVAL, each RESTART, each MESSAGE that is taken and each HELLO that is new is noted at the end of FILE, which is new or a
 journal, and on the disk, before it is done; plc audit reads these files. A second node doesn't use the same DIR or FILE
-meanwhile.
+meanwhile. Where FILE can't be written the node ends; with --journal-full go-on it writes UNNOTED once, before what it answers
+then, and goes on without noting.
 
 Example:
 

@@ -44,8 +44,8 @@ pub use refusals::{
     WordRefusal, write_difference_line, write_no_event, write_refusal, write_word_refusal,
 };
 pub use request::{
-    AuditRequest, Color, NodeRequest, Pace, Request, Restarts, RunRequest, SimRequest, Strictness,
-    TextRequest, TraceFiles, VerifyRequest, View,
+    AuditRequest, Color, JournalFull, NodeRequest, Pace, Request, Restarts, RunRequest, SimRequest,
+    Strictness, TextRequest, TraceFiles, VerifyRequest, View,
 };
 pub use schedules::{answer_schedule, obey_lines, obey_schedule};
 pub use status::FAILED;

@@ -219,8 +219,18 @@ pub struct RunRequest<'a> {
     pub words: Vec<&'a str>,
 }
 
+/// What a node does whose journal can't be written, or brought to the disk.
+#[derive(Clone, Copy, Debug, PartialEq, Eq)]
+pub enum JournalFull {
+    /// It ends.
+    Stop,
+    /// It tells it, and goes on without noting.
+    GoOn,
+}
+
 /// One resource of a plant, of this name, as a node of its own, which answers the lines of standard input. The folder
-/// `state` keeps its incarnation; without it that is 1. It notes what it does in the file `journal`, if one is given.
+/// `state` keeps its incarnation; without it that is 1. It notes what it does in the file `journal`, if one is given; where
+/// that can't be written it does as `journal_full` says.
 #[derive(Clone, Copy)]
 pub struct NodeRequest<'a> {
     pub plant: &'a str,
@@ -233,6 +243,7 @@ pub struct NodeRequest<'a> {
     pub until: Option<u32>,
     pub state: Option<&'a str>,
     pub journal: Option<&'a str>,
+    pub journal_full: JournalFull,
 }
 
 /// What is shown of the journals of a plant's nodes.

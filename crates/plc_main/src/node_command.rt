@@ -11,10 +11,11 @@ ghost use Rattle.plc_main.specs.NodeCommand.{RunsNode, StopsRunning};
 use crate::journal_head::begins_as_journal;
 use crate::running_alone::{Inputs, is_alone, run_alone};
 use crate::{keeper_in, print_lock_fault, print_no_folder, print_resource_faults};
-use console::{FAILED, NodeRequest, PreparedNode, prepare_node};
+use console::{FAILED, JournalFull, NodeRequest, PreparedNode, prepare_node};
 use keepers::{Keeper, MemoryKeeper, ResourceLock};
 use live_node::{
-    FileNotes, JournalFault, LinesAtHand, LiveStop, NoNotes, Node, NodeStop, Notes, live,
+    FileNotes, JournalFault, LenientNotes, LinesAtHand, LiveStop, NoNotes, Node, NodeStop, Notes,
+    live,
 };
 use node_loop::{LoopStop, NoClock, ReaderEnds};
 use std::alloc::{AllocError, Global};
@@ -186,6 +187,31 @@ fn is_another_text(host: &HostRuntime, path: &str) -> bool {
     }
 }
 
+/// Runs a node with its journal; where that can't be written, the node ends, or tells it and goes on, as is asked.
+fn run_journaled<
+    R: Clock + Input + Print + AllocGlobal + Wait,
+    K: Keeper,
+    S: FnOnce(Inputs, ReaderEnds) -> bool,
+>(
+    rt: &R,
+    request: &NodeRequest<'_>,
+    prepared: PreparedNode,
+    keeper: K,
+    journal: FileNotes,
+    readers: S,
+) -> Result<(), NodeFault>
+    requires exists { prepared.resource < length prepared.plant.value.resources }
+    requires readers { (inputs : _) → (ends : _) → S.pre readers inputs ends }
+{
+    match request.journal_full {
+        JournalFull::Stop => run_with(rt, request, prepared, keeper, journal, readers),
+        JournalFull::GoOn => {
+            let notes = LenientNotes::new(journal, io::writer(rt));
+            run_with(rt, request, prepared, keeper, notes, readers)
+        }
+    }
+}
+
 /// Runs a node that notes to the journal that was asked for, if one was.
 fn run_noting<
     R: Clock + Input + Print + AllocGlobal + Wait,
@@ -209,7 +235,7 @@ fn run_noting<
         return Err(NodeFault::NoJournal);
     }
     match FileNotes::open(host, journal) {
-        Ok(notes) => run_with(rt, request, prepared, keeper, notes, readers),
+        Ok(notes) => run_journaled(rt, request, prepared, keeper, notes, readers),
         Err(fault) => Err(NodeFault::Journal(fault)),
     }
 }

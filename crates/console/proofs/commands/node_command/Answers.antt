@@ -14,4 +14,5 @@ returns c =
     let four = c.in_ok-arg-4.ensures.shape c.node_field_arg.ensures.local ∙ ap₂ with_rule three c.node_field_arg.ensures.rule in
     let five = c.in_ok-arg-5.ensures.shape c.end_arg.ensures.local ∙ ap₂ with_rule four c.end_arg.ensures.rule in
     let six = c.in_ok-arg-6.ensures.shape c.state_arg.ensures.local ∙ ap₂ with_rule five c.state_arg.ensures.rule in
-    IfOk-weaker c.arg-7.result _ _ (λ new added. added.shape c.journal_arg.ensures.local ∙ ap₂ with_rule six c.journal_arg.ensures.rule) c.arg-7.ensures
+    let seven = c.in_ok-arg-7.ensures.shape c.journal_arg.ensures.local ∙ ap₂ with_rule six c.journal_arg.ensures.rule in
+    IfOk-weaker c.arg-8.result _ _ (λ new added. added.shape c.journal_full_arg.ensures.local ∙ ap₂ with_rule seven c.journal_full_arg.ensures.rule) c.arg-8.ensures
