@@ -4,7 +4,8 @@ and carries its lines over one connection to a broker (MQTT).
 
 A line SEND R LINE is published as plc/R/NAME, and what comes as plc/NAME/MAKER is written to the node's standard input, if it is one
 line, and that maker's own MESSAGE or HELLO: all else is dropped. Who may write as which maker is the broker's to say, by its access
-list. Of what else the node writes, START, OVERRUN, FIELD, RESTART and REFUSED go to standard output. The status is the node's.
+list. Of what else the node writes, START, OVERRUN, FIELD, RESTART, REFUSED
+and UNNOTED go to standard output. The status is the node's.
 
 Nothing is kept for whoever is away, here or at the broker (quality of service 0, no session): a node's next message stands in for
 those that were lost, and what is addressed to a former incarnation is answered by a HELLO. Where the broker is away the node goes
@@ -19,7 +20,7 @@ import sys
 
 import paho.mqtt.client as mqtt
 
-TOLD = re.compile(b"(START|OVERRUN|FIELD|RESTART|REFUSED) ")
+TOLD = re.compile(b"(START|OVERRUN|FIELD|RESTART|REFUSED) |UNNOTED$")
 
 
 def is_own(maker, line):
