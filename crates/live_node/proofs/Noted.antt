@@ -1,23 +1,12 @@
 -- A line that is answered is noted whole, or changes nothing.
-use Rattle.std.proofs.Common.{◌≡◌, ◌⊎◌, Result, Ok, Err, IfErr, OnOk, inl, inr, ℕ, ◌++◌, ◌∙◌, true, false, Bool, List, [], Option, Some, None, sym, ap, subst, arith}
-use Rattle.std.specs.Prelude.{is_some}
-use Rattle.std.specs.Io.KnownBytes.{Appends}
-use Rattle.evaluation.specs.Messages.{MessageValue}
-use Rattle.exchange_core.specs.declared.accepted.Accepted.{Accepted}
-use Rattle.exchange_core.specs.declared.accepted.Accepted.TheVariants.{Taken, Old, Unused, Stray}
-use Rattle.live_node.specs.declared.node_line.NodeLine.{NodeLine}
-use Rattle.live_node.specs.declared.node_line.NodeLine.TheVariants.{Idle, Evaluate, Take, Hello, Restart}
-use Rattle.live_node.specs.NodeJournal.{restart_note}
-use Rattle.live_node.specs.NodeLines.{Spells}
+use Rattle.std.proofs.Common.{◌≡◌, ◌⊎◌, Result, Ok, Err, IfErr, OnOk, inl, inr, ℕ, ◌++◌, ◌∙◌, List, [], Option, sym, ap, subst, arith}
 use Rattle.live_node.specs.NodeValue.{NodeValue}
-use Rattle.live_node.specs.NodeSteps.{CanBeHeard}
-use Rattle.live_node.specs.NodeAnswers.{Raising, Answers, AnswersAsked, DoesHello, DoesMessage, IsAnswered, IsAsking}
+use Rattle.live_node.specs.NodeAnswers.{Raising, IsAnswered}
 use Rattle.live_node.specs.declared.node_stop.NodeStop.{NodeStop}
 use Rattle.live_node.specs.declared.node_stop.NodeStop.TheVariants as ends
 use Rattle.live_node.specs.Stops.{IsNoteOf, NotesPart, NotesUnanswered}
 use Rattle.live_node.specs.Steps.Sent.{all_sent}
 use Rattle.live_node.specs.Steps.Unanswered.{noted_or_same}
-use Rattle.live_node.specs.TooHigh.{is_too_high}
 use Rattle.live_node.specs.Syncing.{IsIdleOrDone}
 
 -- where it changed something, its note was begun

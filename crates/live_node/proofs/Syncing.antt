@@ -1,7 +1,5 @@
 -- What is known only grows.
-use Rattle.std.proofs.Common.{◌≡◌, inl, inr, ℕ, ◌++◌, List, [], Option, Some, None, sym, ap, ◌∙◌, subst, append_assoc, append-nil, take}
-use Rattle.std.specs.Io.KnownBytes.{Appends, Keeps}
-use Rattle.text_lines.specs.Sending.{SendsPart}
+use Rattle.std.proofs.Common.{◌≡◌, inl, inr, ℕ, List, Option, sym, subst}
 use Rattle.keepers.specs.Keepers.{Telling, TellsNoMore}
 use Rattle.live_node.specs.Syncing.{Grows, IsNotedFirst}
 use Rattle.live_node.specs.Steps.Growing.{grows_trans, synced_same}

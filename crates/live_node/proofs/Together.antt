@@ -18,7 +18,7 @@ use Rattle.live_node.specs.NodeValue.{NodeValue}
 use Rattle.live_node.specs.NodeAnswers.{Raising}
 use Rattle.live_node.specs.LiveNode.{HaveAnswered, WritesNode}
 use Rattle.live_node.specs.Keeping.{HasNotFailed}
-use Rattle.live_node.specs.Stops.{IsNodes, LeavesLine, LeavesUntold, NotesPart, NotesUnanswered, ReadsNoLine, StopsNode, StopsTogether, StopsWithin}
+use Rattle.live_node.specs.Stops.{IsNodes, LeavesLine, LeavesUntold, ReadsNoLine, StopsNode, StopsTogether, StopsWithin}
 use Rattle.live_node.specs.Syncing.{Grows}
 use Rattle.live_node.specs.Steps.Answering.{HasAnsweredNext, IsUnwritten}
 use Rattle.live_node.specs.Steps.Growing.{grows_trans, keeps_grow, synced_same}
