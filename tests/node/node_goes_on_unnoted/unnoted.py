@@ -20,7 +20,7 @@ told = []
 
 def noted_of(lines):
     """What is noted at the start, and of each line."""
-    notes = [""if line.startswith("INPUT") else f"{line}{' 2' * line.startswith('RESTART')};\n" for line in lines]
+    notes = ["" if line.startswith("INPUT") else f"{line}{' 2' * line.startswith('RESTART')};\n" for line in lines]
     return ["\nSTART R1 1;\n", *notes]
 
 
@@ -126,16 +126,15 @@ def try_audit(limit, lines, whole, first):
     with open("R1.journal", "w", encoding="ascii") as file:
         file.write(text.removesuffix("START R1 1;\n") or text)
     ran = run([PLC, "audit", "pair.plant", "R1.journal", "R2.journal"])
-    shown = made(ran.stdout)
+    shown = [line for line in made(ran.stdout) if line.startswith("R1.")]
+    answered, promised = made("".join(whole)), made(noted)
     *rest, last = [line for line in ran.stdout.splitlines() if not line.startswith("EVAL ")]
-    # A whole line without its line feed is noted too.
-    is_shown = shown[: len(made(noted))] == made(noted) and not set(shown) - set(made("".join(whole)) + ["R2.SLOW"]) - {
-        it for it in shown if it.startswith("R2.")
-    }
-    if not is_shown or last != ("REPLAY of what is shown equal" if rest else "REPLAY equal"):
+    # (one more is shown where all of its note but the line feed had room)
+    if shown not in (promised, answered[: len(promised) + 1]) or last != ("REPLAY of what is shown equal" if rest else "REPLAY equal"):
         told.append(f"{limit} bytes: {ran.stdout!r} shows not {noted!r}")
-    if first != NEVER and first > 0 and not any(line.startswith(("UNSHOWN R2.journal", "NOJOURNAL")) for line in rest):
-        told.append(f"{limit} bytes: nothing is missing in {ran.stdout!r}")
+    is_missing = any(line.startswith(("UNSHOWN R2.journal", "NOJOURNAL")) for line in rest)
+    if limit > 0 and is_missing != (shown != answered):
+        told.append(f"{limit} bytes: {ran.stdout!r}")
     os.remove("R2.journal")
 
 
