@@ -44,7 +44,10 @@
     const waves = all(node, ".variable").map((it) => [it.dataset.name, it.querySelector(".wave").getAttribute("d"), all(it, ".value").map((text) => text.textContent)]);
     const cursor = node.querySelector(".cursor");
     const cut = all(node, ".track .name").filter((it) => it.scrollWidth > it.clientWidth + 1 && it.clientWidth > 0).map((it) => it.textContent);
-    return { names, waves, cursor: Number(cursor.getAttribute("x")), width: Number(cursor.getAttribute("width")), cut };
+    const [layer, width] = [node.querySelector("svg.waves"), Number(cursor.getAttribute("width"))];
+    const first = Math.round(parseFloat(layer.style.left) / width);
+    const last = first + Math.round((Number(layer.getAttribute("width")) - 2) / width);
+    return { names, waves, cursor: Number(cursor.getAttribute("x")), width, first, last, room: node.clientWidth - node.querySelector(".names").offsetWidth, cut };
   }
 
   function lanes(node) {

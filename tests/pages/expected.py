@@ -77,25 +77,27 @@ def number_of(value):
 
 
 def timing_differences(rows, drawn, scan):
-    """Each variable with its value in the scan shown, and a line whose height rises and falls as its values do."""
+    """Each variable with its value in the scan shown, and a line whose height rises and falls as its values do, over the scans in view."""
     names = names_of(rows[0])
     yield from differs(f"values of scan {scan + 1}", list(zip(names, values_of(rows[scan]))), [tuple(it) for it in drawn["names"]])
     if drawn["cut"]:
         yield f"names are cut: {drawn['cut']}"
-    unit = drawn["width"]
+    unit, first, last = drawn["width"], drawn["first"], drawn["last"]
+    if not first <= scan < last or (last - first) * unit < min(len(rows) * unit, drawn["room"]):
+        yield f"scans {first + 1} to {last} are drawn, {scan + 1} is shown"
     for k, (name, wave, _) in enumerate(drawn["waves"]):
         values = [number_of(values_of(row)[k]) for row in rows]
         least, most = min(0, *values), max(min(0, *values) + 1, *values)
-        levels = levels_of(wave, unit, len(rows))
+        levels = levels_of(wave, unit, last - first)
         if name != names[k] or levels is None:
-            yield f"the line of {names[k]} isn't over all scans"
+            yield f"the line of {names[k]} isn't over all scans in view"
             continue
         bottom = 34 * (k + 1) + 34 - 7
-        wanted = [bottom - (value - least) / (most - least) * 19 for value in values]
-        off = [scan + 1 for scan, (one, two) in enumerate(zip(wanted, levels)) if abs(one - two) > 0.6]
+        wanted = [bottom - (value - least) / (most - least) * 19 for value in values[first:last]]
+        off = [first + scan + 1 for scan, (one, two) in enumerate(zip(wanted, levels)) if abs(one - two) > 0.6]
         if off:
             yield f"the line of {name} is off in scans {off[:5]}"
-    if abs(drawn["cursor"] - scan * unit) > 1:
+    if abs(drawn["cursor"] - (scan - first) * unit) > 1:
         yield f"the line at scan {scan + 1} stands elsewhere"
 
 

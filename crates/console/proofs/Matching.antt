@@ -23,7 +23,7 @@ use Rattle.console.specs.declared.request.Restarts.{Restarts}
 use Rattle.console.specs.declared.request.Request.{Request}
 use Rattle.console.specs.declared.request.Request.TheVariants.{Text as OfText, Verify, Sim, Run, Node, Explain, Audit, Page}
 use Rattle.text_commands.specs.Restarts.{AreRestarts}
-use Rattle.console.specs.CommandLine.{AsksFor, AsksSecond, GivesColor, GivesEnd, GivesJournalFull, GivesNumber, GivesOption, GivesPace, GivesRestarts, GivesStrictness, GivesView, IsNumber, OnlyMemoryRefuses, is_given, plc_app, restart_words}
+use Rattle.console.specs.CommandLine.{AsksFor, AsksSecond, GivesColor, GivesEnd, GivesJournalFull, GivesJournalSize, GivesNumber, GivesOption, GivesPace, GivesRestarts, GivesStrictness, GivesView, IsNumber, OnlyMemoryRefuses, is_given, plc_app, restart_words}
 
 -- a plus is no digit
 pub plus_is_none : (text : List ℕ) → (slice_index text 0 == 43) ≡ true → IsNumber text → ⊥
@@ -213,14 +213,15 @@ run_parts found (Page file) asked = absurd (unlike (codes "run") (codes "page") 
 
 -- what `node` gives by its options
 pub node_parts : (found : List Row) (r : Request) → AsksFor (Some (codes "node", found)) r
-    → (end : Option ℕ) × (full : JournalFull) × GivesEnd found end × GivesJournalFull found full
+    → (end : Option ℕ) × (full : JournalFull) × (size : Option ℕ) × GivesEnd found end × GivesJournalFull found full
+    × GivesJournalSize found size
 node_parts found (OfText (Eval drawing dt view color files strictness words program restarts second)) asked = absurd (unlike (codes "node") (codes "eval") refl refl asked.0)
 node_parts found (OfText (Check plant strictness)) asked = absurd (unlike (codes "node") (codes "check") refl refl asked.0)
 node_parts found (OfText (Plan plant until form)) asked = absurd (unlike (codes "node") (codes "plan") refl refl asked.0)
 node_parts found (Verify verify) asked = absurd (unlike (codes "node") (codes "verify") refl refl asked.0)
 node_parts found (Sim sim) asked = absurd (unlike (codes "node") (codes "sim") refl refl asked.0)
 node_parts found (Run run) asked = absurd (unlike (codes "node") (codes "run") refl refl asked.0)
-node_parts found (Node node) asked = (node.until, node.journal_full, asked.1.4, asked.1.7)
+node_parts found (Node node) asked = (node.until, node.journal_full, node.journal_size, asked.1.4, asked.1.7, asked.1.8)
 node_parts found (Explain kind) asked = absurd (unlike (codes "node") (codes "explain") refl refl asked.0)
 node_parts found (Audit audit) asked = absurd (unlike (codes "node") (codes "audit") refl refl asked.0)
 node_parts found (Page file) asked = absurd (unlike (codes "node") (codes "page") refl refl asked.0)

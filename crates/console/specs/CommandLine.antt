@@ -1,5 +1,5 @@
 -- What the words of the command line ask for.
-use Rattle.std.specs.Prelude.{◌≡◌, ℕ, ◌^◌, ◌<◌, ◌⊎◌, List, [], Option, Some, None, Bool, true, false, bytes_eq, codes, map, unwrap_or}
+use Rattle.std.specs.Prelude.{◌≡◌, ℕ, ◌^◌, ◌<◌, ◌≤◌, ◌⊎◌, List, [], Option, Some, None, Bool, true, false, bytes_eq, codes, map, unwrap_or}
 use Rattle.std.specs.Borrow.{Bor}
 use Rattle.std.specs.Option.{option_map, option_map_or}
 use Rattle.std.specs.Str.Parse.{IsNumeral, digits_value}
@@ -77,6 +77,10 @@ journal_rule = option_of (codes "journal")
 -- an option `--journal-full HOW`
 abbrev pub journal_full_rule : Rule
 journal_full_rule = option_of (codes "journal-full")
+
+-- an option `--journal-size N`
+abbrev pub journal_size_rule : Rule
+journal_size_rule = option_of (codes "journal-size")
 
 -- a flag `--id`
 abbrev pub flag_of : Text → Rule
@@ -227,12 +231,13 @@ paced_app =
 abbrev pub run_app : App
 run_app = with_rule (traced paced_app) words_rule
 
--- `node PLANT RESOURCE [--cycle] [--field FILE] [--until MS] [--state DIR] [--journal FILE] [--journal-full HOW]`
+-- `node PLANT RESOURCE [--cycle] [--field FILE] [--until MS] [--state DIR] [--journal FILE] [--journal-full HOW]
+-- [--journal-size N]`
 abbrev pub node_app : App
 node_app =
     let resource = with_rule (with_rule (new_app (codes "node")) plant_rule) resource_rule in
     let until = with_rule (with_rule (with_rule resource cycle_rule) node_field_rule) end_rule in
-    with_rule (with_rule (with_rule until state_rule) journal_rule) journal_full_rule
+    with_rule (with_rule (with_rule (with_rule until state_rule) journal_rule) journal_full_rule) journal_size_rule
 
 -- the names of journals, one or more
 abbrev pub journals_rule : Rule
@@ -388,6 +393,17 @@ GivesJournalFull found full =
     GivesFull (first_of (codes "journal-full") found) full
     × NeedsJournal (first_of (codes "journal-full") found) (first_of (codes "journal") found)
 
+-- a file of a journal may be as long as this
+abbrev pub MayBeLong : Option ℕ → Type 0
+MayBeLong None = Unit {0}
+MayBeLong (Some size) = 4096 ≤ size
+
+-- how long the files of a node's journal may be, by the number behind `--journal-size`, where it may be given
+abbrev pub GivesJournalSize : List Row → Option ℕ → Type 0
+GivesJournalSize found size =
+    GivesOption (first_of (codes "journal-size") found) size × MayBeLong size
+    × NeedsJournal (first_of (codes "journal-size") found) (first_of (codes "journal") found)
+
 -- the word behind `--color`; where there is none it is `auto`
 abbrev pub GivesColor : Option (List ℕ) → Color → Type 0
 GivesColor word Always = word ≡ Some (codes "always")
@@ -467,7 +483,7 @@ Asks found (Node node) =
     × (option_map (λ f. f.now) node.field ≡ first_of (codes "field") found) × GivesEnd found node.until
     × (option_map (λ d. d.now) node.state ≡ first_of (codes "state") found)
     × (option_map (λ f. f.now) node.journal ≡ first_of (codes "journal") found)
-    × GivesJournalFull found node.journal_full
+    × GivesJournalFull found node.journal_full × GivesJournalSize found node.journal_size
 Asks found (Page file) = file.now ≡ given_word (codes "FILE") found
 Asks found (Explain kind) = option_map (λ k. k.now) kind ≡ first_of (codes "KIND") found
 Asks found (Audit audit) =

@@ -4,7 +4,7 @@ ghost use Rattle.std.specs.Str.Parse.{digits_value};
 ghost use Rattle.clap.specs.Words.{rows_of, found_of, first_of, subcommand_of};
 ghost use Rattle.clap.specs.Takes.{takes};
 ghost use Rattle.text_commands.specs.Restarts.{AreRestarts};
-ghost use Rattle.console.specs.CommandLine.{plc_app, IsNumber, GivesNumber, GivesOption, AsksFiles, AsksFor, AsksSecond, OnlyMemoryRefuses, given_word, words_given, claims_given, premises_given, restart_words, journals_given, is_given, GivesOneOf, GivesView, GivesColor, GivesStrictness, GivesRestarts, GivesPace, GivesEnd, GivesFull, GivesJournalFull, plan_form};
+ghost use Rattle.console.specs.CommandLine.{plc_app, IsNumber, GivesNumber, GivesOption, AsksFiles, AsksFor, AsksSecond, OnlyMemoryRefuses, given_word, words_given, claims_given, premises_given, restart_words, journals_given, is_given, GivesOneOf, GivesView, GivesColor, GivesStrictness, GivesRestarts, GivesPace, GivesEnd, GivesFull, GivesJournalFull, GivesJournalSize, plan_form};
 
 use crate::commands::commands;
 use crate::request::{
@@ -32,6 +32,11 @@ const SCANS_REFUSED: &str =
 const PACES_REFUSED: &str = "--paced and --clock can't be given both";
 
 const SECOND_REFUSED: &str = "--with and --program can't be given both";
+
+const SIZE_REFUSED: &str = "N of --journal-size is a number from 4096 to 4294967295";
+
+/// How many bytes a file of a journal may have, at least.
+const LEAST_SIZE: u32 = 4096;
 
 /// How many states are looked at, unless the words say it.
 const MOST_STATES: u32 = 1_000_000;
@@ -500,6 +505,29 @@ fn journal_full_of<'a>(
     )?)
 }
 
+/// How many bytes a file of a journal has at most, where that is given: it needs `--journal`.
+fn journal_size_of<'a>(
+    command: &mut Command<'a>,
+    matches: &ArgMatches<'a>,
+) -> Result<Option<u32>, Error>
+    ensures ok { IfOk result (GivesJournalSize (rows_of (found_of matches.now))) }
+    ensures refused { IfErr result (OnlyMemoryRefuses (GivesJournalSize (rows_of (found_of matches.now)))) }
+{
+    let Some(size) = number_if_given(command, matches, "journal-size", SIZE_REFUSED)? else {
+        return Ok(None);
+    };
+    if size < LEAST_SIZE {
+        return Err(command.error(ErrorKind::ValueValidation, SIZE_REFUSED)?);
+    }
+    if word_of(matches, "journal").is_some() {
+        return Ok(Some(size));
+    }
+    Err(command.error(
+        ErrorKind::MissingRequiredArgument,
+        "--journal-size needs --journal",
+    )?)
+}
+
 fn node_request<'a>(command: &mut Command<'a>, inner: &ArgMatches<'a>) -> Result<Request<'a>, Error>
     ensures ok { IfOk result (AsksFor (Some (codes "node", rows_of (found_of inner.now)))) }
     ensures refused { IfErr result (OnlyMemoryRefuses (AsksFor (Some (codes "node", rows_of (found_of inner.now))))) }
@@ -513,6 +541,7 @@ fn node_request<'a>(command: &mut Command<'a>, inner: &ArgMatches<'a>) -> Result
         state: word_of(inner, "state"),
         journal: word_of(inner, "journal"),
         journal_full: journal_full_of(command, inner)?,
+        journal_size: journal_size_of(command, inner)?,
     }))
 }
 

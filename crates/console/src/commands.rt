@@ -1,6 +1,6 @@
 ghost use Rattle.std.specs.Prelude.{◌≡◌, false, IfOk, codes};
 ghost use Rattle.clap.specs.Words.{app_of, new_app, rule_of};
-ghost use Rattle.console.specs.CommandLine.{needed_word, option_of, flag_of, words_rule, plant_rule, file_rule, until_rule, state_rule, journal_rule, journal_full_rule, as_schedule_rule, paced_rule, clock_rule, cycle_rule, node_field_rule, end_rule, show_rule, chart_rule, color_rule, program_rule, vcd_rule, with_file_rule, svg_rule, traced, strict_rule, no_warnings_rule, warned, kind_rule, never_rule, given_rule, restart_rule, journals_rule, shown_app, eval_app, claimed_app, verify_app, check_app, plan_app, limited_app, sim_app, paced_app, run_app, node_app, explain_app, audit_app, page_app, versioned, commanded, plc_app, text_app};
+ghost use Rattle.console.specs.CommandLine.{needed_word, option_of, flag_of, words_rule, plant_rule, file_rule, until_rule, state_rule, journal_rule, journal_full_rule, journal_size_rule, as_schedule_rule, paced_rule, clock_rule, cycle_rule, node_field_rule, end_rule, show_rule, chart_rule, color_rule, program_rule, vcd_rule, with_file_rule, svg_rule, traced, strict_rule, no_warnings_rule, warned, kind_rule, never_rule, given_rule, restart_rule, journals_rule, shown_app, eval_app, claimed_app, verify_app, check_app, plan_app, limited_app, sim_app, paced_app, run_app, node_app, explain_app, audit_app, page_app, versioned, commanded, plc_app, text_app};
 
 use crate::help::{
     AUDIT_HELP, CHECK_HELP, EVAL_HELP, EXPLAIN_HELP, FIRST_STEPS, NODE_HELP, PAGE_HELP, PLAN_HELP,
@@ -109,6 +109,18 @@ fn journal_full_arg<'a>(alloc: Global) -> Arg<'a>
         "journal-full",
         "HOW",
         "What the node does where it can't note, as on a full disk: stop, or go-on without noting [default: stop]",
+    )
+}
+
+fn journal_size_arg<'a>(alloc: Global) -> Arg<'a>
+    ensures rule { rule_of result ≡ journal_size_rule }
+    ensures local { result.global ≡ false }
+{
+    number_arg(
+        alloc,
+        "journal-size",
+        "N",
+        "The node goes on in FILE.1, FILE.2 .. where FILE would have more than N bytes, 4096 to 4294967295",
     )
 }
 
@@ -440,7 +452,7 @@ fn verify_command<'a>(alloc: Global) -> Result<Command<'a>, AllocError>
     warned_command(alloc, command)?.arg(words_arg(
         alloc,
         "WORD",
-        "Of a drawing NAME=BIT, an input that has this value in every scan; of a plant ADDRESS=VALUE or ADDRESS=LEAST..GREATEST, what a field address holds",
+        "Of a drawing NAME=VALUE, an input that has this value in every scan; of a plant ADDRESS=VALUE or ADDRESS=LEAST..GREATEST, what a field address holds",
     ))
 }
 
@@ -535,7 +547,8 @@ fn node_command<'a>(alloc: Global) -> Result<Command<'a>, AllocError>
         .arg(end_arg(alloc))?
         .arg(state_arg(alloc))?
         .arg(journal_arg(alloc))?
-        .arg(journal_full_arg(alloc))
+        .arg(journal_full_arg(alloc))?
+        .arg(journal_size_arg(alloc))
 }
 
 fn journals_arg<'a>(alloc: Global) -> Arg<'a>

@@ -72,8 +72,9 @@ FILE:LINE: Kind, or with --strict where there is a warning; 2 if a word is refus
 pub const VERIFY_HELP: &str = "\
 Each --never NAME claims that the BOOL variable NAME is never TRUE after a scan, whatever the inputs do and however long
 the drawing runs. The inputs are the BOOL variables that no coil and no output pin stores: each has any value in each scan,
-unless a word NAME=BIT holds it at 0 or 1. A claim is a rung: draw a coil that turns ON where what must not happen has
-happened. --given NAME leaves out all runs in which a scan leaves NAME FALSE: what is known of the inputs is a rung, too.
+unless a word NAME=BIT holds it at 0 or 1. An INT or TIME that nothing stores is 0, or held by a word NAME=VALUE. A claim is
+a rung: draw a coil that turns ON where what must not happen has happened. --given NAME leaves out all runs in which a scan
+leaves NAME FALSE: what is known of the inputs is a rung, too.
 Looked at are the networks that store what claims and givens read, those that store what these read, and so on; of the inputs
 that they read at most 20 may be free. Each scan comes --dt MS after the one before; a drawing with a timer (TON, TOF, TP)
 needs it, above 0. With --restarts it may restart before any scan, as plc eval --restart has it.
@@ -274,7 +275,8 @@ keeps what stands in VAR RETAIN in DIR/NAME.K.ret; without it the incarnation is
 each EVAL, each RESTART, each MESSAGE that is taken and each HELLO that is new is noted at the end of FILE, which is new or a
 journal, and on the disk, before it is done; plc audit reads these files. A second node doesn't use the same DIR or FILE
 meanwhile. Where FILE can't be written the node ends; with --journal-full go-on it writes UNNOTED once, before what it answers
-then, and goes on without noting.
+then, and goes on without noting. With --journal-size N it goes on in FILE.1, FILE.2 .. where the next note would make a file
+longer than N bytes, and at a start in the last of them.
 
 Example:
 
@@ -292,6 +294,8 @@ thread started or there is no memory left: then the line that was read last isn'
 /// What `plc audit --help` tells behind the words.
 pub const AUDIT_HELP: &str = "\
 Each JOURNAL is a file that plc node wrote with --journal; a file may hold the lines of several nodes, one after the other.
+FILE.1, FILE.2 .. of --journal-size, in any order, are joined to the file that each goes on from; where that isn't given as it
+was then, FILE.N:1 is UNSHOWN, and standard error tells it.
 The lines of all of them are done once more, each as soon as what it needs is there: a message that was taken needs the
 evaluation that made it, and has to be equal to what that gave.
 

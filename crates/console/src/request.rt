@@ -258,6 +258,8 @@ pub struct NodeRequest<'a> {
     pub state: Option<&'a str>,
     pub journal: Option<&'a str>,
     pub journal_full: JournalFull,
+    /// How many bytes a file of the journal has at most, before the node goes on in a further one. None: there is but one.
+    pub journal_size: Option<u32>,
 }
 
 /// What is shown of the journals of a plant's nodes.

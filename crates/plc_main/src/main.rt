@@ -4,11 +4,13 @@
 mod answering;
 mod audit_command;
 mod clashes;
+mod joining;
 mod journal_head;
 mod new_beside;
 mod node_command;
 mod run_command;
 mod running_alone;
+mod standard_files;
 mod told_run;
 mod trace_files;
 mod used_files;
@@ -27,6 +29,7 @@ use console::{
     Answered, AuditRequest, CommandFault, FAILED, Pace, Prepared, RunRequest, file_bytes,
     file_plant, given_words, prepare, print_failure, print_fault, print_given_fault,
 };
+use joining::joined_journals;
 use keepers::{
     BadLine, FileKeeper, FolderLock, Keeper, KeeperFault, LockFault, MemoryKeeper, SystemFolder,
 };
@@ -36,9 +39,10 @@ use node_reports::RunFault;
 use plant::{Plant, TaskRef};
 use run_command::{Ran, obey_run};
 use running_alone::Inputs;
+use standard_files::hold_standard;
 use std::alloc::{AllocError, Global};
 use std::env::VarError;
-use std::io::IsTerminal;
+use std::io::{ErrorKind, IsTerminal};
 use std::process::ExitCode;
 use std::rt::{Clock, Env, Files};
 use std::sync::{Arc, Mutex, Wait};
@@ -360,10 +364,14 @@ fn answer_audit<R: Files + Print + Eprint + AllocGlobal>(
         Ok(journals) => journals,
         Err(status) => return Ok(status),
     };
+    let joined = joined_journals(rt, journals.as_slice())?;
     let mut writer = io::writer(rt);
-    match audit_text(rt.alloc(), plant, journals.as_slice(), &mut writer) {
+    match audit_text(rt.alloc(), plant, joined.journals.as_slice(), &mut writer) {
         Ok(true) => Ok(0),
-        Ok(false) => Ok(FAILED),
+        Ok(false) => {
+            joined.tell_seams(rt, journals.as_slice())?;
+            Ok(FAILED)
+        }
         Err(fault) => print_fault(rt, "", "", &[], fault),
     }
 }
@@ -384,6 +392,7 @@ fn answer<
 >(rt: &R, host: &HostRuntime, readers: S) -> io::Result<u8>
     requires { (inputs : _) → (ends : _) → S.pre readers inputs ends }
 {
+    let _standard = hold_standard(rt);
     let given = match given_words(rt) {
         Ok(given) => given,
         Err(error) => return print_given_fault(rt, &error),
@@ -403,6 +412,14 @@ fn answer<
     )
 }
 
+/// Tells that memory is wanting, where that is why the program ends; the status. Else standard error can't be written.
+fn ended_by<R: Eprint>(rt: &R, error: &io::Error) -> u8 {
+    if error.kind() == ErrorKind::OutOfMemory {
+        let _told = print_failure(rt, CommandFault::Memory);
+    }
+    FAILED
+}
+
 fn main(rt: HostRuntime) -> ExitCode {
     let alloc = rt.alloc();
     let readers = move |inputs: Inputs, ends: ReaderEnds| -> bool {
@@ -416,5 +433,9 @@ fn main(rt: HostRuntime) -> ExitCode {
         }
         thread::spawn(&rt, move || read_input(&rt, alloc, of_standard)).is_ok()
     };
-    ExitCode::from(answer(&rt, &rt, readers).unwrap_or(FAILED))
+    let status = match answer(&rt, &rt, readers) {
+        Ok(status) => status,
+        Err(error) => ended_by(&rt, &error),
+    };
+    ExitCode::from(status)
 }

@@ -12,6 +12,7 @@ use crate::journal_head::begins_as_journal;
 use crate::running_alone::{Inputs, is_alone, run_alone};
 use crate::{keeper_in, print_lock_fault, print_no_folder, print_resource_faults};
 use console::{FAILED, JournalFull, NodeRequest, PreparedNode, prepare_node};
+use further_files::{FileRow, RowFault, RowNotes};
 use keepers::{Keeper, MemoryKeeper, ResourceLock};
 use live_node::{
     FileNotes, JournalFault, LenientNotes, LinesAtHand, LiveStop, NoNotes, Node, NodeStop, Notes,
@@ -32,10 +33,18 @@ pub enum NodeFault {
     NoJournal,
     /// Its journal isn't opened.
     Journal(JournalFault),
+    /// The files of its journal aren't opened.
+    Row(RowFault),
     /// It ended before.
     Stop(LoopStop),
     /// There is no thread for an input.
     Unread,
+}
+
+impl From<RowFault> for NodeFault {
+    fn from(fault: RowFault) -> NodeFault {
+        NodeFault::Row(fault)
+    }
 }
 
 impl From<LoopStop> for NodeFault {
@@ -191,13 +200,14 @@ fn is_another_text(host: &HostRuntime, path: &str) -> bool {
 fn run_journaled<
     R: Clock + Input + Print + AllocGlobal + Wait,
     K: Keeper,
+    N: Notes,
     S: FnOnce(Inputs, ReaderEnds) -> bool,
 >(
     rt: &R,
     request: &NodeRequest<'_>,
     prepared: PreparedNode,
     keeper: K,
-    journal: FileNotes,
+    journal: N,
     readers: S,
 ) -> Result<(), NodeFault>
     requires exists { prepared.resource < length prepared.plant.value.resources }
@@ -210,6 +220,31 @@ fn run_journaled<
             run_with(rt, request, prepared, keeper, notes, readers)
         }
     }
+}
+
+/// Runs a node whose journal goes on in further files where one has so many bytes.
+fn run_in_row<
+    R: Clock + Input + Print + AllocGlobal + Wait,
+    K: Keeper,
+    S: FnOnce(Inputs, ReaderEnds) -> bool,
+>(
+    rt: &R,
+    host: &HostRuntime,
+    request: &NodeRequest<'_>,
+    prepared: PreparedNode,
+    keeper: K,
+    journal: &str,
+    size: u32,
+    readers: S,
+) -> Result<(), NodeFault>
+    requires exists { prepared.resource < length prepared.plant.value.resources }
+    requires readers { (inputs : _) → (ends : _) → S.pre readers inputs ends }
+{
+    let (files, last) = FileRow::open(host.clone()?, journal)?;
+    let name = resource_name(&prepared.plant, prepared.resource);
+    let resource = String::from_str(rt.alloc(), name)?;
+    let notes = RowNotes::new(rt.alloc(), files, last, resource, u64::from(size));
+    run_journaled(rt, request, prepared, keeper, notes, readers)
 }
 
 /// Runs a node that notes to the journal that was asked for, if one was.
@@ -234,6 +269,9 @@ fn run_noting<
     if is_another_text(host, journal) {
         return Err(NodeFault::NoJournal);
     }
+    if let Some(size) = request.journal_size {
+        return run_in_row(rt, host, request, prepared, keeper, journal, size, readers);
+    }
     match FileNotes::open(host, journal) {
         Ok(notes) => run_journaled(rt, request, prepared, keeper, notes, readers),
         Err(fault) => Err(NodeFault::Journal(fault)),
@@ -255,6 +293,10 @@ fn tell_node<R: Eprint>(
             eprintln!(rt; "plc: {journal}: this is no journal")?;
         }
         Err(NodeFault::Journal(fault)) => {
+            let journal = request.journal.unwrap_or("");
+            eprintln!(rt; "plc: {journal}: {fault}")?;
+        }
+        Err(NodeFault::Row(fault)) => {
             let journal = request.journal.unwrap_or("");
             eprintln!(rt; "plc: {journal}: {fault}")?;
         }

@@ -4,6 +4,7 @@ import re
 from rules.kept_files import BadFile, KeptFiles
 from rules.node import Node
 from rules.plant_text import read_plant
+from rules.rows import first_line
 
 from .drawings import cased
 from .plants import PlantMaker, inputs
@@ -42,12 +43,13 @@ class Memory(KeptFiles):
 class Process:
     """One life of a node: what it read, the journal to which it writes, and what it is told to do where that is full."""
 
-    def __init__(self, life, journal, where_full):
-        self.life, self.journal, self.where_full, self.read, self.node = life, journal, where_full, [], None
+    def __init__(self, life, journal, where_full, size):
+        self.life, self.journal, self.where_full, self.size, self.read, self.node = life, journal, where_full, size, [], None
 
     def words(self):
         told = ["--journal-full", self.where_full] if self.where_full else []
-        return ["--state", ".", "--journal", self.journal, *told]
+        long = ["--journal-size", str(self.size)] if self.size else []
+        return ["--state", ".", "--journal", self.journal, *told, *long]
 
 
 class Machines:
@@ -71,7 +73,8 @@ class Machines:
         count = sum(it.life[0] is resource for it in self.processes) + 1
         is_full = self.chance.random() < self.fullness
         where_full = self.chance.choice(WHERE_FULL if is_full else [None, None, *WHERE_FULL])
-        process = Process((resource, count), FULL_DISK if is_full else name, where_full)
+        size = self.chance.choice([None, None, 4096, 4500])
+        process = Process((resource, count), FULL_DISK if is_full else name, where_full, size)
         self.processes.append(process)
         try:
             process.node = Node(self.plant, resource, self.folders[resource], lambda line: self.note(process, line))
@@ -291,7 +294,28 @@ def journals(chance):
         del left[name]
     elif slip in (cut, edited, other_evaluation, skipping):
         left[name] = slip(chance, left[name])
+    for name in list(left):
+        if chance.random() < 0.3:
+            left.update(parted(chance, name, left.pop(name)))
     return {"it.plant": machines.text, **left}, [["audit", "it.plant", *shuffled(chance, left)]]
+
+
+def parted(chance, name, text):
+    """A journal in further files, each behind a line; now and then one is lost, or changed, or stands twice."""
+    ends = sorted(chance.sample([at + 1 for at, c in enumerate(text) if c == "\n"], chance.choice([1, 2, 3, 5]))) if text.count("\n") > 5 else []
+    texts = [text[start:end] for start, end in zip([0, *ends], [*ends, len(text)])]
+    for number in range(1, len(texts)):
+        texts[number] = first_line(number, texts[number - 1], "R1", chance.randint(0, 3)) + texts[number]
+    slip = chance.choice(["none"] * 4 + ["lost", "changed", "twice"])
+    chosen = chance.randrange(len(texts))
+    if slip == "changed":
+        texts[chosen] = edited(chance, texts[chosen])
+    files = {f"{name}.{number}" if number else name: it for number, it in enumerate(texts)}
+    if slip == "twice":
+        files["twice"] = texts[chosen]
+    elif slip == "lost" and len(files) > 1:
+        del files[f"{name}.{chosen}" if chosen else name]
+    return files
 
 
 def first_start(text):

@@ -15,11 +15,12 @@ from .node import Journal, Node, NoFiles
 from .plan import plan_of, schedule_of
 from .plant_text import find, read_plant
 from .refusal import Refusal
+from .rows import RowJournal, joined
 from .run import Run, do_in_turns, lines_of_steps
 from .scan import Ladder, State, kept_by_restarts, stored_names
 from .schedule import MOST_U32, steps_of
 from .second_drawing import with_second
-from .test_words import BadWord, tests_of
+from .test_words import BadWord, tests_of, values_of as values_in
 from .traces import Track, diagram, dump
 from .warnings import warnings_of, warnings_of_plant
 from . import verify_plant
@@ -65,6 +66,7 @@ class Shape:
 
 COLORS = ("always", "auto", "never")
 MOST_SCANS = 1_000_000
+LEAST_SIZE = 4096
 WARNING_FLAGS = ("--strict", "--no-warnings")
 
 SHAPES = {
@@ -74,7 +76,7 @@ SHAPES = {
     "plan": Shape(1, numbers=("--until",), flags=("--schedule",), needed=("--until",)),
     "sim": Shape(2, numbers=("--max-number",), names=("--vcd", "--svg")),
     "run": Shape(1, ("--until",), names=("--state", "--vcd", "--svg"), flags=("--paced",), needed=("--until",), has_more=True),
-    "node": Shape(2, numbers=("--until",), choices={"--journal-full": ("stop", "go-on")}, names=("--field", "--state", "--journal"), flags=("--cycle",)),
+    "node": Shape(2, numbers=("--until", "--journal-size"), choices={"--journal-full": ("stop", "go-on")}, names=("--field", "--state", "--journal"), flags=("--cycle",)),
     "audit": Shape(2, has_more=True),
 }
 
@@ -431,9 +433,10 @@ def verify_drawing(write, files, paths, options, more):
 
 def question_of_drawing(ladder, options, more, kept):
     """What words ask of a drawing, of which a restart keeps some variables."""
-    bits = [words.fold(it.name) for it in ladder.declarations if it.role != "Instance" and it.kind == "BOOL"]
+    kinds = {words.fold(it.name): it.kind for it in ladder.declarations if it.role != "Instance"}
+    bits = [name for name, kind in kinds.items() if kind == "BOOL"]
     stored = stored_names(ladder.drawing)
-    held = held_of(more, bits)
+    held = held_of(more, kinds)
     claims = [words.fold(it) for it in options["--never"]]
     given = [words.fold(it) for it in options.get("--given", ())]
     free = [it for it in bits if it not in stored and it not in held]
@@ -446,15 +449,19 @@ def question_of_drawing(ladder, options, more, kept):
     return question
 
 
-def held_of(given, bits):
-    """The values of the BOOLs that words NAME=0 and NAME=1 hold."""
+def held_of(given, kinds):
+    """The value of each variable that words NAME=VALUE hold, as a word of a test gives it for one scan."""
     held = {}
     for word in given:
-        name, _, digit = word.partition("=")
+        name, _, text = word.partition("=")
         name = words.fold(name)
-        if name not in bits or name in held or digit not in ("0", "1"):
+        try:
+            values = values_in(kinds[name], text)
+        except (KeyError, BadWord):
+            raise Refused(REFUSED_WORDS) from None
+        if name in held or len(values) != 1:
             raise Refused(REFUSED_WORDS)
-        held[name] = digit == "1"
+        held[name] = values[0]
     return held
 
 
@@ -549,7 +556,9 @@ def node(write, files, paths, options, _more):
     """Without a clock: a node with a cycle runs for 0 ms, and a field is standard input."""
     if "--until" in options and not {"--cycle", "--field"} & set(options):
         raise Refused(REFUSED_WORDS)
-    if "--journal-full" in options and "--journal" not in options:
+    if {"--journal-full", "--journal-size"} & set(options) and "--journal" not in options:
+        raise Refused(REFUSED_WORDS)
+    if options.get("--journal-size", LEAST_SIZE) < LEAST_SIZE:
         raise Refused(REFUSED_WORDS)
     plant = files.plant(paths[0])
     resource = find(plant.resources, paths[1])
@@ -557,7 +566,7 @@ def node(write, files, paths, options, _more):
         raise Refused(REFUSED_WORDS)
     keeper = KeptFiles(files.folder, options["--state"]) if "--state" in options else NoFiles()
     try:
-        it = Node(plant, resource, keeper, notes_of(files, options, write))
+        it = Node(plant, resource, keeper, notes_of(files, options, resource, write))
         for line in it.first:
             write(line)
         for line in node_answers(it, files, options):
@@ -566,12 +575,15 @@ def node(write, files, paths, options, _more):
         raise Refused(NO_FILE) from None
 
 
-def notes_of(files, options, write):
+def notes_of(files, options, resource, write):
     """What notes each line of a node: nothing where there is no journal."""
     if "--journal" not in options:
         return lambda line: None
     told = (lambda: write("UNNOTED")) if options.get("--journal-full") == "go-on" else None
-    return Journal(files.whole_path(options["--journal"]), told).note
+    path = files.whole_path(options["--journal"])
+    if "--journal-size" in options:
+        return RowJournal(path, resource, options["--journal-size"], told).note
+    return Journal(path, told).note
 
 
 def node_answers(it, files, options):
@@ -591,7 +603,7 @@ def node_answers(it, files, options):
 
 def audit(write, files, paths, _options, more):
     plant, journals = files.plant(paths[0]), [paths[1], *more]
-    found = Audit(plant, [(path, files.text(path)) for path in journals])
+    found = Audit(plant, joined([(path, files.text(path)) for path in journals]))
     for line in found.lines():
         write(line)
     if not found.is_whole:

@@ -102,6 +102,19 @@ fn push_rows(
     Ok(())
 }
 
+/// Adds empty rows behind so many rows, up to so many in all.
+fn pad(page: &mut String, written: usize, rows: usize) -> Result<(), AllocError> {
+    for _row in written..rows {
+        page.push('\n')?;
+    }
+    Ok(())
+}
+
+/// How many rows a text has; empty ones at its end, where comments stood, count but for the last.
+fn rows_in(text: &str) -> usize {
+    without_feed(text).split('\n').count()
+}
+
 /// The text of the first drawing and, below it, of the second, above which so many empty rows stand. Right rails that would
 /// be lines beside the other drawing are left out: they do nothing.
 pub(crate) fn page_of(
@@ -113,7 +126,7 @@ pub(crate) fn page_of(
     let mut page = String::new(alloc);
     let (one, other) = (&first.drawing, &second.drawing);
     push_rows(&mut page, first, 0, column_to_clear(one, other))?;
-    page.push('\n')?;
+    pad(&mut page, rows_in(first.text.as_str()), rows)?;
     push_rows(&mut page, second, rows, column_to_clear(other, one))?;
     Ok(page)
 }

@@ -15,4 +15,5 @@ returns c =
     let five = c.in_ok-arg-5.ensures.shape c.end_arg.ensures.local ∙ ap₂ with_rule four c.end_arg.ensures.rule in
     let six = c.in_ok-arg-6.ensures.shape c.state_arg.ensures.local ∙ ap₂ with_rule five c.state_arg.ensures.rule in
     let seven = c.in_ok-arg-7.ensures.shape c.journal_arg.ensures.local ∙ ap₂ with_rule six c.journal_arg.ensures.rule in
-    IfOk-weaker c.arg-8.result _ _ (λ new added. added.shape c.journal_full_arg.ensures.local ∙ ap₂ with_rule seven c.journal_full_arg.ensures.rule) c.arg-8.ensures
+    let eight = c.in_ok-arg-8.ensures.shape c.journal_full_arg.ensures.local ∙ ap₂ with_rule seven c.journal_full_arg.ensures.rule in
+    IfOk-weaker c.arg-9.result _ _ (λ new added. added.shape c.journal_size_arg.ensures.local ∙ ap₂ with_rule eight c.journal_size_arg.ensures.rule) c.arg-9.ensures

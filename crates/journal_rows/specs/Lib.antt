@@ -1,0 +1,2 @@
+pub mod ContinuesLine
+pub mod Rows

@@ -1,0 +1,101 @@
+//! The journals that `audit` reads: further files are joined to those that they go on from.
+
+use audit::JournalFile;
+use journal_rows::{Row, Rows, join};
+use std::alloc::{AllocError, Global};
+use std::io;
+
+/// Where a further file of a row begins.
+#[derive(Clone, Copy)]
+pub struct Seam {
+    /// The first file of the row, and this one, by their places among those given.
+    first: usize,
+    file: usize,
+    /// How many lines end in those before it.
+    ended: usize,
+}
+
+/// Journals, and where further files begin in them.
+#[derive(Drop)]
+pub struct Joined {
+    pub journals: Vec<JournalFile>,
+    seams: Vec<Seam>,
+}
+
+/// The name of a file; empty where there is no such file.
+fn name_of(files: &[JournalFile], file: usize) -> &str {
+    match files.get(file) {
+        Some(found) => found.name.as_str(),
+        None => "",
+    }
+}
+
+/// The texts of files.
+fn texts_of(alloc: Global, files: &[JournalFile]) -> Result<Vec<&[u8]>, AllocError> {
+    let mut texts = Vec::with_capacity(alloc, files.len())?;
+    for file in files {
+        texts.push(file.text.as_slice())?;
+    }
+    Ok(texts)
+}
+
+/// Where the files of a row begin that are its further ones.
+fn push_seams(
+    seams: &mut Vec<Seam>,
+    first: usize,
+    files: &[usize],
+    ended: &[usize],
+) -> Result<(), AllocError> {
+    for k in 1..files.len().min(ended.len()) {
+        seams.push(Seam {
+            first,
+            file: files[k],
+            ended: ended[k],
+        })?;
+    }
+    Ok(())
+}
+
+/// The journals of files: one for each row, by the name of its first file; and one without lines for each file that goes on
+/// from none that is given. Which these are is told.
+pub fn joined_journals<R: Eprint + AllocGlobal>(
+    rt: &R,
+    files: &[JournalFile],
+) -> io::Result<Joined> {
+    let alloc = rt.alloc();
+    let texts = texts_of(alloc, files)?;
+    let Rows { rows, loose } = join(alloc, texts.as_slice())?;
+    let mut journals = Vec::with_capacity(alloc, files.len())?;
+    let mut seams = Vec::new(alloc);
+    for row in rows {
+        let Row {
+            files: places,
+            ended,
+            text,
+        } = row;
+        let first = places.first().copied().unwrap_or(0);
+        push_seams(&mut seams, first, places.as_slice(), ended.as_slice())?;
+        let name = String::from_str(alloc, name_of(files, first))?;
+        journals.push(JournalFile { name, text })?;
+    }
+    for file in loose {
+        let name = name_of(files, file);
+        eprintln!(rt; "plc: {name}:1: it goes on from a file that isn't given, or was changed")?;
+        let name = String::from_str(alloc, name)?;
+        let text = Vec::new(alloc);
+        journals.push(JournalFile { name, text })?;
+    }
+    Ok(Joined { journals, seams })
+}
+
+impl Joined {
+    /// Tells which lines of the journals are the first ones of further files.
+    pub fn tell_seams<R: Eprint>(&self, rt: &R, files: &[JournalFile]) -> io::Result<()> {
+        for seam in self.seams.as_slice() {
+            let (first, file) = (name_of(files, seam.first), name_of(files, seam.file));
+            let line = seam.ended.saturating_add(1);
+            eprintln!(rt; "plc: {first}:{line} is {file}:1")?;
+        }
+        Ok(())
+    }
+}
