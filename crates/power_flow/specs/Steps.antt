@@ -9,6 +9,7 @@ pub mod Columns
 pub mod Comings
 pub mod Edges
 pub mod Fused
+pub mod LadderCircuits
 pub mod NameSources
 pub mod RowEnds
 pub mod Snapshots

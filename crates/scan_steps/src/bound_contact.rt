@@ -153,6 +153,20 @@ impl BoundContact {
         self.memory as usize
     }
 
+    /// What it reads.
+    pub fn source(&self) -> Source
+        ensures { result ≡ self.now.source }
+    {
+        let place = self.place as usize;
+        match self.reads {
+            Reads::Nothing => Source::Nothing,
+            Reads::Variable => Source::Variable(place),
+            Reads::Bit(bit) => Source::Output(place, Field::Bit(bit as usize)),
+            Reads::Int => Source::Output(place, Field::Int),
+            Reads::Time => Source::Output(place, Field::Time),
+        }
+    }
+
     /// Whether what it reads is TRUE.
     pub fn is_on(&self, slots: &Slots) -> bool
         ensures { result ≡ is_true (source_value slots.now self.now.source) }

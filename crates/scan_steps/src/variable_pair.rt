@@ -44,13 +44,15 @@ impl Negated {
         }
     }
 
-    fn first(self) -> bool
+    /// Whether the first one is.
+    pub fn first(self) -> bool
         ensures { result ≡ is_first_negated self }
     {
         matches!(self, Negated::First | Negated::Both)
     }
 
-    fn second(self) -> bool
+    /// Whether the second one is.
+    pub fn second(self) -> bool
         ensures { result ≡ is_second_negated self }
     {
         matches!(self, Negated::Second | Negated::Both)
