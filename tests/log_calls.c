@@ -1,4 +1,5 @@
-/* Logs what a program writes, syncs and renames, call by call, to the file that CALLS names: preloaded by tests/syncs. */
+/* Logs what a program writes, syncs and renames, call by call, to the file that CALLS names: preloaded by tests/syncs. A sync takes
+   PAUSE microseconds more. */
 #define _GNU_SOURCE
 #include <dlfcn.h>
 #include <fcntl.h>
@@ -45,6 +46,13 @@ ssize_t write(int file, const void *bytes, size_t count)
     return real_write(file, bytes, count);
 }
 
+static void wait_behind_a_sync(void)
+{
+    const char *pause = getenv("PAUSE");
+    if (pause)
+        usleep((useconds_t)atoi(pause));
+}
+
 ssize_t __write(int file, const void *bytes, size_t count)
 {
     return write(file, bytes, count);
@@ -54,6 +62,7 @@ int fsync(int file)
 {
     int (*real)(int) = (int (*)(int))dlsym(RTLD_NEXT, "fsync");
     int done = real(file);
+    wait_behind_a_sync();
     note_file("sync", file, "", 0);
     return done;
 }
@@ -62,6 +71,7 @@ int fdatasync(int file)
 {
     int (*real)(int) = (int (*)(int))dlsym(RTLD_NEXT, "fdatasync");
     int done = real(file);
+    wait_behind_a_sync();
     note_file("sync", file, "", 0);
     return done;
 }

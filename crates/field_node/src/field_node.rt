@@ -2,6 +2,7 @@ ghost use Rattle.std.specs.Prelude.{◌≡◌, ◌+◌, ◌<◌, ◌≤◌, Some
 ghost use Rattle.text_lines.specs.Growing.{GrowsBy};
 ghost use Rattle.live_node.specs.Keeping.{KeepsAllButOne, KeepsCore};
 ghost use Rattle.live_node.specs.NodeAnswers.{keeper_gives};
+ghost use Rattle.live_node.specs.Syncing.{Grows};
 ghost use Rattle.live_node.specs.declared.node_stop.NodeStop.TheVariants as ends;
 ghost use Rattle.cycle.specs.FieldTexts.{cycle_line, ended_line};
 ghost use Rattle.cycle.specs.Origins.{verdict_of, word_of_line};
@@ -134,9 +135,11 @@ impl<K: Keeper, N: Notes> FieldNode<K, N> {
         Ok(self.inlets().verdict(origin, word))
     }
 
-    /// Answers a line that comes by one of its inputs, without its line feed: as a node does; as one that tells what the field
-    /// is; or it refuses the line, where this input may not say it. After a stop the node is at its end.
-    pub fn answer(&mut self, origin: Origin, line: &[u8], out: &mut String) -> Result<(), NodeStop>
+    /// Does a line that comes by one of its inputs, without its line feed: as a node does; as one that tells what the field is;
+    /// or it refuses the line, where this input may not say it. Its answer may be told once all that is noted is on the disk.
+    /// After a stop the node is at its end.
+    #[tactic(auto, using(live_node::specs::Steps::Growing::grows_refl))]
+    pub fn do_line(&mut self, origin: Origin, line: &[u8], out: &mut String) -> Result<(), NodeStop>
         requires few { self.old.node.state.lines < 18446744073709551615 }
         requires kept { K.last self.old.node.keeper ≡ self.old.node.state.core.incarnation }
         ensures answered { OnOk result (IsAnsweredFrom (keeper_gives K.raise_gives self.old.node.keeper)
@@ -146,7 +149,7 @@ impl<K: Keeper, N: Notes> FieldNode<K, N> {
         ensures stopped { IfErr result (λ why. IsUnanswered (keeper_gives K.raise_gives self.old.node.keeper)
             (verdict_of (inlets_of self.old.has_field self.old.cycle) origin (word_of_line line.now)) self.old.node.state line.now why
             (N.noted self.old.node.notes) (N.noted self.new.node.notes)) }
-        ensures synced { OnOk result (N.synced self.old.node.notes ≡ N.noted self.old.node.notes → N.synced self.new.node.notes ≡ N.noted self.new.node.notes) }
+        ensures stays { Grows (N.synced self.old.node.notes) (N.synced self.new.node.notes) }
         ensures kept { OnOk result (K.last self.new.node.keeper ≡ self.new.node.state.core.incarnation) }
         ensures keeps { OnOk result (KeepsCore (K.kept_gives self.old.node.keeper) self.old.node.state.core → KeepsCore (K.kept_gives self.new.node.keeper) self.new.node.state.core) }
         ensures rest { OnErr result (KeepsCore (K.kept_gives self.old.node.keeper) self.old.node.state.core → KeepsAllButOne (K.kept_gives self.new.node.keeper) self.new.node.state.core) }
@@ -155,7 +158,7 @@ impl<K: Keeper, N: Notes> FieldNode<K, N> {
         ensures setting { IsSameSetting self.old self.new }
     {
         match self.verdict(origin, line)? {
-            Verdict::Answer => self.node.answer(line, out),
+            Verdict::Answer => self.node.do_line(line, out),
             Verdict::Tell => Ok(tell(self.alloc, &mut self.field, line, out)?),
             Verdict::Refuse(refusal) => Ok(push_field_refused(out, refusal)?),
         }
@@ -186,8 +189,9 @@ impl<K: Keeper, N: Notes> FieldNode<K, N> {
         Ok(line)
     }
 
-    /// Answers the line of what its cycle asks for.
-    fn answer_cycle(&mut self, asked: Asked, out: &mut String) -> Result<(), NodeStop>
+    /// Does the line of what its cycle asks for.
+    #[tactic(auto, using(live_node::specs::Steps::Growing::grows_refl))]
+    fn do_cycle(&mut self, asked: Asked, out: &mut String) -> Result<(), NodeStop>
         requires few { self.old.node.state.lines < 18446744073709551615 }
         requires kept { K.last self.old.node.keeper ≡ self.old.node.state.core.incarnation }
         ensures done { OnOk result (IsDone (keeper_gives K.raise_gives self.old.node.keeper) self.old.plant.value self.old.resource (Some asked)
@@ -195,7 +199,7 @@ impl<K: Keeper, N: Notes> FieldNode<K, N> {
             (N.noted self.old.node.notes) (N.noted self.new.node.notes) (string_bytes out.old) (string_bytes out.new))) }
         ensures stopped { IfErr result (λ why. IsUndone (keeper_gives K.raise_gives self.old.node.keeper) self.old.plant.value self.old.resource (Some asked) self.old.field self.old.node.state why
             (N.noted self.old.node.notes) (N.noted self.new.node.notes)) }
-        ensures synced { OnOk result (N.synced self.old.node.notes ≡ N.noted self.old.node.notes → N.synced self.new.node.notes ≡ N.noted self.new.node.notes) }
+        ensures stays { Grows (N.synced self.old.node.notes) (N.synced self.new.node.notes) }
         ensures kept { OnOk result (K.last self.new.node.keeper ≡ self.new.node.state.core.incarnation) }
         ensures keeps { OnOk result (KeepsCore (K.kept_gives self.old.node.keeper) self.old.node.state.core → KeepsCore (K.kept_gives self.new.node.keeper) self.new.node.state.core) }
         ensures rest { OnErr result (KeepsCore (K.kept_gives self.old.node.keeper) self.old.node.state.core → KeepsAllButOne (K.kept_gives self.new.node.keeper) self.new.node.state.core) }
@@ -206,11 +210,12 @@ impl<K: Keeper, N: Notes> FieldNode<K, N> {
     {
         let line = self.line_of(asked)?;
         push_overrun(out, &self.plant, self.task_of(asked), asked.skipped)?;
-        self.node.answer(line.as_bytes(), out)
+        self.node.do_line(line.as_bytes(), out)
     }
 
     /// Makes the evaluation that its cycle asks for at a reading of the clock, in ms since the start, if it asks for one; whether
-    /// it does. After a stop the node is at its end.
+    /// it does. Its answer may be told once all that is noted is on the disk. After a stop the node is at its end.
+    #[tactic(auto, using(live_node::specs::Steps::Growing::grows_refl))]
     pub fn evaluate(&mut self, reading: u64, out: &mut String) -> Result<Option<Asked>, NodeStop>
         requires few { self.old.node.state.lines < 18446744073709551615 }
         requires kept { K.last self.old.node.keeper ≡ self.old.node.state.core.incarnation }
@@ -220,7 +225,7 @@ impl<K: Keeper, N: Notes> FieldNode<K, N> {
             (N.noted self.old.node.notes) (N.noted self.new.node.notes) (string_bytes out.old) (string_bytes out.new))) }
         ensures stopped { IfErr result (λ why. StopsAsked (keeper_gives K.raise_gives self.old.node.keeper) self.old.plant.value self.old.resource self.old.cycle self.new.cycle reading self.old.field self.old.node.state why
             (N.noted self.old.node.notes) (N.noted self.new.node.notes)) }
-        ensures synced { OnOk result (N.synced self.old.node.notes ≡ N.noted self.old.node.notes → N.synced self.new.node.notes ≡ N.noted self.new.node.notes) }
+        ensures stays { Grows (N.synced self.old.node.notes) (N.synced self.new.node.notes) }
         ensures kept { OnOk result (K.last self.new.node.keeper ≡ self.new.node.state.core.incarnation) }
         ensures keeps { OnOk result (KeepsCore (K.kept_gives self.old.node.keeper) self.old.node.state.core → KeepsCore (K.kept_gives self.new.node.keeper) self.new.node.state.core) }
         ensures rest { OnErr result (KeepsCore (K.kept_gives self.old.node.keeper) self.old.node.state.core → KeepsAllButOne (K.kept_gives self.new.node.keeper) self.new.node.state.core) }
@@ -230,7 +235,7 @@ impl<K: Keeper, N: Notes> FieldNode<K, N> {
     {
         match ask(&mut self.cycle, reading) {
             Some(asked) => {
-                self.answer_cycle(asked, out)?;
+                self.do_cycle(asked, out)?;
                 Ok(Some(asked))
             }
             None => Ok(None),
@@ -258,6 +263,21 @@ impl<K: Keeper, N: Notes> FieldNode<K, N> {
     {
         self.field.clear();
         push_ended(out)
+    }
+
+    /// Brings all that is noted to the disk.
+    pub fn sync(&mut self) -> Result<(), NodeStop>
+        ensures noted { N.noted self.new.node.notes ≡ N.noted self.old.node.notes }
+        ensures synced { OnOk result (N.synced self.new.node.notes ≡ N.noted self.new.node.notes) }
+        ensures stays { Grows (N.synced self.old.node.notes) (N.synced self.new.node.notes) }
+        ensures stopped { IfErr result (λ why. why ≡ ends.Note) }
+        ensures state { self.new.node.state ≡ self.old.node.state }
+        ensures keeper { self.new.node.keeper ≡ self.old.node.keeper }
+        ensures field { self.new.field ≡ self.old.field }
+        ensures cycle { self.new.cycle ≡ self.old.cycle }
+        ensures setting { IsSameSetting self.old self.new }
+    {
+        self.node.sync()
     }
 
     /// The node, when it has ended.

@@ -1,2 +1,4 @@
 mod ByOne
 mod Turning
+mod Unmade
+mod Telling

@@ -1,5 +1,5 @@
 -- Turns, one after the other.
-use Rattle.std.proofs.Common.{◌≡◌, ℕ, ◌++◌, ◌≤◌, Bool, true, false, List, [], ◌∷◌, Option, inl, inr, refl, sym, ◌∙◌, subst}
+use Rattle.std.proofs.Common.{◌≡◌, ℕ, ◌++◌, ◌≤◌, Bool, true, false, List, [], ◌∷◌, Option, refl, sym, ◌∙◌, subst}
 use Rattle.std.specs.Io.KnownBytes.{Appends}
 use Rattle.live_node.specs.NodeAnswers.{Raising}
 use Rattle.live_node.specs.declared.live_stop.LiveStop.TheVariants.{Node, Read, Write, Memory}
@@ -10,12 +10,12 @@ use Rattle.node_loop.specs.declared.loop_stop.LoopStop.{LoopStop}
 use Rattle.node_loop.specs.declared.loop_stop.LoopStop.TheVariants.{Live, Clock}
 use Rattle.node_loop.specs.Given.{Turn, Reads, with_turn}
 use Rattle.node_loop.specs.Turns.{Setting, Standing, IsBefore, HaveTurned, is_going, moment_of}
-use Rattle.node_loop.specs.Stops.{StopsBehind}
-use Rattle.node_loop.specs.Loops.{setting_of, condition_of, stands, RunsLoop, StopsLoop}
-use Rattle.node_loop.specs.Steps.Following.{Follows, Ends, HasTurned, MadeOf, NotMadeOf, Stops, IsUnwritten}
+use Rattle.node_loop.specs.Stops.{StopsAt, StopsTurn}
+use Rattle.node_loop.specs.Loops.{setting_of, stands}
+use Rattle.node_loop.specs.Steps.Following.{Follows, Ends, HasTurned, MadeOf, NotMadeOf, StopsMaking}
 
 -- some turns behind others
-turned_behind : (raising : Raising) (set : Setting) (ending : Ending) (first mid last : Standing) (before turns : List Turn)
+pub turned_behind : (raising : Raising) (set : Setting) (ending : Ending) (first mid last : Standing) (before turns : List Turn)
     → HaveTurned raising set ending first before mid → HaveTurned raising set ending mid turns last → HaveTurned raising set ending first (turns ++ before) last
 turned_behind raising set ending first mid last before [] h k = subst (λ s. HaveTurned raising set ending first before s) (sym k) h
 turned_behind raising set ending first mid last before (turn ∷ turns) h (s, k, is) =
@@ -28,7 +28,7 @@ same_node node = record { plant_is = refl; resource_is = refl; has_field_is = re
 pub same_both : {K N : Type 0} (a b c : FieldNode K N) → IsSameSetting a b → IsSameSetting b c → IsSameSetting a c
 same_both a b c p q = record { plant_is = q.plant_is ∙ p.plant_is; resource_is = q.resource_is ∙ p.resource_is; has_field_is = q.has_field_is ∙ p.has_field_is }
 
-same_setting : {K N : Type 0} (a b : FieldNode K N) → IsSameSetting a b → setting_of b ≡ setting_of a
+pub same_setting : {K N : Type 0} (a b : FieldNode K N) → IsSameSetting a b → setting_of b ≡ setting_of a
 same_setting a b s = rw (s.plant_is, s.resource_is, s.has_field_is) refl
 
 -- turns behind turns
@@ -92,72 +92,50 @@ ends_behind raising ending a b c g1 g2 g3 n1 n2 n3 w1 w2 w3 p q = record {
 
 -- the clock can't be read
 pub stops_clock : {K N : Type 0} (raising : Raising) (ending : Ending) (a : FieldNode K N) (given_old given_new : Option (List Turn)) (noted written : Option (List ℕ))
-    → given_new ≡ given_old → Stops raising ending a given_old given_new noted noted written written Clock
+    → given_new ≡ given_old → StopsMaking raising ending a given_old given_new noted noted written written Clock
 stops_clock raising ending a given_old given_new noted written is =
-    record { turns = []; last = stands a true given_old noted written; turned = refl; was_going = refl; stops = (is, record { unnoted = refl; unwritten = refl }) }
+    record { turns = []; last = stands a true given_old noted written; turned = refl; stops = record { was_going = refl; stops = (is, refl) }; unwritten = refl }
 
 -- what is to be made of a turn isn't made
-pub stops_unmade : {K N : Type 0} (raising : Raising) (ending : Ending) (a : FieldNode K N) (turn : Turn) (given_old given_new : Option (List Turn)) (noted_old noted_new written : Option (List ℕ)) (stop : LoopStop)
-    → NotMadeOf raising a turn noted_old noted_new stop → IsBefore (moment_of ending.until) turn → given_new ≡ with_turn turn given_old → Stops raising ending a given_old given_new noted_old noted_new written written stop
-stops_unmade raising ending a turn given_old given_new noted_old noted_new written (Live (Node why)) h before is =
-    record { turns = []; last = stands a true given_old noted_old written; turned = refl; was_going = refl; stops = record { turn = turn; before = before; given_is = is; undone = h; unwritten = refl } }
-stops_unmade raising ending a turn given_old given_new noted_old noted_new written (Live Read) h before is =
-    record { turns = []; last = stands a true given_old noted_old written; turned = refl; was_going = refl; stops = (subst (λ t. given_new ≡ with_turn t given_old) h.0 is, record { unnoted = h.1; unwritten = refl }) }
-stops_unmade raising ending a turn given_old given_new noted_old noted_new written (Live Write) h before is = absurd h
-stops_unmade raising ending a turn given_old given_new noted_old noted_new written (Live Memory) h before is =
-    record { turns = []; last = stands a true given_old noted_old written; turned = refl; was_going = refl; stops = (subst (λ t. given_new ≡ with_turn t given_old) h.0 is, record { unnoted = h.1; unwritten = refl }) }
-stops_unmade raising ending a turn given_old given_new noted_old noted_new written Clock h before is = absurd h
+unmade : {K N : Type 0} (raising : Raising) (ending : Ending) (a : FieldNode K N) (turn : Turn) (given_old given_new : Option (List Turn)) (noted_old noted_new written : Option (List ℕ)) (stop : LoopStop)
+    → NotMadeOf raising a turn noted_old noted_new stop → IsBefore (moment_of ending.until) turn → given_new ≡ with_turn turn given_old → StopsTurn raising (setting_of a) ending (stands a true given_old noted_old written) given_new noted_new stop
+unmade raising ending a turn given_old given_new noted_old noted_new written (Live (Node why)) h before is = record { turn = turn; before = before; given_is = is; undone = h }
+unmade raising ending a turn given_old given_new noted_old noted_new written (Live Read) h before is = (subst (λ t. given_new ≡ with_turn t given_old) h.0 is, h.1)
+unmade raising ending a turn given_old given_new noted_old noted_new written (Live Write) h before is = absurd h
+unmade raising ending a turn given_old given_new noted_old noted_new written (Live Memory) h before is = (subst (λ t. given_new ≡ with_turn t given_old) h.0 is, h.1)
+unmade raising ending a turn given_old given_new noted_old noted_new written Clock h before is = absurd h
 
--- what was made of it isn't written
-pub stops_unwritten : {K N : Type 0} (raising : Raising) (ending : Ending) (a b : FieldNode K N) (turn : Turn) (given_old given_new : Option (List Turn)) (noted_old noted_new from to : Option (List ℕ)) (text : List ℕ) (stop : LoopStop)
-    → MadeOf raising a b turn noted_old noted_new text → IsBefore (moment_of ending.until) turn → given_new ≡ with_turn turn given_old → IsUnwritten text from to stop → Stops raising ending a given_old given_new noted_old noted_new from to stop
-stops_unwritten raising ending a b turn given_old given_new noted_old noted_new from to text stop made before is unwritten =
-    subst (λ s. Stops raising ending a given_old given_new noted_old noted_new from to s) (sym unwritten.0)
-    (record { turns = []; last = stands a true given_old noted_old from; turned = refl; was_going = refl; stops = record { turn = turn; before = before; given_is = is; last = condition_of b noted_new; text = text; made = made.made; noted_is = refl; sent = unwritten.1 } })
+pub stops_unmade : {K N : Type 0} (raising : Raising) (ending : Ending) (a : FieldNode K N) (turn : Turn) (given_old given_new : Option (List Turn)) (noted_old noted_new written : Option (List ℕ)) (stop : LoopStop)
+    → NotMadeOf raising a turn noted_old noted_new stop → IsBefore (moment_of ending.until) turn → given_new ≡ with_turn turn given_old → StopsMaking raising ending a given_old given_new noted_old noted_new written written stop
+stops_unmade raising ending a turn given_old given_new noted_old noted_new written stop h before is = record {
+  turns = [];
+  last = stands a true given_old noted_old written;
+  turned = refl;
+  stops = record { was_going = refl; stops = unmade raising ending a turn given_old given_new noted_old noted_new written stop h before is };
+  unwritten = refl;
+}
 
 -- it stops behind turns
 pub stops_behind : {K N : Type 0} (raising : Raising) (ending : Ending) (a b : FieldNode K N) (g1 g2 g3 : Option (List Turn)) (n1 n2 n3 w1 w2 w3 : Option (List ℕ)) (stop : LoopStop)
-    → Follows raising ending a b true g1 g2 n1 n2 w1 w2 → Stops raising ending b g2 g3 n2 n3 w2 w3 stop → Stops raising ending a g1 g3 n1 n3 w1 w3 stop
-stops_behind raising ending a b g1 g2 g3 n1 n2 n3 w1 w2 w3 stop p q =
-    let r : StopsBehind raising (setting_of a) ending (stands b true g2 n2 w2) g3 n3 w3 stop = subst (λ set. StopsBehind raising set ending (stands b true g2 n2 w2) g3 n3 w3 stop) (same_setting a b p.same) q in
-    record {
-      turns = r.turns ++ p.turns;
-      last = r.last;
-      turned = turned_behind raising (setting_of a) ending (stands a true g1 n1 w1) (stands b true g2 n2 w2) r.last p.turns r.turns p.turned r.turned;
-      was_going = r.was_going;
-      stops = r.stops;
-    }
-
--- turns behind turns, and then nothing is given
-pub turned_both : {K N : Type 0} (raising : Raising) (ending : Ending) (a b c : FieldNode K N) (going : Bool) (g1 g2 g3 g4 : Option (List Turn)) (n1 n2 n3 w1 w2 w3 : Option (List ℕ))
-    → g4 ≡ g3 → Follows raising ending a b true g1 g2 n1 n2 w1 w2 → Follows raising ending b c going g2 g3 n2 n3 w2 w3 → HasTurned raising ending a c g1 g4 n1 n3 w1 w3 going
-turned_both raising ending a b c true g1 g2 g3 g4 n1 n2 n3 w1 w2 w3 is p q =
-    follows_given raising ending a c true g1 g3 g4 n1 n3 w1 w3 is (follows_both raising ending a b c true g1 g2 g3 n1 n2 n3 w1 w2 w3 p q)
-turned_both raising ending a b c false g1 g2 g3 g4 n1 n2 n3 w1 w2 w3 is p q =
-    ends_closed raising ending a c g1 g4 n1 n3 w1 w3
-    (follows_given raising ending a c false g1 g3 g4 n1 n3 w1 w3 is (follows_both raising ending a b c false g1 g2 g3 n1 n2 n3 w1 w2 w3 p q))
-
--- it ran to its end
-pub runs_ended : {K N : Type 0} (raising : Raising) (ending : Ending) (begun : List ℕ) (a b : FieldNode K N) (g1 g2 : Option (List Turn)) (n1 n2 from mid to : Option (List ℕ))
-    → Appends from mid begun → Ends raising ending a b g1 g2 n1 n2 mid to → RunsLoop raising (setting_of a) ending begun (condition_of a n1) (condition_of b n2) g1 g2 from to
-runs_ended raising ending begun a b g1 g2 n1 n2 from mid to begins e = record {
-  behind_begun = mid;
-  begins = begins;
-  turns = e.follows.turns;
-  last = stands b e.going e.given n2 to;
-  turned = e.follows.turned;
-  over = e.over;
-  new_is = refl;
-  to_is = refl;
+    → Follows raising ending a b true g1 g2 n1 n2 w1 w2 → StopsMaking raising ending b g2 g3 n2 n3 w2 w3 stop → StopsMaking raising ending a g1 g3 n1 n3 w1 w3 stop
+stops_behind raising ending a b g1 g2 g3 n1 n2 n3 w1 w2 w3 stop p q = record {
+  turns = q.turns ++ p.turns;
+  last = q.last;
+  turned = turned_behind raising (setting_of a) ending (stands a true g1 n1 w1) (stands b true g2 n2 w2) q.last p.turns q.turns p.turned
+      (subst (λ set. HaveTurned raising set ending (stands b true g2 n2 w2) q.turns q.last) (same_setting a b p.same) q.turned);
+  stops = subst (λ set. StopsAt raising set ending q.last g3 n3 stop) (same_setting a b p.same) q.stops;
+  unwritten = q.unwritten;
 }
 
--- it stopped behind what is written at the start
-pub stops_going : {K N : Type 0} (raising : Raising) (ending : Ending) (begun : List ℕ) (a : FieldNode K N) (g1 g2 : Option (List Turn)) (n1 n2 from mid to : Option (List ℕ)) (stop : LoopStop)
-    → Appends from mid begun → Stops raising ending a g1 g2 n1 n2 mid to stop → StopsLoop raising (setting_of a) ending begun (condition_of a n1) g1 g2 n2 from to stop
-stops_going raising ending begun a g1 g2 n1 n2 from mid to stop begins stops = inr (record { behind_begun = mid; begins = begins; stops = stops })
+-- turns behind turns, maybe to the end
+pub turned_both : {K N : Type 0} (raising : Raising) (ending : Ending) (a b c : FieldNode K N) (going : Bool) (g1 g2 g3 : Option (List Turn)) (n1 n2 n3 w1 w2 w3 : Option (List ℕ))
+    → Follows raising ending a b true g1 g2 n1 n2 w1 w2 → Follows raising ending b c going g2 g3 n2 n3 w2 w3 → HasTurned raising ending a c g1 g3 n1 n3 w1 w3 going
+turned_both raising ending a b c true g1 g2 g3 n1 n2 n3 w1 w2 w3 p q = follows_both raising ending a b c true g1 g2 g3 n1 n2 n3 w1 w2 w3 p q
+turned_both raising ending a b c false g1 g2 g3 n1 n2 n3 w1 w2 w3 p q =
+    ends_closed raising ending a c g1 g3 n1 n3 w1 w3 (follows_both raising ending a b c false g1 g2 g3 n1 n2 n3 w1 w2 w3 p q)
 
--- what is written at the start isn't written
-pub stops_at_start : {K N : Type 0} (raising : Raising) (ending : Ending) (begun : List ℕ) (a : FieldNode K N) (given : Option (List Turn)) (noted from to : Option (List ℕ)) (stop : LoopStop)
-    → IsUnwritten begun from to stop → StopsLoop raising (setting_of a) ending begun (condition_of a noted) given given noted from to stop
-stops_at_start raising ending begun a given noted from to stop unwritten =
-    inl (record { cause = unwritten.0; ungiven = refl; unnoted = refl; sent = unwritten.1 })
+-- turns that may have come to the end, behind turns
+pub turned_behind_both : {K N : Type 0} (raising : Raising) (ending : Ending) (a b c : FieldNode K N) (going : Bool) (g1 g2 g3 : Option (List Turn)) (n1 n2 n3 w1 w2 w3 : Option (List ℕ))
+    → Follows raising ending a b true g1 g2 n1 n2 w1 w2 → HasTurned raising ending b c g2 g3 n2 n3 w2 w3 going → HasTurned raising ending a c g1 g3 n1 n3 w1 w3 going
+turned_behind_both raising ending a b c true g1 g2 g3 n1 n2 n3 w1 w2 w3 p q = follows_both raising ending a b c true g1 g2 g3 n1 n2 n3 w1 w2 w3 p q
+turned_behind_both raising ending a b c false g1 g2 g3 n1 n2 n3 w1 w2 w3 p q = ends_behind raising ending a b c g1 g2 g3 n1 n2 n3 w1 w2 w3 p q

@@ -3,6 +3,7 @@ use Rattle.std.specs.Prelude.{◌≡◌, ◌⊎◌, ℕ, Bool, true, List, Optio
 use Rattle.std.specs.Io.KnownBytes.{Appends}
 use Rattle.text_lines.specs.Sending.{SendsPart}
 use Rattle.live_node.specs.NodeAnswers.{Raising}
+use Rattle.live_node.specs.Syncing.{Grows}
 use Rattle.live_node.specs.declared.live_stop.LiveStop.TheVariants.{Write}
 use Rattle.field_node.specs.declared.field_node.FieldNode.{FieldNode}
 use Rattle.node_loop.specs.declared.ending.Ending.{Ending}
@@ -42,25 +43,25 @@ pub record RunsLoop (raising : Raising) (set : Setting) (ending : Ending) (begun
   pub new_is : new ≡ last.condition
   pub to_is : to ≡ last.written
 
--- nothing was given or noted, and no more than a beginning of what is written at the start was written
+-- nothing was given or noted, and no more than a beginning of what is written at the start was written, whose note is on the disk
 pub record StopsAtStart (begun : List ℕ) (old : Condition) (given_old given_new : Option (List Turn))
-    (noted from to : Option (List ℕ)) (stop : LoopStop) : Type 0 where
+    (noted synced from to : Option (List ℕ)) (stop : LoopStop) : Type 0 where
   pub cause : stop ≡ Live Write
   pub ungiven : given_new ≡ given_old
   pub unnoted : noted ≡ old.noted
+  pub synced_are : Grows old.noted synced
   pub sent : SendsPart begun from to
 
--- what is written at the start was written whole; behind it turns were made, one after the other; and at the next one the loop
--- stopped
+-- what is written at the start was written whole; behind it turns were made, one after the other; and then the loop stopped
 pub record StopsGoing (raising : Raising) (set : Setting) (ending : Ending) (begun : List ℕ) (old : Condition)
-    (given_old given_new : Option (List Turn)) (noted from to : Option (List ℕ)) (stop : LoopStop) : Type 0 where
+    (given_old given_new : Option (List Turn)) (noted synced from to : Option (List ℕ)) (stop : LoopStop) : Type 0 where
   pub behind_begun : Option (List ℕ)
   pub begins : Appends from behind_begun begun
-  pub stops : StopsBehind raising set ending (at_first old given_old behind_begun) given_new noted to stop
+  pub stops : StopsBehind raising set ending (at_first old given_old behind_begun) given_new noted synced to stop
 
--- Why a loop stops, and what was given, noted and written before.
+-- Why a loop stops, and what was given, noted and written before; what was written rests on notes that are on the disk.
 abbrev pub StopsLoop : Raising → Setting → Ending → List ℕ → Condition → Option (List Turn) → Option (List Turn)
-    → Option (List ℕ) → Option (List ℕ) → Option (List ℕ) → LoopStop → Type 0
-StopsLoop raising set ending begun old given_old given_new noted from to stop =
-    StopsAtStart begun old given_old given_new noted from to stop
-    ⊎ StopsGoing raising set ending begun old given_old given_new noted from to stop
+    → Option (List ℕ) → Option (List ℕ) → Option (List ℕ) → Option (List ℕ) → LoopStop → Type 0
+StopsLoop raising set ending begun old given_old given_new noted synced from to stop =
+    StopsAtStart begun old given_old given_new noted synced from to stop
+    ⊎ StopsGoing raising set ending begun old given_old given_new noted synced from to stop

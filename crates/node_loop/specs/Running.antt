@@ -60,8 +60,9 @@ pub record StopsBegun {K : Type 0} (last : K → ℕ) (raises : K → Result ℕ
   pub first : Condition
   pub begun : List ℕ
   pub noted_then : Option (List ℕ)
+  pub synced_then : Option (List ℕ)
   pub begins : BeginsAlone (raises keeper) (tells keeper) plant resource alone first noted begun
-  pub stops : StopsLoop (a_keeper_gives last raises) (setting plant resource alone) alone.ending begun first given_old given_new noted_then from to stop
+  pub stops : StopsLoop (a_keeper_gives last raises) (setting plant resource alone) alone.ending begun first given_old given_new noted_then synced_then from to stop
 
 -- Why a node isn't run to its end, and what was given, noted and written before: where it didn't begin, nothing was given or
 -- written.
