@@ -143,31 +143,46 @@ class Account:
     # The end.
 
     def end(self, rest, was_killed):
-        """What remains: the beginning of an answer, and what was noted of it. One that wasn't killed leaves nothing."""
+        """What remains: lines that were noted and not told, and the beginning of an answer. A node that wasn't killed leaves nothing."""
         self.left = [self.copied_left()]
-        if self.at < len(self.noted) and was_killed:
-            self.compare_rest(rest, self.last_noted())
-        elif rest.startswith("SEND") and was_killed:
+        untold = []
+        while self.at < len(self.noted) and was_killed:
+            untold.append(self.next_noted())
+            self.left.append(self.copied_left())
+        if untold and rest.startswith(("SEND", "OVERRUN", "EVAL")) and " HELLO " not in rest:
+            self.compare_rest(rest, untold[0])
+        elif not untold and rest.startswith("SEND") and was_killed:
             # (a stray message, say, which is answered and not noted)
             self.compare_rest(rest, self.next_told())
-        elif rest.startswith(("SEND", "OVERRUN")) or (rest and not was_killed):
+        elif not untold and (rest.startswith(("SEND", "OVERRUN")) or (rest and not was_killed)):
             raise Wrong(f"written, and not noted: {rest!r}")
-        self.left.append(self.copied_left())
         if self.at < len(self.noted):
             raise Wrong(f"noted, and not done: {self.noted[self.at]}")
 
     def copied_left(self):
         return dict(self.model.node.core.left)
 
-    def last_noted(self):
-        """What is to be written of the line that was noted last."""
-        word = parts_of(self.noted[self.at])[0].upper()
+    def next_noted(self):
+        """What is to be written of the line that was noted next, behind those that weren't noted."""
+        word, *behind = parts_of(self.noted[self.at])
+        word, at = word.upper(), self.at
         if word == "EVAL" and self.model.cycle:
+            while self.model.told() != behind[2:]:
+                self.do_next_of(FIELD)
             return self.evaluated()
-        step = self.next_of(ORIGINS[word] if self.has_field else NEIGHBOURS)
-        if not step:
+        while self.at == at:
+            told = self.do_next_of(ORIGINS[word] if self.has_field else NEIGHBOURS)
+        return told
+
+    def do_next_of(self, origin):
+        """Does the next line of an input, which isn't told; what is to be written of it."""
+        steps, at = self.steps[origin], max(place[origin == NEIGHBOURS] for place in self.places)
+        while at < len(steps) and not callable(steps[at]):
+            at += 1
+        if at == len(steps):
             raise Wrong(f"noted, and given by no input: {self.noted[self.at]}")
-        return step()
+        self.places = {(at + 1, it[1]) if origin == FIELD else (it[0], at + 1) for it in self.places}
+        return steps[at]()
 
     def next_told(self):
         """What is to be written of the neighbours' next line."""

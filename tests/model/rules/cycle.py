@@ -92,9 +92,12 @@ class FieldNode:
         asked = self.cycle.ask(reading)
         if not asked:
             return None
-        told = [f"{space}{number}={words.shown(value)}" for (space, number), value in self.field.items()]
         skips = [f"OVERRUN {asked.task.full_name} {asked.skipped}"] if asked.skipped else []
-        return skips + self.node.answer(" ".join(["EVAL", asked.task.full_name, str(asked.elapsed), *told]))
+        return skips + self.node.answer(" ".join(["EVAL", asked.task.full_name, str(asked.elapsed), *self.told()]))
+
+    def told(self):
+        """What the field is, as words."""
+        return [f"{space}{number}={words.shown(value)}" for (space, number), value in self.field.items()]
 
 
 def told_by(listed):
