@@ -1,7 +1,8 @@
-use Rattle.std.specs.Prelude.{◌≡◌, ℕ, List, Bool, false, slice_get, slice_set}
+use Rattle.std.specs.Prelude.{◌≡◌, ℕ, ℤ, List, Bool, false, if◌then◌else◌, int_lt, slice_get, slice_set}
 use Rattle.std.specs.Option.{option_map_or}
 use Rattle.std_blocks.specs.declared.value.Value.{Value}
 use Rattle.declared_names.specs.Kinds.{kind_of, value_first}
+use Rattle.scan_steps.specs.declared.slot.Instance.{Instance}
 use Rattle.scan_steps.specs.declared.slot.Slot.{Slot}
 use Rattle.scan_steps.specs.declared.slot.Slot.TheVariants.{Variable, Block}
 use Rattle.scan_steps.specs.First.{instance_first}
@@ -27,6 +28,31 @@ slot_cleared (Block i) = Block (instance_first i.state.block)
 abbrev pub cleared_at : StateValue → ℕ → StateValue
 cleared_at s place = record s {
   slots = option_map_or (λ x. slice_set s.slots place (slot_cleared x)) (slice_get s.slots place) s.slots;
+}
+
+-- a count that goes no further than from the least to the most
+abbrev pub count_between : ℤ → ℤ → ℤ → ℤ
+count_between least most count =
+    if int_lt most count then most
+    else (if int_lt count least then least
+    else count)
+
+-- a block whose count, and the CV that it shows, go no further
+abbrev pub instance_between : ℤ → ℤ → Instance → Instance
+instance_between least most i = record {
+  state = record i.state { count = count_between least most i.state.count };
+  outputs = record i.outputs { int = count_between least most i.outputs.int };
+}
+
+-- what stands at a name, if it is a block with such a count
+abbrev pub slot_between : ℤ → ℤ → Slot → Slot
+slot_between least most (Variable v) = Variable v
+slot_between least most (Block i) = Block (instance_between least most i)
+
+-- the state in which what stands at a place is so
+abbrev pub count_limited_at : StateValue → ℕ → ℤ → ℤ → StateValue
+count_limited_at s place least most = record s {
+  slots = option_map_or (λ x. slice_set s.slots place (slot_between least most x)) (slice_get s.slots place) s.slots;
 }
 
 -- the state in which the memory at a place is OFF
