@@ -9,6 +9,7 @@ struct Rank {
     activity: u64,
     place: Option<usize>,
     last: bool,
+    may_be_decided: bool,
 }
 
 /// Variables by their part in conflicts, the most active first: a heap of those that may be decided.
@@ -37,7 +38,29 @@ impl Decisions {
             activity: 0,
             place: None,
             last: false,
+            may_be_decided: true,
         })?;
+        self.put(variable)
+    }
+
+    /// Only these variables may be decided from now on.
+    pub(crate) fn limit(&mut self, variables: &[usize]) -> Result<(), AllocError> {
+        self.heap.truncate(0);
+        for rank in self.ranks.iter_mut() {
+            rank.place = None;
+            rank.may_be_decided = false;
+        }
+        for variable in variables {
+            self.allow(*variable)?;
+        }
+        Ok(())
+    }
+
+    /// A variable may be decided.
+    fn allow(&mut self, variable: usize) -> Result<(), AllocError> {
+        if let Some(rank) = self.ranks.get_mut(variable) {
+            rank.may_be_decided = true;
+        }
         self.put(variable)
     }
 
@@ -57,11 +80,11 @@ impl Decisions {
         self.put(variable)
     }
 
-    /// Puts a variable into the heap, unless it is there.
+    /// Puts a variable that may be decided into the heap, unless it is there.
     fn put(&mut self, variable: usize) -> Result<(), AllocError> {
         let place = self.heap.len();
         match self.ranks.get_mut(variable) {
-            Some(rank) if rank.place.is_none() => rank.place = Some(place),
+            Some(rank) if rank.may_be_decided && rank.place.is_none() => rank.place = Some(place),
             _ => return Ok(()),
         }
         self.heap.push(variable)?;

@@ -12,13 +12,19 @@ const FIRST_RESTART: u64 = 100;
 enum Next {
     /// Go on with what was decided.
     Decided,
-    /// All variables have values.
+    /// All variables that may be decided have values.
     Done,
     /// These assumptions can't be TRUE together.
     Refuted(Vec<Literal>),
 }
 
 impl Solver {
+    /// Only these variables are decided from now on. Whoever calls it knows that values of them alone go on to all others.
+    pub fn decide_only(&mut self, variables: &[usize]) -> Result<(), AllocError> {
+        self.restart()?;
+        self.decisions.limit(variables)
+    }
+
     /// Searches for values that make all clauses and the assumptions TRUE, with at most so many conflicts and
     /// decisions. The values stay until a clause is added or another search begins.
     pub fn solve(&mut self, assumptions: &[Literal], effort: u64) -> Result<Outcome, AllocError> {

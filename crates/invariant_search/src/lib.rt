@@ -4,6 +4,7 @@
 #![tactic(auto)]
 
 mod certifying;
+mod cones;
 mod cubes;
 mod frames;
 mod queries;
