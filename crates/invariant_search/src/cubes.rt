@@ -21,7 +21,7 @@ pub(crate) fn has_state(cube: &[Literal], state: &[bool]) -> bool {
 }
 
 /// A literal of a state.
-pub(crate) fn is_on(state: &[bool], literal: Literal) -> bool {
+fn is_on(state: &[bool], literal: Literal) -> bool {
     match state.get(literal.variable) {
         Some(bit) => *bit != literal.is_negated,
         None => false,
@@ -51,6 +51,39 @@ pub(crate) fn all_over(
         }
     }
     Ok(literals)
+}
+
+/// The signals of the bits of a cube.
+pub(crate) fn signals_over(
+    alloc: Global,
+    signals: &[Signal],
+    cube: &[Literal],
+) -> Result<Vec<Signal>, AllocError> {
+    let mut found = Vec::new(alloc);
+    for literal in cube {
+        if let Some(signal) = signals.get(literal.variable) {
+            found.push(*signal)?;
+        }
+    }
+    Ok(found)
+}
+
+/// A part of a cube that the first state isn't in: where it is, with a literal of the cube that the first state hasn't.
+pub(crate) fn apart_from(
+    first: &[bool],
+    mut part: Vec<Literal>,
+    cube: &[Literal],
+) -> Result<Vec<Literal>, AllocError> {
+    if !has_state(&part, first) {
+        return Ok(part);
+    }
+    for literal in cube {
+        if !is_on(first, *literal) {
+            part.push(*literal)?;
+            break;
+        }
+    }
+    Ok(part)
 }
 
 /// The clause that says that a state isn't in a cube.

@@ -6,6 +6,7 @@
 mod certifying;
 mod cones;
 mod cubes;
+mod frame_solver;
 mod frames;
 mod queries;
 mod search;
