@@ -1,1 +1,3 @@
 pub mod LowValues
+pub mod BitLaws
+pub mod WordLaws

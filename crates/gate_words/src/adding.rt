@@ -26,7 +26,7 @@ fn add_three(
 ) -> Result<Added, AllocError>
     ensures { IfOk result (λ a. IsBuilt gates.old gates.new
         (λ v. digit (signal_value v a.bit) + 2 * digit (signal_value v a.carry)
-            ≡ digit (signal_value v one) + digit (signal_value v other) + digit (signal_value v third))) }
+        ≡ digit (signal_value v one) + digit (signal_value v other) + digit (signal_value v third))) }
 {
     let differ = gates.xor(one, other)?;
     let bit = gates.xor(differ, third)?;
@@ -44,7 +44,7 @@ fn add_bits(
 ) -> Result<Added, AllocError>
     ensures { IfOk result (λ a. IsBuilt gates.old gates.new
         (λ v. digit (signal_value v a.bit) + 2 * digit (signal_value v a.carry)
-            ≡ digit (bit_at v left.now place) + digit (bit_at v right.now place) + digit (signal_value v carry))) }
+        ≡ digit (bit_at v left.now place) + digit (bit_at v right.now place) + digit (signal_value v carry))) }
 {
     let of_left = bit(gates, left, place);
     let of_right = bit(gates, right, place);

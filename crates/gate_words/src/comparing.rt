@@ -24,11 +24,7 @@ fn is_same_bit(
 }
 
 /// A signal that is TRUE where both words are the same number.
-pub fn equal(
-    gates: &mut Gates,
-    left: &[Signal],
-    right: &[Signal],
-) -> Result<Signal, AllocError>
+pub fn equal(gates: &mut Gates, left: &[Signal], right: &[Signal]) -> Result<Signal, AllocError>
     ensures { IfOk result (λ s. IsBuilt gates.old gates.new
         (λ v. signal_value v s ≡ (word_value v left.now == word_value v right.now))) }
 {
@@ -51,8 +47,8 @@ fn at_most_by_bit(
 ) -> Result<Signal, AllocError>
     ensures { IfOk result (λ s. IsBuilt gates.old gates.new
         (λ v. signal_value v s
-            ≡ (if (if bit_at v left.now place then bit_at v right.now place else not (bit_at v right.now place)) then signal_value v before
-                else bit_at v right.now place))) }
+        ≡ (if (if bit_at v left.now place then bit_at v right.now place else not (bit_at v right.now place)) then signal_value v before
+        else bit_at v right.now place))) }
 {
     let same = is_same_bit(gates, left, right, place)?;
     let of_right = bit(gates, right, place);
@@ -60,11 +56,7 @@ fn at_most_by_bit(
 }
 
 /// A signal that is TRUE where the left word is at most the right one.
-pub fn at_most(
-    gates: &mut Gates,
-    left: &[Signal],
-    right: &[Signal],
-) -> Result<Signal, AllocError>
+pub fn at_most(gates: &mut Gates, left: &[Signal], right: &[Signal]) -> Result<Signal, AllocError>
     ensures { IfOk result (λ s. IsBuilt gates.old gates.new
         (λ v. signal_value v s ≡ leb (word_value v left.now) (word_value v right.now))) }
 {

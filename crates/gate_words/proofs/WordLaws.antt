@@ -1,0 +1,100 @@
+-- Words that grow bit by bit.
+use Rattle.std.proofs.Common.{◌≡◌, ℕ, ◌+◌, ◌*◌, ◌/◌, ◌%◌, ◌^◌, ◌<◌, ◌≤◌, ◌&&◌, max, Bool, true, false, not, cond, eqb, leb, List, [], ◌∷◌, ◌++◌, length, map, get_or, refl, ap, sym, ◌∙◌, arith}
+use Rattle.std.proofs.lemmas.List.{get_or-map, get_or_past, length-map, map-append}
+use Rattle.gates.specs.declared.signal.Signal.{Signal}
+use Rattle.gates.specs.Signals.{bit_of, signal_value}
+use Rattle.gate_words.specs.Words.{number_of, word_value}
+use Rattle.gate_words.specs.Steps.Bits.{bit_at, digit, low_value, weight}
+use Rattle.gate_words.proofs.BitLaws.{eqb_more, leb_more, sum_weighed, weighed_half}
+use Rattle.gate_words.proofs.LowValues.{low_enough, low_lt, low_more, number_low, number_push, weight_is, weight_more}
+
+-- a bit of a word is that of its signal
+pub bit_within : (v : ℕ → Bool) (word : List Signal) (k : ℕ) (d : Signal) → k < length word → bit_at v word k ≡ signal_value v (get_or word k d)
+bit_within v word k d lt = get_or-map (signal_value v) word k d false lt
+
+pub bit_beyond : (v : ℕ → Bool) (word : List Signal) (k : ℕ) → length word ≤ k → bit_at v word k ≡ false
+bit_beyond v word k le =
+    let long = length-map word (signal_value v) in
+    get_or_past (map (signal_value v) word) k false (omega (arith, long, le))
+
+pub word_push : (v : ℕ → Bool) (word : List Signal) (s : Signal) (n : ℕ) → length word ≡ n
+    → word_value v (word ++ s ∷ []) ≡ word_value v word + cond (signal_value v s) (weight n) 0
+word_push v word s n long =
+    ap number_of (map-append (signal_value v) word (s ∷ [])) ∙ number_push (map (signal_value v) word) (signal_value v s)
+    ∙ ap (λ k. word_value v word + cond (signal_value v s) (weight k) 0) (length-map word (signal_value v) ∙ long)
+
+-- a word by so many of its bits
+pub word_low : (v : ℕ → Bool) (word : List Signal) (n : ℕ) → length word ≤ n → word_value v word ≡ low_value (bit_at v word) n
+word_low v word n le =
+    let long = length-map word (signal_value v) in
+    number_low (map (signal_value v) word) n (omega (arith, long, le))
+
+-- a choice by a bit more
+chosen_more : (on : Bool) (a b : ℕ → Bool) (n w : ℕ) (s : Bool) → w ≡ cond on (low_value a n) (low_value b n) → s ≡ cond on (a n) (b n)
+    → w + cond s (weight n) 0 ≡ cond on (low_value a (n + 1)) (low_value b (n + 1))
+chosen_more true a b n w s e f = ap (λ k. k + cond s (weight n) 0) e ∙ ap (λ t. low_value a n + cond t (weight n) 0) f ∙ sym (low_more a n)
+chosen_more false a b n w s e f = ap (λ k. k + cond s (weight n) 0) e ∙ ap (λ t. low_value b n + cond t (weight n) 0) f ∙ sym (low_more b n)
+
+pub choice_more : (v : ℕ → Bool) (word first second : List Signal) (condition s : Signal) (n : ℕ) → length word ≡ n
+    → word_value v word ≡ cond (signal_value v condition) (low_value (bit_at v first) n) (low_value (bit_at v second) n)
+    → signal_value v s ≡ cond (signal_value v condition) (bit_at v first n) (bit_at v second n)
+    → word_value v (word ++ s ∷ [])
+    ≡ cond (signal_value v condition) (low_value (bit_at v first) (n + 1)) (low_value (bit_at v second) (n + 1))
+choice_more v word first second condition s n long e f =
+    word_push v word s n long
+    ∙ chosen_more (signal_value v condition) (bit_at v first) (bit_at v second) n (word_value v word) (signal_value v s) e f
+
+pub choice_all : (v : ℕ → Bool) (on : Bool) (first second : List Signal) (n : ℕ) → length first ≤ n → length second ≤ n
+    → cond on (low_value (bit_at v first) n) (low_value (bit_at v second) n) ≡ cond on (word_value v first) (word_value v second)
+choice_all v true first second n one two = sym (word_low v first n one)
+choice_all v false first second n one two = sym (word_low v second n two)
+
+-- what is compared, by a bit more
+pub equal_more : (a b : ℕ → Bool) (n : ℕ) (so_far same new : Bool) → so_far ≡ eqb (low_value a n) (low_value b n)
+    → same ≡ cond (a n) (b n) (not (b n)) → new ≡ (so_far && same) → new ≡ eqb (low_value a (n + 1)) (low_value b (n + 1))
+equal_more a b n so_far same new e f g =
+    g ∙ ap (λ t. t && same) e ∙ ap (λ t. eqb (low_value a n) (low_value b n) && t) f
+    ∙ eqb_more (a n) (b n) (low_value a n) (low_value b n) (weight n) (low_lt a n) (low_lt b n)
+    ∙ ap (λ k. eqb k (low_value b n + cond (b n) (weight n) 0)) (sym (low_more a n))
+    ∙ ap (λ k. eqb (low_value a (n + 1)) k) (sym (low_more b n))
+
+pub at_most_more : (a b : ℕ → Bool) (n : ℕ) (so_far new : Bool) → so_far ≡ leb (low_value a n) (low_value b n)
+    → new ≡ cond (cond (a n) (b n) (not (b n))) so_far (b n) → new ≡ leb (low_value a (n + 1)) (low_value b (n + 1))
+at_most_more a b n so_far new e g =
+    g ∙ ap (λ t. cond (cond (a n) (b n) (not (b n))) t (b n)) e
+    ∙ leb_more (a n) (b n) (low_value a n) (low_value b n) (weight n) (low_lt a n) (low_lt b n)
+    ∙ ap (λ k. leb k (low_value b n + cond (b n) (weight n) 0)) (sym (low_more a n))
+    ∙ ap (λ k. leb (low_value a (n + 1)) k) (sym (low_more b n))
+
+-- what is added, by a bit more
+pub sum_more : (v : ℕ → Bool) (word : List Signal) (s : Signal) (a b : ℕ → Bool) (n : ℕ) (carry next : Bool) → length word ≡ n
+    → word_value v word + cond carry (weight n) 0 ≡ low_value a n + low_value b n
+    → digit (signal_value v s) + 2 * digit next ≡ digit (a n) + digit (b n) + digit carry
+    → word_value v (word ++ s ∷ []) + cond next (weight (n + 1)) 0 ≡ low_value a (n + 1) + low_value b (n + 1)
+sum_more v word s a b n carry next long e f =
+    let pushed = word_push v word s n long in
+    let heavier : cond next (weight (n + 1)) 0 ≡ cond next (weight n + weight n) 0 = ap (λ k. cond next k 0) (weight_more n) in
+    let bits = sum_weighed (a n) (b n) carry (signal_value v s) next (weight n) f in
+    let of_a = low_more a n in
+    let of_b = low_more b n in
+    omega (arith, e, pushed, heavier, bits, of_a, of_b)
+
+-- what is left of a number, by its lowest bit
+pub rest_more : (v : ℕ → Bool) (word : List Signal) (s : Signal) (rest number : ℕ)
+    → word_value v word + weight (length word) * rest ≡ number → signal_value v s ≡ eqb (rest % 2) 1
+    → word_value v (word ++ s ∷ []) + weight (length word + 1) * (rest / 2) ≡ number
+rest_more v word s rest number e f =
+    let pushed = word_push v word s (length word) refl in
+    let bit : cond (signal_value v s) (weight (length word)) 0 ≡ cond (eqb (rest % 2) 1) (weight (length word)) 0 =
+    ap (λ t. cond t (weight (length word)) 0) f in
+    let heavier : weight (length word + 1) * (rest / 2) ≡ (weight (length word) + weight (length word)) * (rest / 2) =
+    ap (λ k. k * (rest / 2)) (weight_more (length word)) in
+    let halves = weighed_half (weight (length word)) rest in
+    omega (arith, e, pushed, bit, heavier, halves)
+
+-- so many bits are enough for a number that fits
+pub enough : (v : ℕ → Bool) (word : List Signal) (n : ℕ) → word_value v word < 2 ^ n → low_value (bit_at v word) n ≡ word_value v word
+enough v word n fits =
+    let all = word_low v word (length word + n) (omega arith) in
+    let heavy = weight_is n in
+    sym (all ∙ low_enough (bit_at v word) n (length word) (omega (arith, fits, all, heavy)))
