@@ -60,9 +60,9 @@ pub fn at_most(gates: &mut Gates, left: &[Signal], right: &[Signal]) -> Result<S
     ensures { IfOk result (λ s. IsBuilt gates.old gates.new
         (λ v. signal_value v s ≡ leb (word_value v left.now) (word_value v right.now))) }
 {
-    let mut so_far = gates.constant(true);
+    let mut is_at_most = gates.constant(true);
     for place in 0..left.len().max(right.len()) {
-        so_far = at_most_by_bit(gates, left, right, place, so_far)?;
+        is_at_most = at_most_by_bit(gates, left, right, place, is_at_most)?;
     }
-    Ok(so_far)
+    Ok(is_at_most)
 }
