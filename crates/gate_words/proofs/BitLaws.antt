@@ -93,3 +93,14 @@ weighed_half w n =
     let all = ap (λ k. w * k) (halved n) in
     let of_bit = weighed (eqb (n % 2) 1) w in
     omega (arith, all, of_bit)
+
+-- nothing is left of a number
+pub nothing_left : (x w rest number : ℕ) → rest ≤ 0 → x + w * rest ≡ number → x ≡ number
+nothing_left x w rest number le e =
+    let none : rest ≡ 0 = omega (arith, le) in
+    let times : w * 0 ≡ 0 = omega arith in
+    let gone : w * rest ≡ 0 = ap (λ k. w * k) none ∙ times in omega (arith, e, gone)
+
+pub none_chosen : (on : Bool) → 0 ≡ cond on 0 0
+none_chosen true = refl
+none_chosen false = refl

@@ -71,7 +71,7 @@ sum_more v word s a b n carry next long e f =
     let new = word_value v (word ++ s ∷ []) in
     ap (λ k. new + cond next k 0) (weight_more n)
     ∙ add_step new (word_value v word) (cond (signal_value v s) w 0) (cond next (w + w) 0) (cond carry w 0) (low_value a n) (low_value b n)
-        (cond (a n) w 0) (cond (b n) w 0) (word_push v word s n long) e (sum_weighed (a n) (b n) carry (signal_value v s) next w f)
+    (cond (a n) w 0) (cond (b n) w 0) (word_push v word s n long) e (sum_weighed (a n) (b n) carry (signal_value v s) next w f)
     ∙ ap (λ k. k + (low_value b n + cond (b n) w 0)) (sym (low_more a n)) ∙ ap (λ k. low_value a (n + 1) + k) (sym (low_more b n))
 
 -- what is left of a number, by its lowest bit
@@ -86,7 +86,7 @@ rest_more v word s rest number e f =
     let new = word_value v (word ++ s ∷ []) in
     ap (λ k. new + k * (rest / 2)) (weight_more (length word))
     ∙ rest_step new (word_value v word) (cond (signal_value v s) w 0) ((w + w) * (rest / 2)) (w * rest) number
-        (word_push v word s (length word) refl) e (ap (λ t. cond t w 0 + (w + w) * (rest / 2)) f ∙ weighed_half w rest)
+    (word_push v word s (length word) refl) e (ap (λ t. cond t w 0 + (w + w) * (rest / 2)) f ∙ weighed_half w rest)
 
 -- so many bits are enough for a number that fits
 pub enough : (v : ℕ → Bool) (word : List Signal) (n : ℕ) → word_value v word < 2 ^ n → low_value (bit_at v word) n ≡ word_value v word

@@ -4,7 +4,7 @@ ghost use Rattle.gates.specs.Gates.{IsBuilt};
 ghost use Rattle.gate_words.specs.Words.{word_value};
 ghost use Rattle.gate_words.specs.Steps.Bits.{bit_at, digit};
 
-use crate::bits::bit;
+use crate::bits::{bit, longer};
 use crate::choosing::if_then_else;
 use crate::comparing::at_most;
 use gates::{Gates, Signal};
@@ -63,7 +63,8 @@ pub fn sum(
 {
     let mut word = Vec::new(alloc);
     let mut carry = gates.constant(false);
-    for place in 0..left.len().max(right.len()) {
+    let places = longer(left, right);
+    for place in 0..places {
         let added = add_bits(gates, left, right, place, carry)?;
         word.push(added.bit)?;
         carry = added.carry;
@@ -84,6 +85,7 @@ pub fn bounded_sum(
         (λ v. word_value v word.items ≡ min (word_value v left.now + word_value v right.now) (word_value v bound.now))) }
 {
     let all = sum(alloc, gates, left, right)?;
-    let fits = at_most(gates, &all, bound)?;
-    if_then_else(alloc, gates, fits, &all, bound)
+    let word = all.as_slice();
+    let fits = at_most(gates, word, bound)?;
+    if_then_else(alloc, gates, fits, word, bound)
 }

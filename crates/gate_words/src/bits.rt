@@ -1,4 +1,4 @@
-ghost use Rattle.std.specs.Prelude.{◌≡◌, ℕ, Bool};
+ghost use Rattle.std.specs.Prelude.{◌≡◌, ◌≤◌, ℕ, Bool, length};
 ghost use Rattle.gates.specs.Signals.{signal_value};
 ghost use Rattle.gates.specs.Gates.{Agrees};
 ghost use Rattle.gate_words.specs.Steps.Bits.{bit_at};
@@ -13,4 +13,12 @@ pub(crate) fn bit(gates: &Gates, word: &[Signal], place: usize) -> Signal
         Some(signal) => *signal,
         None => gates.constant(false),
     }
+}
+
+/// How many bits the longer of two words has.
+pub(crate) fn longer(left: &[Signal], right: &[Signal]) -> usize
+    ensures of_left { length left.now ≤ result }
+    ensures of_right { length right.now ≤ result }
+{
+    left.len().max(right.len())
 }

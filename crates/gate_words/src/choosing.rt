@@ -4,7 +4,7 @@ ghost use Rattle.gates.specs.Gates.{IsBuilt};
 ghost use Rattle.gate_words.specs.Words.{word_value};
 ghost use Rattle.gate_words.specs.Steps.Bits.{bit_at};
 
-use crate::bits::bit;
+use crate::bits::{bit, longer};
 use gates::{Gates, Signal};
 use std::alloc::{AllocError, Global};
 
@@ -36,7 +36,8 @@ pub fn if_then_else(
         (λ v. word_value v word.items ≡ (if signal_value v condition then word_value v first.now else word_value v second.now))) }
 {
     let mut word = Vec::new(alloc);
-    for place in 0..first.len().max(second.len()) {
+    let places = longer(first, second);
+    for place in 0..places {
         let chosen = chosen_bit(gates, condition, first, second, place)?;
         word.push(chosen)?;
     }

@@ -4,7 +4,7 @@ ghost use Rattle.gates.specs.Gates.{IsBuilt};
 ghost use Rattle.gate_words.specs.Words.{word_value};
 ghost use Rattle.gate_words.specs.Steps.Bits.{bit_at};
 
-use crate::bits::bit;
+use crate::bits::{bit, longer};
 use gates::{Gates, Signal};
 use std::alloc::AllocError;
 
@@ -29,7 +29,8 @@ pub fn equal(gates: &mut Gates, left: &[Signal], right: &[Signal]) -> Result<Sig
         (λ v. signal_value v s ≡ (word_value v left.now == word_value v right.now))) }
 {
     let mut so_far = gates.constant(true);
-    for place in 0..left.len().max(right.len()) {
+    let places = longer(left, right);
+    for place in 0..places {
         let same = is_same_bit(gates, left, right, place)?;
         so_far = gates.and(so_far, same)?;
     }
@@ -61,7 +62,8 @@ pub fn at_most(gates: &mut Gates, left: &[Signal], right: &[Signal]) -> Result<S
         (λ v. signal_value v s ≡ leb (word_value v left.now) (word_value v right.now))) }
 {
     let mut is_at_most = gates.constant(true);
-    for place in 0..left.len().max(right.len()) {
+    let places = longer(left, right);
+    for place in 0..places {
         is_at_most = at_most_by_bit(gates, left, right, place, is_at_most)?;
     }
     Ok(is_at_most)

@@ -20,7 +20,7 @@ loop-place-preserved c =
           let before = c.loop-place.invariant.built v new.0 in (
             before.0,
             ap (λ ws. word_value v ws + cond (signal_value v c.in_ok-added.added.carry) (weight (n + 1)) 0) items
-            ∙ sum_more v word s (bit_at v c.args.left.now) (bit_at v c.args.right.now) n (signal_value v c.loop-place.carry)
+                ∙ sum_more v word s (bit_at v c.args.left.now) (bit_at v c.args.right.now) n (signal_value v c.loop-place.carry)
                 (signal_value v c.in_ok-added.added.carry) long before.1 new.1,
           );
     }
@@ -30,9 +30,9 @@ returns c = λ v agrees.
     let is = c.loop-place.invariant.built v agrees in
     let word = c.loop-place.word.items in
     let n = c.loop-place.place in
-    let one : length c.args.left.now ≤ n = ? in
-    let two : length c.args.right.now ≤ n = ? in (
+    let one : length c.args.left.now ≤ n = omega (arith, c.longer-places.ensures.of_left, c.loop-place-test.false) in
+    let two : length c.args.right.now ≤ n = omega (arith, c.longer-places.ensures.of_right, c.loop-place-test.false) in (
       is.0,
       ap (word_value v) c.in_ok-push-2.ensures.items
-      ∙ sum_all v word c.args.left.now c.args.right.now c.loop-place.carry n c.loop-place.invariant.long one two is.1,
+          ∙ sum_all v word c.args.left.now c.args.right.now c.loop-place.carry n c.loop-place.invariant.long one two is.1,
     )

@@ -10,5 +10,5 @@ invariant-loop-place l = record {
   long : length l.word.items ≡ l.place;
   built : IsBuilt l.fn.gates l.gates
       (λ v. word_value v l.word.items + cond (signal_value v l.carry) (weight l.place) 0
-          ≡ low_value (bit_at v l.left) l.place + low_value (bit_at v l.right) l.place);
+      ≡ low_value (bit_at v l.left) l.place + low_value (bit_at v l.right) l.place);
 }

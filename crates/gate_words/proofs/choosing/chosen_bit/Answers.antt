@@ -17,6 +17,6 @@ returns c =
     (λ s v. signal_value v s ≡ cond (signal_value v on) (bit_at v first k) (bit_at v second k))
     (λ v agrees. agrees)
     (λ s v agrees e.
-      e ∙ ap (λ x. cond (signal_value v on) x (signal_value v b)) (c.bit-of_first.ensures v agrees)
-      ∙ ap (λ x. cond (signal_value v on) (bit_at v first k) x) (c.bit-of_second.ensures v agrees))
+    e ∙ ap (λ x. cond (signal_value v on) x (signal_value v b)) (c.bit-of_first.ensures v agrees)
+    ∙ ap (λ x. cond (signal_value v on) (bit_at v first k) x) (c.bit-of_second.ensures v agrees))
     c.if_then_else.result c.if_then_else.ensures

@@ -19,7 +19,7 @@ loop-place-preserved c =
           let before = c.loop-place.invariant.built v new.0 in (
             before.0,
             ap (word_value v) items
-            ∙ choice_more v word c.args.first.now c.args.second.now c.args.condition s n long before.1 new.1,
+                ∙ choice_more v word c.args.first.now c.args.second.now c.args.condition s n long before.1 new.1,
           );
     }
 
@@ -27,6 +27,6 @@ pub returns : goal.returns
 returns c = λ v agrees.
     let is = c.loop-place.invariant.built v agrees in
     let n = c.loop-place.place in
-    let one : length c.args.first.now ≤ n = ? in
-    let two : length c.args.second.now ≤ n = ? in
+    let one : length c.args.first.now ≤ n = omega (arith, c.longer-places.ensures.of_left, c.loop-place-test.false) in
+    let two : length c.args.second.now ≤ n = omega (arith, c.longer-places.ensures.of_right, c.loop-place-test.false) in
     (is.0, is.1 ∙ choice_all v (signal_value v c.args.condition) c.args.first.now c.args.second.now n one two)

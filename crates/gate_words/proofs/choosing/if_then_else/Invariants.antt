@@ -10,5 +10,5 @@ invariant-loop-place l = record {
   long : length l.word.items ≡ l.place;
   built : IsBuilt l.fn.gates l.gates
       (λ v. word_value v l.word.items
-          ≡ cond (signal_value v l.condition) (low_value (bit_at v l.first) l.place) (low_value (bit_at v l.second) l.place));
+      ≡ cond (signal_value v l.condition) (low_value (bit_at v l.first) l.place) (low_value (bit_at v l.second) l.place));
 }

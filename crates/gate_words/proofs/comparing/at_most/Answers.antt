@@ -20,5 +20,5 @@ pub returns : goal.returns
 returns c = λ v agrees.
     let is = c.loop-place.invariant v agrees in
     let n = c.loop-place.place in
-    let one : length c.args.left.now ≤ n = ? in
-    let two : length c.args.right.now ≤ n = ? in (is.0, is.1 ∙ at_most_all v c.args.left.now c.args.right.now n one two)
+    let one : length c.args.left.now ≤ n = omega (arith, c.longer-places.ensures.of_left, c.loop-place-test.false) in
+    let two : length c.args.right.now ≤ n = omega (arith, c.longer-places.ensures.of_right, c.loop-place-test.false) in (is.0, is.1 ∙ at_most_all v c.args.left.now c.args.right.now n one two)

@@ -15,11 +15,11 @@ returns c =
     built_by c.args.gates.now c.is_same_bit.new.gates c.if_then_else.new.self
     (λ s v. signal_value v s ≡ cond (signal_value v same) (signal_value v before) (signal_value v r))
     (λ s v.
-      signal_value v s
-      ≡ cond (cond (bit_at v left k) (bit_at v right k) (not (bit_at v right k))) (signal_value v before) (bit_at v right k))
+    signal_value v s
+    ≡ cond (cond (bit_at v left k) (bit_at v right k) (not (bit_at v right k))) (signal_value v before) (bit_at v right k))
     (λ v agrees. (c.in_ok-same.ensures v agrees).0)
     (λ s v agrees e.
-      e ∙ ap (λ b. cond b (signal_value v before) (signal_value v r)) (c.in_ok-same.ensures v agrees).1
-      ∙ ap (λ b. cond (cond (bit_at v left k) (bit_at v right k) (not (bit_at v right k))) (signal_value v before) b)
-          (c.bit-of_right.ensures v agrees))
+    e ∙ ap (λ b. cond b (signal_value v before) (signal_value v r)) (c.in_ok-same.ensures v agrees).1
+    ∙ ap (λ b. cond (cond (bit_at v left k) (bit_at v right k) (not (bit_at v right k))) (signal_value v before) b)
+    (c.bit-of_right.ensures v agrees))
     c.if_then_else.result c.if_then_else.ensures

@@ -16,6 +16,6 @@ returns c =
     (λ s v. signal_value v s ≡ cond (bit_at v left k) (bit_at v right k) (not (bit_at v right k)))
     (λ v agrees. agrees)
     (λ s v agrees e.
-      e ∙ ap (λ b. cond b (signal_value v r) (not (signal_value v r))) (c.bit-of_left.ensures v agrees)
-      ∙ ap (λ b. cond (bit_at v left k) b (not b)) (c.bit-of_right.ensures v agrees))
+    e ∙ ap (λ b. cond b (signal_value v r) (not (signal_value v r))) (c.bit-of_left.ensures v agrees)
+    ∙ ap (λ b. cond (bit_at v left k) b (not b)) (c.bit-of_right.ensures v agrees))
     c.equal.result c.equal.ensures

@@ -21,7 +21,10 @@ loop-place-preserved c =
     }
 
 pub returns-clause-long : goal.returns-clause-long
-returns-clause-long c = ?
+returns-clause-long c = let end : c.loop-place.place ≡ c.args.bits = omega arith in c.loop-place.invariant.long ∙ end
 
 pub returns-clause-same : goal.returns-clause-same
-returns-clause-same c = λ v agrees fits. ?
+returns-clause-same c = λ v agrees fits.
+    let end : c.loop-place.place ≡ c.args.bits = omega arith in
+    let word = c.args.word.now in
+    c.loop-place.invariant.same v agrees ∙ ap (low_value (bit_at v word)) end ∙ enough v word c.args.bits fits
