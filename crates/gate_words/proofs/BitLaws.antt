@@ -1,5 +1,5 @@
 -- What the bits at one place add to what those before say.
-use Rattle.std.proofs.Common.{◌≡◌, ◌⊎◌, ℕ, ◌+◌, ◌*◌, ◌/◌, ◌%◌, ◌<◌, ◌≤◌, ◌&&◌, min, Bool, true, false, not, cond, eqb, leb, refl, ap, sym, ◌∙◌, ⊎_elim, arith}
+use Rattle.std.proofs.Common.{◌≡◌, ℕ, ◌+◌, ◌*◌, ◌/◌, ◌%◌, ◌<◌, ◌≤◌, ◌&&◌, min, Bool, true, false, not, cond, eqb, leb, refl, ap, sym, ◌∙◌, ⊎_elim, arith}
 use Rattle.std.proofs.Math.Nat.{min-eq_left, min_comm}
 use Rattle.std.proofs.lemmas.Bool.{eq-eqb, le-leb, lt-leb, ne_eqb}
 use Rattle.std.proofs.lemmas.Bool.Decides.{eqb_tells, leb_tells}
@@ -100,7 +100,3 @@ nothing_left x w rest number le e =
     let none : rest ≡ 0 = omega (arith, le) in
     let times : w * 0 ≡ 0 = omega arith in
     let gone : w * rest ≡ 0 = ap (λ k. w * k) none ∙ times in omega (arith, e, gone)
-
-pub none_chosen : (on : Bool) → 0 ≡ cond on 0 0
-none_chosen true = refl
-none_chosen false = refl

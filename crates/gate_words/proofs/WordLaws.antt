@@ -1,8 +1,8 @@
 -- Words that grow bit by bit.
-use Rattle.std.proofs.Common.{◌≡◌, ℕ, ◌+◌, ◌*◌, ◌/◌, ◌%◌, ◌^◌, ◌<◌, ◌≤◌, ◌&&◌, max, Bool, true, false, not, cond, eqb, leb, List, [], ◌∷◌, ◌++◌, length, map, get_or, refl, ap, sym, ◌∙◌, arith}
+use Rattle.std.proofs.Common.{◌≡◌, ℕ, ◌+◌, ◌*◌, ◌/◌, ◌%◌, ◌^◌, ◌<◌, ◌≤◌, ◌&&◌, Bool, true, false, not, cond, eqb, leb, List, [], ◌∷◌, ◌++◌, length, map, refl, ap, sym, ◌∙◌, arith}
 use Rattle.std.proofs.lemmas.List.{length-map, map-append}
 use Rattle.gates.specs.declared.signal.Signal.{Signal}
-use Rattle.gates.specs.Signals.{bit_of, signal_value}
+use Rattle.gates.specs.Signals.{signal_value}
 use Rattle.gate_words.specs.Words.{number_of, word_value}
 use Rattle.gate_words.specs.Steps.Bits.{bit_at, digit, low_value, weight}
 use Rattle.gate_words.proofs.BitLaws.{eqb_more, leb_more, sum_weighed, weighed_half}

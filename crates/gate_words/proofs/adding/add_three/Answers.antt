@@ -1,4 +1,3 @@
-use Rattle.std.proofs.Common.{◌≡◌}
 use Rattle.gates.specs.Signals.{signal_value}
 use Rattle.gate_words.proofs.BitLaws.{three_added}
 use Rattle.gate_words.proofs.adding.add_three.Goals as goal

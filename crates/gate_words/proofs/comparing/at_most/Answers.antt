@@ -1,11 +1,11 @@
-use Rattle.std.proofs.Common.{◌≡◌, ℕ, ◌≤◌, length, ◌∙◌, arith}
+use Rattle.std.proofs.Common.{◌≤◌, length, ◌∙◌, arith}
 use Rattle.gates.specs.Signals.{signal_value}
 use Rattle.gate_words.specs.Steps.Bits.{bit_at}
 use Rattle.gate_words.proofs.WordLaws.{at_most_all, at_most_more}
 use Rattle.gate_words.proofs.comparing.at_most.Goals as goal
 
 pub loop-place-init : goal.loop-place-init
-loop-place-init c = λ v agrees. (agrees, c.constant.ensures v agrees)
+loop-place-init c = λ v agrees. (agrees, c.constant-is_at_most.ensures v agrees)
 
 pub loop-place-preserved : goal.loop-place-preserved
 loop-place-preserved c = λ v agrees.

@@ -1,6 +1,5 @@
-use Rattle.std.proofs.Common.{◌≡◌, ◌+◌, length, ap, sym, ◌∙◌, arith}
+use Rattle.std.proofs.Common.{◌≡◌, ◌+◌, length, ap, ◌∙◌, arith}
 use Rattle.std.proofs.lemmas.List.{length_push}
-use Rattle.gates.specs.Signals.{signal_value}
 use Rattle.gate_words.specs.Words.{word_value}
 use Rattle.gate_words.specs.Steps.Bits.{bit_at, low_value}
 use Rattle.gate_words.proofs.WordLaws.{enough, resized_more}
