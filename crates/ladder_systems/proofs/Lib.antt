@@ -1,1 +1,3 @@
 pub mod Never
+pub mod States
+pub mod Opened

@@ -1,3 +1,4 @@
+
 use scan_gates::EncodeFault;
 use std::alloc::AllocError;
 use std_blocks::BlockType;
@@ -10,7 +11,7 @@ pub enum SystemFault {
     /// A block of this type counts or measures time.
     #[error("a block that counts or measures time has no state bits yet")]
     NoLatch(BlockType),
-    /// A number is stored at the variable at this place.
+    /// The number at this place changes.
     #[error("a variable whose number changes has no state bits yet")]
     Number(usize),
 }

@@ -1,79 +1,51 @@
-ghost use Rattle.std.specs.Prelude.{IfOk};
+ghost use Rattle.std.specs.Prelude.{◌≡◌, ℕ, Bool, All, IfOk, OnOk, Some, length, true};
+ghost use Rattle.std_blocks.specs.declared.value.Value.TheVariants as value;
+ghost use Rattle.gates.specs.Gates.{IsBuilt};
+ghost use Rattle.gates.specs.Signals.{signal_value};
+ghost use Rattle.scan_steps.specs.Slots.{variable_at};
+ghost use Rattle.scan_gates.specs.Encoded.{slots_at};
 ghost use Rattle.ladder_systems.specs.LadderSystems.{IsSystemOf};
+ghost use Rattle.ladder_systems.specs.Steps.States.{AreLike};
 
-use crate::opening::{assign, restart_where};
-use crate::state_signals::StateSignals;
+use crate::first::first_slots;
+use crate::likeness::first_unlike;
+use crate::opening::open;
+use crate::state_bits::{bits_of, memory_bits, with_bits};
 use crate::system_fault::SystemFault;
 use gates::{Gates, Signal};
 use ladder_gates::encode_scan;
-use scan_gates::{EncodedSlot, EncodedValue, variable_on};
+use scan_gates::{EncodedSlot, variable_on};
 use std::alloc::{AllocError, Global};
 use transition_systems::TransitionSystem;
 use verifying::Setup;
 
-/// A signal for each digit of a row, behind so many state bits.
+/// A signal for each digit of a row, behind the state bits.
 fn row_signals(
     alloc: Global,
     gates: &mut Gates,
-    bits: usize,
+    bits: &[Signal],
     digits: usize,
-) -> Result<Vec<Signal>, AllocError> {
+) -> Result<Vec<Signal>, AllocError>
+    ensures built { OnOk result (IsBuilt gates.old gates.new (λ _. Unit {0})) }
+    ensures long { IfOk result (λ row. length row.items ≡ digits) }
+{
     let mut row = Vec::new(alloc);
-    for digit in 0..digits {
-        row.push(gates.input(bits + digit)?)?;
+    for _digit in 0..digits {
+        let bit = gates.input(bits.len() + row.len())?;
+        row.push(bit)?;
     }
     Ok(row)
 }
 
-/// The state as a scan finds it: restarted, if that is to be; the free inputs with the values of the row, and the held ones
-/// with their own.
-fn open(
-    gates: &mut Gates,
-    setup: &Setup,
-    row: &[Signal],
-    state: &mut StateSignals,
-) -> Result<(), AllocError> {
-    let free = setup.free();
-    if let Some(kept) = setup.restarts() {
-        restart_where(gates, row[free.len()], kept, state)?;
-    }
-    for (digit, place) in free.iter().enumerate() {
-        assign(state, *place, row[digit]);
-    }
-    for setting in setup.held() {
-        assign(state, setting.place, gates.constant(setting.value));
-    }
-    Ok(())
-}
-
-/// The first place at which a number isn't the same.
-fn changed_number(before: &[EncodedSlot], after: &[EncodedSlot]) -> Option<usize> {
-    for (place, (old, new)) in before.iter().zip(after).enumerate() {
-        match (old, new) {
-            (
-                EncodedSlot::Variable(EncodedValue::Int(a)),
-                EncodedSlot::Variable(EncodedValue::Int(b)),
-            ) if a != b => {
-                return Some(place);
-            }
-            (
-                EncodedSlot::Variable(EncodedValue::Time(a)),
-                EncodedSlot::Variable(EncodedValue::Time(b)),
-            ) if a != b => {
-                return Some(place);
-            }
-            _ => {}
-        }
-    }
-    None
-}
-
-/// Whether all these variables are TRUE.
+/// A signal that is TRUE where all these variables are.
 fn all_on(
     gates: &mut Gates,
     slots: &[EncodedSlot],
     places: &[usize],
-) -> Result<Signal, AllocError> {
+) -> Result<Signal, AllocError>
+    ensures { IfOk result (λ s. IsBuilt gates.old gates.new (λ v.
+        All (λ place. variable_at (slots_at v slots.now) place ≡ Some (value.Bool true)) places.now → signal_value v s ≡ true)) }
+{
     let mut on = gates.constant(true);
     for place in places {
         let here = variable_on(gates, slots, *place);
@@ -82,7 +54,19 @@ fn all_on(
     Ok(on)
 }
 
-/// The system that the ladder of a setup is, where it is bad that the variable at a place is TRUE after a scan.
+/// Refuses a state of other numbers.
+fn refuse_unlike(first: &[EncodedSlot], slots: &[EncodedSlot]) -> Result<(), SystemFault>
+    requires { length first.now ≡ length slots.now }
+    ensures { OnOk result (AreLike first.now slots.now) }
+{
+    match first_unlike(first, slots) {
+        Some(place) => Err(SystemFault::Number(place)),
+        None => Ok(()),
+    }
+}
+
+/// The system that the ladder of a setup is, where it is bad that the variable at a place is TRUE after a scan. Counters
+/// and timers are refused, and numbers that change.
 pub fn system_of(
     alloc: Global,
     setup: &Setup,
@@ -92,34 +76,26 @@ pub fn system_of(
 {
     let ladder = setup.ladder();
     let mut gates = Gates::new(alloc)?;
-    let (mut state, bits) = StateSignals::new(
-        alloc,
-        &mut gates,
-        ladder.declarations(),
-        ladder.memories(),
-    )?;
-    let row = row_signals(alloc, &mut gates, bits.len(), setup.width())?;
-    let numbers = Vec::from_slice(alloc, &state.slots)?;
-    open(&mut gates, setup, &row, &mut state)?;
-    encode_scan(
-        alloc,
-        &mut gates,
-        ladder,
-        &mut state.slots,
-        &mut state.memories,
-    )?;
-    if let Some(changed) = changed_number(&numbers, &state.slots) {
-        return Err(SystemFault::Number(changed));
-    }
-    let constraint = all_on(&mut gates, &state.slots, setup.given())?;
-    let bad = variable_on(&gates, &state.slots, place);
-    let next = state.bits(alloc)?;
-    let first = vec![in alloc; false; bits.len()]?;
+    let first = first_slots(alloc, &gates, ladder.declarations())?;
+    let mut bits = Vec::new(alloc);
+    let mut slots = with_bits(alloc, &mut gates, &first, &mut bits)?;
+    let names = bits.len();
+    memory_bits(&mut gates, ladder.circuits(), &mut bits)?;
+    let mut memories = Vec::from_slice(alloc, &bits[names..])?;
+    let row = row_signals(alloc, &mut gates, &bits, setup.width())?;
+    open(alloc, &mut gates, setup, &row, &first, &mut slots, &mut memories)?;
+    refuse_unlike(&first, &slots)?;
+    encode_scan(alloc, &mut gates, ladder, &mut slots, &mut memories)?;
+    refuse_unlike(&first, &slots)?;
+    let next = bits_of(alloc, &slots, &memories)?;
+    let constraint = all_on(&mut gates, &slots, setup.given())?;
+    let bad = variable_on(&gates, &slots, place);
+    let at_first = vec![in alloc; false; bits.len()]?;
     Ok(TransitionSystem {
         gates,
         state: bits,
         inputs: row,
-        first,
+        first: at_first,
         next,
         constraint,
         bad,
