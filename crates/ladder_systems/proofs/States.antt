@@ -46,7 +46,7 @@ is_with v (Block (block.SR s)) = refl
 is_with v (Block (block.RS s)) = refl
 
 -- it has as many signals
-bits_of_blank : (v : ℕ → Bool) (s : EncodedSlot) → length (bits_at v (slot_bits s)) ≡ length (slot_bits (blank s))
+pub bits_of_blank : (v : ℕ → Bool) (s : EncodedSlot) → length (bits_at v (slot_bits s)) ≡ length (slot_bits (blank s))
 bits_of_blank v (Variable (encoded.Bool s)) = refl
 bits_of_blank v (Variable (encoded.Int n)) = refl
 bits_of_blank v (Variable (encoded.Time t)) = refl
@@ -66,18 +66,18 @@ apart a b c d long is = (
 )
 
 -- so it is with states
-pub state_same : (v w : ℕ → Bool) (as bs : List EncodedSlot) (x y : List Signal) → AreLike as bs
-    → bits_at v (state_bits as x) ≡ bits_at w (state_bits bs y) → (slots_at v as ≡ slots_at w bs) × (bits_at v x ≡ bits_at w y)
+pub state_same : (v w : ℕ → Bool) (xs ys : List EncodedSlot) (x y : List Signal) → AreLike xs ys
+    → bits_at v (state_bits xs x) ≡ bits_at w (state_bits ys y) → (slots_at v xs ≡ slots_at w ys) × (bits_at v x ≡ bits_at w y)
 state_same v w [] [] x y like is = (refl, is)
-state_same v w [] (b ∷ bs) x y like is = absurd like
-state_same v w (a ∷ as) [] x y like is = absurd like
-state_same v w (a ∷ as) (b ∷ bs) x y (here, there) is =
-    let joined : bits_at v (slot_bits a) ++ bits_at v (state_bits as x) ≡ bits_at w (slot_bits b) ++ bits_at w (state_bits bs y) =
-    sym (map-append (signal_value v) (slot_bits a) (state_bits as x)) ∙ is ∙ map-append (signal_value w) (slot_bits b) (state_bits bs y) in
+state_same v w [] (b ∷ ys) x y like is = absurd like
+state_same v w (a ∷ xs) [] x y like is = absurd like
+state_same v w (a ∷ xs) (b ∷ ys) x y (here, there) is =
+    let joined : bits_at v (slot_bits a) ++ bits_at v (state_bits xs x) ≡ bits_at w (slot_bits b) ++ bits_at w (state_bits ys y) =
+    sym (map-append (signal_value v) (slot_bits a) (state_bits xs x)) ∙ is ∙ map-append (signal_value w) (slot_bits b) (state_bits ys y) in
     let long = bits_of_blank v a ∙ ap (λ s. length (slot_bits s)) here ∙ sym (bits_of_blank w b) in
-    let both = apart (bits_at v (slot_bits a)) (bits_at v (state_bits as x)) (bits_at w (slot_bits b)) (bits_at w (state_bits bs y)) long joined in
-    let rest = state_same v w as bs x y there both.1 in
-    (ap (λ s. s ∷ slots_at v as) (slot_same v w a b here both.0) ∙ ap (λ l. slot_at w b ∷ l) rest.0, rest.1)
+    let both = apart (bits_at v (slot_bits a)) (bits_at v (state_bits xs x)) (bits_at w (slot_bits b)) (bits_at w (state_bits ys y)) long joined in
+    let rest = state_same v w xs ys x y there both.1 in
+    (ap (λ s. s ∷ slots_at v xs) (slot_same v w a b here both.0) ∙ ap (λ l. slot_at w b ∷ l) rest.0, rest.1)
 
 -- memories behind the signals of all names
 pub state_bits-append : (slots : List EncodedSlot) (memories : List Signal) → state_bits slots memories ≡ state_bits slots [] ++ memories
@@ -119,25 +119,25 @@ declared_same v w a b d like h =
     let With : EncodedSlot → Type 0 = λ c. IsSlotOf d (slot_with c (bits_at v (slot_bits a))) in
     subst Of (sym (is_with w b)) (kind_same (blank b) (bits_at v (slot_bits a)) (bits_at w (slot_bits b)) d (subst With like (subst Of (is_with v a) h)))
 
-each_declared : (v w : ℕ → Bool) (as bs : List EncodedSlot) (k : ℕ) (s : Slot) (d : Declared) → AreLike as bs → slice_get (slots_at w bs) k ≡ Some s
-    → ((t : Slot) → slice_get (slots_at v as) k ≡ Some t → IsSlotOf d t) → IsSlotOf d s
+each_declared : (v w : ℕ → Bool) (xs ys : List EncodedSlot) (k : ℕ) (s : Slot) (d : Declared) → AreLike xs ys → slice_get (slots_at w ys) k ≡ Some s
+    → ((t : Slot) → slice_get (slots_at v xs) k ≡ Some t → IsSlotOf d t) → IsSlotOf d s
 each_declared v w [] [] k s d like is of = absurd cc
-each_declared v w [] (b ∷ bs) k s d like is of = absurd like
-each_declared v w (a ∷ as) [] k s d like is of = absurd like
-each_declared v w (a ∷ as) (b ∷ bs) zero s d like is of = subst (λ t. IsSlotOf d t) (some_same is) (declared_same v w a b d like.0 (of (slot_at v a) refl))
-each_declared v w (a ∷ as) (b ∷ bs) (suc k) s d like is of = each_declared v w as bs k s d like.1 is of
+each_declared v w [] (b ∷ ys) k s d like is of = absurd like
+each_declared v w (a ∷ xs) [] k s d like is of = absurd like
+each_declared v w (a ∷ xs) (b ∷ ys) zero s d like is of = subst (λ t. IsSlotOf d t) (some_same is) (declared_same v w a b d like.0 (of (slot_at v a) refl))
+each_declared v w (a ∷ xs) (b ∷ ys) (suc k) s d like is of = each_declared v w xs ys k s d like.1 is of
 
-like_long : (as bs : List EncodedSlot) → AreLike as bs → length as ≡ length bs
+pub like_long : (xs ys : List EncodedSlot) → AreLike xs ys → length xs ≡ length ys
 like_long [] [] like = refl
-like_long [] (b ∷ bs) like = absurd like
-like_long (a ∷ as) [] like = absurd like
-like_long (a ∷ as) (b ∷ bs) like = ap suc (like_long as bs like.1)
+like_long [] (b ∷ ys) like = absurd like
+like_long (a ∷ xs) [] like = absurd like
+like_long (a ∷ xs) (b ∷ ys) like = ap suc (like_long xs ys like.1)
 
 -- where one is what is declared, so is the other
-pub slots_declared : (v w : ℕ → Bool) (ds : List Declaration) (as bs : List EncodedSlot) → AreLike as bs → AreSlotsOf ds (slots_at v as) → AreSlotsOf ds (slots_at w bs)
-slots_declared v w ds as bs like are = record {
-  long = length-map bs (slot_at w) ∙ sym (like_long as bs like) ∙ sym (length-map as (slot_at v)) ∙ are.long;
-  each = λ k e s at is. each_declared v w as bs k s e.declared like is (λ t there. are.each k e t at there);
+pub slots_declared : (v w : ℕ → Bool) (ds : List Declaration) (xs ys : List EncodedSlot) → AreLike xs ys → AreSlotsOf ds (slots_at v xs) → AreSlotsOf ds (slots_at w ys)
+slots_declared v w ds xs ys like are = record {
+  long = length-map ys (slot_at w) ∙ sym (like_long xs ys like) ∙ sym (length-map xs (slot_at v)) ∙ are.long;
+  each = λ k e s at is. each_declared v w xs ys k s e.declared like is (λ t there. are.each k e t at there);
 }
 
 -- the first slots are what is declared
@@ -161,3 +161,12 @@ first_declared ds = record {
     of (Output k) = first_kind k
     of (Local k) = first_kind k
     of (Instance b) = refl
+
+-- two that are like a third are like each other
+pub like_both : (xs ys zs : List EncodedSlot) → AreLike xs ys → AreLike xs zs → AreLike ys zs
+like_both [] [] [] one two = tt
+like_both [] [] (z ∷ zs) one two = absurd two
+like_both [] (y ∷ ys) zs one two = absurd one
+like_both (x ∷ xs) [] zs one two = absurd one
+like_both (x ∷ xs) (y ∷ ys) [] one two = absurd two
+like_both (x ∷ xs) (y ∷ ys) (z ∷ zs) one two = (sym one.0 ∙ two.0, like_both xs ys zs one.1 two.1)

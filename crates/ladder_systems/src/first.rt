@@ -1,5 +1,8 @@
-ghost use Rattle.std.specs.Prelude.{◌≡◌, ℕ, Bool, IfOk};
+ghost use Rattle.std.specs.Prelude.{◌≡◌, ◌++◌, [], ◌∷◌, ℕ, Bool, false, IfOk, OnOk};
 ghost use Rattle.gates.specs.Gates.{Agrees};
+ghost use Rattle.gates.specs.Signals.{signal_value};
+ghost use Rattle.declared_names.specs.Kinds.{value_first};
+ghost use Rattle.scan_steps.specs.declared.slot.Slot.TheVariants.{Variable};
 ghost use Rattle.scan_steps.specs.First.{slot_first};
 ghost use Rattle.scan_gates.specs.Encoded.{slot_at, slots_at};
 ghost use Rattle.text_commands.specs.Restarts.{first_slots};
@@ -8,10 +11,12 @@ use crate::system_fault::SystemFault;
 use declared_names::{Declarations, Declared, Kind};
 use gates::{Gates, Signal};
 use scan_gates::{EncodedInstance, EncodedSlot, EncodedValue};
-use std::alloc::Global;
+use std::alloc::{AllocError, Global};
 
 /// A variable of this kind before the first scan.
-fn first_variable(off: Signal, kind: Kind) -> EncodedSlot {
+fn first_variable(off: Signal, kind: Kind) -> EncodedSlot
+    ensures { (v : ℕ → Bool) → signal_value v off ≡ false → slot_at v result ≡ Variable (value_first kind) }
+{
     EncodedSlot::Variable(match kind {
         Kind::Bool => EncodedValue::Bool(off),
         Kind::Int => EncodedValue::Int(0),
@@ -35,6 +40,14 @@ fn first_slot(gates: &Gates, declared: Declared) -> Result<EncodedSlot, SystemFa
     }
 }
 
+/// Puts a slot behind the others.
+pub(crate) fn push_slot(slot: EncodedSlot, slots: &mut Vec<EncodedSlot>) -> Result<(), AllocError>
+    ensures { OnOk result (slots.new.items ≡ slots.old.items ++ slot ∷ []) }
+{
+    slots.push(slot)?;
+    Ok(())
+}
+
 /// What stands at each declared name before the first scan.
 pub(crate) fn first_slots(
     alloc: Global,
@@ -47,7 +60,7 @@ pub(crate) fn first_slots(
     for place in 0..declarations.len() {
         if let Some(declared) = declarations.declared_at(place) {
             let slot = first_slot(gates, declared)?;
-            slots.push(slot)?;
+            push_slot(slot, &mut slots)?;
         }
     }
     Ok(slots)

@@ -1,15 +1,13 @@
-ghost use Rattle.std.specs.Prelude.{◌≡◌, ◌++◌, ◌∷◌, [], IfOk, OnOk, length, sum_by};
-ghost use Rattle.power_flow.specs.declared.steps.circuit.Circuit.{Circuit as CircuitRecord};
+ghost use Rattle.std.specs.Prelude.{◌≡◌, ◌++◌, ◌∷◌, [], IfOk, OnOk};
 ghost use Rattle.gates.specs.Gates.{IsBuilt};
-ghost use Rattle.ladder_systems.specs.Steps.States.{AreLike, HasMore, IsLike, slot_bits, state_bits};
+ghost use Rattle.ladder_systems.specs.Steps.States.{AreLike, IsLike, slot_bits, state_bits};
 
 use gates::{Gates, Signal};
-use power_flow::Circuit;
 use scan_gates::{EncodedInstance, EncodedSlot, EncodedValue};
 use std::alloc::{AllocError, Global};
 
 /// The signal of the next state bit.
-fn next_bit(gates: &mut Gates, bits: &mut Vec<Signal>) -> Result<Signal, AllocError>
+pub(crate) fn next_bit(gates: &mut Gates, bits: &mut Vec<Signal>) -> Result<Signal, AllocError>
     ensures built { OnOk result (IsBuilt gates.old gates.new (λ _. Unit {0})) }
     ensures bits { IfOk result (λ bit. bits.new.items ≡ bits.old.items ++ bit ∷ []) }
 {
@@ -41,7 +39,8 @@ fn with_next_bit(
             let bit = next_bit(gates, bits)?;
             Ok(EncodedSlot::Block(EncodedInstance::RS(bit)))
         }
-        EncodedSlot::Variable(EncodedValue::Int(_) | EncodedValue::Time(_)) => Ok(slot),
+        EncodedSlot::Variable(EncodedValue::Int(_)) => Ok(slot),
+        EncodedSlot::Variable(EncodedValue::Time(_)) => Ok(slot),
     }
 }
 
@@ -64,41 +63,25 @@ pub(crate) fn with_bits(
     Ok(made)
 }
 
-/// So many more state bits.
-fn more_bits(gates: &mut Gates, count: usize, bits: &mut Vec<Signal>) -> Result<(), AllocError>
-    ensures built { OnOk result (IsBuilt gates.old gates.new (λ _. Unit {0})) }
-    ensures bits { OnOk result (HasMore bits.old.items bits.new.items count) }
-{
-    for _bit in 0..count {
-        next_bit(gates, bits)?;
-    }
-    Ok(())
-}
-
-/// A state bit for each element of the circuits: its memory.
-pub(crate) fn memory_bits(
-    gates: &mut Gates,
-    circuits: &[Circuit],
-    bits: &mut Vec<Signal>,
-) -> Result<(), AllocError>
-    ensures built { OnOk result (IsBuilt gates.old gates.new (λ _. Unit {0})) }
-    ensures bits { OnOk result (HasMore bits.old.items bits.new.items
-        (sum_by (λ (c : CircuitRecord). length c.elements.items) circuits.now)) }
-{
-    for circuit in circuits {
-        more_bits(gates, circuit.elements.len(), bits)?;
-    }
-    Ok(())
-}
-
 /// Puts the signal of what stands at a name behind the others, if it has one.
 fn push_bit(slot: EncodedSlot, bits: &mut Vec<Signal>) -> Result<(), AllocError>
     ensures { OnOk result (bits.new.items ≡ bits.old.items ++ slot_bits slot) }
 {
     match slot {
-        EncodedSlot::Variable(EncodedValue::Bool(bit))
-        | EncodedSlot::Block(EncodedInstance::SR(bit) | EncodedInstance::RS(bit)) => bits.push(bit),
-        EncodedSlot::Variable(EncodedValue::Int(_) | EncodedValue::Time(_)) => Ok(()),
+        EncodedSlot::Variable(EncodedValue::Bool(bit)) => {
+            bits.push(bit)?;
+            Ok(())
+        }
+        EncodedSlot::Block(EncodedInstance::SR(bit)) => {
+            bits.push(bit)?;
+            Ok(())
+        }
+        EncodedSlot::Block(EncodedInstance::RS(bit)) => {
+            bits.push(bit)?;
+            Ok(())
+        }
+        EncodedSlot::Variable(EncodedValue::Int(_)) => Ok(()),
+        EncodedSlot::Variable(EncodedValue::Time(_)) => Ok(()),
     }
 }
 

@@ -1,19 +1,16 @@
-ghost use Rattle.std.specs.Prelude.{◌≡◌, ℕ, Bool, All, IfOk, OnOk, Some, length, true};
+ghost use Rattle.std.specs.Prelude.{◌≡◌, All, IfOk, OnOk, Some, length, true};
 ghost use Rattle.std_blocks.specs.declared.value.Value.TheVariants as value;
 ghost use Rattle.gates.specs.Gates.{IsBuilt};
 ghost use Rattle.gates.specs.Signals.{signal_value};
 ghost use Rattle.scan_steps.specs.Slots.{variable_at};
 ghost use Rattle.scan_gates.specs.Encoded.{slots_at};
 ghost use Rattle.ladder_systems.specs.LadderSystems.{IsSystemOf};
-ghost use Rattle.ladder_systems.specs.Steps.States.{AreLike};
 
-use crate::first::first_slots;
-use crate::likeness::first_unlike;
-use crate::opening::open;
-use crate::state_bits::{bits_of, memory_bits, with_bits};
+use crate::scanning::scan_signals;
+use crate::state_bits::bits_of;
+use crate::state_signals::state_signals;
 use crate::system_fault::SystemFault;
 use gates::{Gates, Signal};
-use ladder_gates::encode_scan;
 use scan_gates::{EncodedSlot, variable_on};
 use std::alloc::{AllocError, Global};
 use transition_systems::TransitionSystem;
@@ -54,17 +51,6 @@ fn all_on(
     Ok(on)
 }
 
-/// Refuses a state of other numbers.
-fn refuse_unlike(first: &[EncodedSlot], slots: &[EncodedSlot]) -> Result<(), SystemFault>
-    requires { length first.now ≡ length slots.now }
-    ensures { OnOk result (AreLike first.now slots.now) }
-{
-    match first_unlike(first, slots) {
-        Some(place) => Err(SystemFault::Number(place)),
-        None => Ok(()),
-    }
-}
-
 /// The system that the ladder of a setup is, where it is bad that the variable at a place is TRUE after a scan. Counters
 /// and timers are refused, and numbers that change.
 pub fn system_of(
@@ -74,28 +60,21 @@ pub fn system_of(
 ) -> Result<TransitionSystem, SystemFault>
     ensures { IfOk result (IsSystemOf setup.now place) }
 {
-    let ladder = setup.ladder();
     let mut gates = Gates::new(alloc)?;
-    let first = first_slots(alloc, &gates, ladder.declarations())?;
-    let mut bits = Vec::new(alloc);
-    let mut slots = with_bits(alloc, &mut gates, &first, &mut bits)?;
-    let names = bits.len();
-    memory_bits(&mut gates, ladder.circuits(), &mut bits)?;
-    let mut memories = Vec::from_slice(alloc, &bits[names..])?;
-    let row = row_signals(alloc, &mut gates, &bits, setup.width())?;
-    open(alloc, &mut gates, setup, &row, &first, &mut slots, &mut memories)?;
-    refuse_unlike(&first, &slots)?;
-    encode_scan(alloc, &mut gates, ladder, &mut slots, &mut memories)?;
-    refuse_unlike(&first, &slots)?;
+    let state = state_signals(alloc, &mut gates, setup.ladder())?;
+    let row = row_signals(alloc, &mut gates, &state.bits, setup.width())?;
+    let mut slots = Vec::from_slice(alloc, &state.slots)?;
+    let mut memories = Vec::from_slice(alloc, &state.memories)?;
+    scan_signals(alloc, &mut gates, setup, &row, &state.first, &mut slots, &mut memories)?;
     let next = bits_of(alloc, &slots, &memories)?;
     let constraint = all_on(&mut gates, &slots, setup.given())?;
     let bad = variable_on(&gates, &slots, place);
-    let at_first = vec![in alloc; false; bits.len()]?;
+    let first = vec![in alloc; false; state.bits.len()]?;
     Ok(TransitionSystem {
         gates,
-        state: bits,
+        state: state.bits,
         inputs: row,
-        first: at_first,
+        first,
         next,
         constraint,
         bad,
