@@ -35,7 +35,8 @@ pub record HasBits (u : SetupValue) (place bits : ℕ) : Type 0 where
   pub is : IsSystemOf u place system
   pub many : bits ≡ length system.state.items
 
--- What is told of the variable at a place: no run whatsoever sets it; or nothing.
-abbrev pub IsCertified : SetupValue → ℕ → CertifiedVerdict → Type 0
-IsCertified u place (Holds size) = Never u place × HasBits u place size.bits
-IsCertified u place (Undecided reason) = Unit {0}
+-- What is told of the variable at a place, where a setup is looked at in the place of the whole: no run whatsoever of the
+-- whole sets it; or nothing.
+abbrev pub IsCertified : SetupValue → SetupValue → ℕ → CertifiedVerdict → Type 0
+IsCertified whole searched place (Holds size) = Never whole place × HasBits searched place size.bits
+IsCertified whole searched place (Undecided reason) = Unit {0}

@@ -19,7 +19,7 @@ fn checked(
     certificate: &Certificate,
 ) -> Result<CertifiedVerdict, AllocError>
     requires { IsSystemOf setup.now place system.now }
-    ensures { IfOk result (IsCertified setup.now place) }
+    ensures { IfOk result (IsCertified setup.now setup.now place) }
 {
     match check_certificate(alloc, system, certificate) {
         Ok(()) => {
@@ -40,7 +40,7 @@ pub fn certify_claim(
     place: usize,
     effort: u64,
 ) -> Result<CertifiedVerdict, AllocError>
-    ensures { IfOk result (IsCertified setup.now place) }
+    ensures { IfOk result (IsCertified setup.now setup.now place) }
 {
     let system = match system_of(alloc, setup, place) {
         Ok(system) => system,
