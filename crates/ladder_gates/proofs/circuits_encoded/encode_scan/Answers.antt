@@ -1,6 +1,5 @@
-use Rattle.std.proofs.Common.{◌≡◌, length, map, sum_by, sym, ap, ◌∙◌}
+use Rattle.std.proofs.Common.{length, sum_by, ap, ◌∙◌}
 use Rattle.network.specs.Links.{Diagram}
-use Rattle.power_flow.specs.Scan.{ScanMeaning}
 use Rattle.ladder_gates.proofs.Networks.{elements_counted, shapes}
 use Rattle.ladder_gates.proofs.Results.{on_ok}
 use Rattle.ladder_gates.proofs.circuits_encoded.encode_scan.Goals as goal
