@@ -3,7 +3,6 @@
 #![tactic(auto)]
 
 mod asked;
-mod claim;
 mod claims;
 mod fault_from;
 mod first_scans;
