@@ -11,7 +11,7 @@ use Rattle.power_flow.specs.Meaning.{moment}
 use Rattle.power_flow.specs.Scan.{ScanMeaning}
 use Rattle.needed_networks.specs.declared.count_limit.CountLimit.{CountLimit}
 use Rattle.needed_networks.specs.Counts.{AreCounters, HidesCounts, limit_at, limited_slot}
-use Rattle.needed_networks.specs.Slices.{AreAlike, CountsFollow, kept_memories, kept_networks}
+use Rattle.needed_networks.specs.Slices.{AreAgreedWithin, CountsFollow, kept_memories, kept_networks}
 use Rattle.needed_networks.proofs.Counted.{counts}
 use Rattle.needed_networks.proofs.Keeping.{merged_agreed}
 use Rattle.needed_networks.proofs.Merging.{merged, length_merged, merged_idle, merged_busy, idle_cases, not_idle_from}
@@ -42,7 +42,7 @@ scans_near ds dt limits (d ∷ networks) slots ms slots' ms' others hide near co
     (rest.0, (one.others, one.meaning, rest.1), rest.2)
 
 -- the slots where they matter, and the others where they don't
-module _ (idle : List Bool) (limits : List CountLimit) (slots others : List Slot) (alike : AreAlike idle limits slots others) where
+module _ (idle : List Bool) (limits : List CountLimit) (slots others : List Slot) (alike : AreAgreedWithin idle limits slots others) where
   mixed_near : AreNear limits (merged idle slots others) others
   mixed_near = record {
     long = sym (length_merged idle slots others);
