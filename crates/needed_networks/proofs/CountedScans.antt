@@ -1,12 +1,10 @@
 -- A scan of the networks that are kept, from slots with other counts beyond their limits.
-use Rattle.std.proofs.Common.{◌≡◌, ℕ, zero, suc, inl, inr, List, [], ◌∷◌, Bool, true, false, Option, Some, length, take, drop, slice_get, refl, sym, ap, ◌∙◌, subst}
+use Rattle.std.proofs.Common.{◌≡◌, ℕ, suc, inl, inr, List, [], ◌∷◌, Bool, true, false, Some, length, take, drop, slice_get, refl, sym, ap, ◌∙◌, subst}
 use Rattle.std.specs.Prelude.{slice_index_or}
 use Rattle.std.specs.Option.{option_map}
 use Rattle.network.specs.Links.{Diagram}
 use Rattle.declared_names.specs.declared.declarations.Declaration.{Declaration}
-use Rattle.scan_steps.specs.declared.slot.Instance.{Instance}
 use Rattle.scan_steps.specs.declared.slot.Slot.{Slot}
-use Rattle.scan_steps.specs.declared.slot.Slot.TheVariants.{Block}
 use Rattle.power_flow.specs.Meaning.{moment}
 use Rattle.power_flow.specs.Scan.{ScanMeaning}
 use Rattle.needed_networks.specs.declared.count_limit.CountLimit.{CountLimit}

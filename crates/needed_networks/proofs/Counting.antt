@@ -1,12 +1,12 @@
 -- What a block makes of a count that is beyond its limit.
-use Rattle.std.proofs.Common.{◌≡◌, ℕ, ℤ, pos, List, Bool, true, false, Option, Some, None, refl, sym, ap, ◌∙◌, subst, arith}
+use Rattle.std.proofs.Common.{◌≡◌, ℕ, ℤ, pos, Bool, true, false, refl, sym, ap, ◌∙◌, subst, arith}
 use Rattle.std.proofs.lemmas.Int.{ints}
-use Rattle.std.specs.Prelude.{if◌then◌else◌, int_lt, int_le, not, ◌&&◌}
+use Rattle.std.specs.Prelude.{if◌then◌else◌, int_le}
 use Rattle.std_blocks.specs.declared.block_state.BlockState.{BlockState}
 use Rattle.std_blocks.specs.declared.block_type.BlockType.{BlockType}
 use Rattle.std_blocks.specs.declared.block_type.BlockType.TheVariants.{SR, RS, CTU, CTD, CTUD, TP, TON, TOF}
 use Rattle.std_blocks.specs.declared.pins.PinsIn.{PinsIn}
-use Rattle.std_blocks.specs.Blocks.{bit, rises, one_more, one_less, counted_up, counted_down, state_after, outputs_of, after, outputs_after}
+use Rattle.std_blocks.specs.Blocks.{bit, rises, one_more, one_less, counted_up, counted_down, state_after, outputs_of}
 use Rattle.scan_steps.specs.declared.slot.Instance.{Instance}
 use Rattle.needed_networks.specs.declared.count_limit.CountLimit.{CountLimit}
 use Rattle.needed_networks.specs.declared.count_limit.CountLimit.TheVariants.{Whole, UpTo, FromZero}

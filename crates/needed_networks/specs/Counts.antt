@@ -1,13 +1,12 @@
 -- How far the counts of counters matter.
-use Rattle.std.specs.Prelude.{◌≡◌, ◌≢◌, ℕ, ℤ, pos, List, Bool, false, Option, Some, None, All, Any, Contains, MatchOption, if◌then◌else◌, int_lt, codes, length, slice_get, slice_index_or}
-use Rattle.std.specs.List.{before_first, after_first}
+use Rattle.std.specs.Prelude.{◌≡◌, ◌≢◌, ℕ, ℤ, pos, List, Bool, false, Option, Some, All, Any, MatchOption, if◌then◌else◌, int_lt, codes, slice_get, slice_index_or}
+use Rattle.std.specs.List.{after_first}
 use Rattle.std.specs.Option.{option_map}
 use Rattle.std_blocks.specs.declared.block_type.BlockType.{BlockType}
 use Rattle.std_blocks.specs.declared.block_type.BlockType.TheVariants.{CTU, CTD}
 use Rattle.std_blocks.specs.declared.value.Value.TheVariants.{Int as IntValue}
 use Rattle.drawings.specs.declared.drawn_box.DrawnBox.{DrawnBox}
 use Rattle.drawings.specs.declared.drawn_box.DrawnPin.{DrawnPin}
-use Rattle.drawings.specs.declared.drawn_box.Side.{Side}
 use Rattle.drawings.specs.declared.drawn_box.Side.TheVariants.{Left, Right}
 use Rattle.network.specs.declared.element.Element.{Element}
 use Rattle.network.specs.declared.element.Element.TheVariants.{Wire, Join, Upright, Contact, Coil, Box}
@@ -22,7 +21,7 @@ use Rattle.scan_steps.specs.declared.slot.Slot.{Slot}
 use Rattle.scan_steps.specs.declared.slot.Slot.TheVariants.{Variable, Block}
 use Rattle.needed_networks.specs.declared.count_limit.CountLimit.{CountLimit}
 use Rattle.needed_networks.specs.declared.count_limit.CountLimit.TheVariants.{Whole, UpTo, FromZero}
-use Rattle.needed_networks.specs.Needs.{IsIdle, IsReadAt}
+use Rattle.needed_networks.specs.Needs.{IsReadAt}
 
 -- a count as far as it matters: all of it, or no more than the most, or no less than 0
 abbrev pub limited_count : CountLimit → ℤ → ℤ
