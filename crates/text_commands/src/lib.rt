@@ -58,6 +58,8 @@ pub use row::{Row, is_bool_variable};
 pub use rows::read_rows;
 pub use second_drawing::{JoinedLadder, read_both, second_changes_nothing};
 pub use second_fault::SecondFault;
+pub use series::Series;
+pub use settings::read_settings;
 pub use source_ladder::no_program;
 pub use stored::{ladder_places, stored_places};
 pub use test_command::eval_test;
