@@ -5,7 +5,7 @@ ghost use Rattle.text_commands.specs.Expectations.{IsExpected, IsRefusedBehind, 
 ghost use Rattle.text_commands.specs.Steps.Testing.{AddsWord, IsNewPlace, RefusesWord, RefusesTest};
 
 use crate::given::Given;
-use crate::row::split_at_equals;
+use crate::bits::split_at_equals;
 use crate::series::Series;
 use crate::settings::{next_series, next_setting, scan_count};
 use crate::text_command_fault::TextCommandFault;
