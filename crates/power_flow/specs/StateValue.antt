@@ -44,15 +44,15 @@ instance_between least most i = record {
   outputs = record i.outputs { int = count_between least most i.outputs.int };
 }
 
--- what stands at a name, if it is a block with such a count
-abbrev pub slot_between : ℤ → ℤ → Slot → Slot
-slot_between least most (Variable v) = Variable v
-slot_between least most (Block i) = Block (instance_between least most i)
+-- slots in which what stands at a place, if it is a block, is so
+abbrev pub with_limited : List Slot → ℕ → ℤ → ℤ → Slot → List Slot
+with_limited slots place least most (Variable v) = slots
+with_limited slots place least most (Block i) = slice_set slots place (Block (instance_between least most i))
 
--- the state in which what stands at a place is so
+-- the state in which the block at a place is so
 abbrev pub count_limited_at : StateValue → ℕ → ℤ → ℤ → StateValue
 count_limited_at s place least most = record s {
-  slots = option_map_or (λ x. slice_set s.slots place (slot_between least most x)) (slice_get s.slots place) s.slots;
+  slots = option_map_or (with_limited s.slots place least most) (slice_get s.slots place) s.slots;
 }
 
 -- the state in which the memory at a place is OFF
