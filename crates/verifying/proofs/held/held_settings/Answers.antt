@@ -1,7 +1,7 @@
 use Rattle.std.proofs.Common.{◌+◌, sym, subst, take}
 use Rattle.verifying.specs.Steps.Marks.{HeldRead, HoldsOf}
 use Rattle.verifying.proofs.Reading.{zip_more}
-use Rattle.verifying.proofs.held.read_settings.Goals as goal
+use Rattle.verifying.proofs.held.held_settings.Goals as goal
 
 pub loop-number-preserved : goal.loop-number-preserved
 loop-number-preserved c =
