@@ -440,7 +440,7 @@ fn verify_command<'a>(alloc: Global) -> Result<Command<'a>, AllocError>
     warned_command(alloc, command)?.arg(words_arg(
         alloc,
         "WORD",
-        "Of a drawing NAME=BIT, an input that has this value in every scan; of a plant ADDRESS=VALUE or ADDRESS=LEAST..GREATEST, what a field address holds",
+        "Of a drawing NAME=VALUE, an input that has this value in every scan; of a plant ADDRESS=VALUE or ADDRESS=LEAST..GREATEST, what a field address holds",
     ))
 }
 

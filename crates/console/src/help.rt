@@ -72,8 +72,9 @@ FILE:LINE: Kind, or with --strict where there is a warning; 2 if a word is refus
 pub const VERIFY_HELP: &str = "\
 Each --never NAME claims that the BOOL variable NAME is never TRUE after a scan, whatever the inputs do and however long
 the drawing runs. The inputs are the BOOL variables that no coil and no output pin stores: each has any value in each scan,
-unless a word NAME=BIT holds it at 0 or 1. A claim is a rung: draw a coil that turns ON where what must not happen has
-happened. --given NAME leaves out all runs in which a scan leaves NAME FALSE: what is known of the inputs is a rung, too.
+unless a word NAME=BIT holds it at 0 or 1. An INT or TIME that nothing stores is 0, or held by a word NAME=VALUE. A claim is
+a rung: draw a coil that turns ON where what must not happen has happened. --given NAME leaves out all runs in which a scan
+leaves NAME FALSE: what is known of the inputs is a rung, too.
 Looked at are the networks that store what claims and givens read, those that store what these read, and so on; of the inputs
 that they read at most 20 may be free. Each scan comes --dt MS after the one before; a drawing with a timer (TON, TOF, TP)
 needs it, above 0. With --restarts it may restart before any scan, as plc eval --restart has it.

@@ -9,7 +9,7 @@ use Rattle.scan_steps.specs.declared.slot.Slot.TheVariants.{Variable}
 use Rattle.power_flow.specs.Meaning.{Moment, moment, AreLinks, BlocksStep, NetworkMeaning, stored, stores, first_place}
 use Rattle.needed_networks.specs.Needs.{IsIdle, IsInside}
 use Rattle.needed_networks.specs.Slices.{AreAgreed}
-use Rattle.needed_networks.proofs.Values.{ReadsSame, StepsSame, reads_back, steps_back, memories_same, stores_same}
+use Rattle.needed_networks.proofs.Values.{ReadsAlike, ShowsAlike, reads_alike, shows_alike, reads_back, shows_back, memories_same, stores_same}
 use Rattle.needed_networks.proofs.Power.{power_from, inputs_from}
 use Rattle.needed_networks.proofs.Merging.{merged, length_merged, merged_idle, merged_busy, idle_cases, busy, not_idle_from, set_agreed}
 
@@ -19,15 +19,15 @@ stored_agreed idle xs ys [] agreed = agreed
 stored_agreed idle xs ys (s ∷ all) agreed = stored_agreed idle (set xs s.0 (Variable s.1)) (set ys s.0 (Variable s.1)) all (set_agreed idle xs ys s.0 (Variable s.1) agreed)
 
 -- the network reads the same
-reads_agreed : (ds : List Declaration) (idle : List Bool) (d : Diagram) (xs ys : List Slot) → IsInside ds idle d → AreAgreed idle xs ys → ReadsSame ds d xs ys
-reads_agreed ds idle d xs ys inside agreed = record { same = λ e k in' reads. agreed.same k (inside e k in' (inl reads)) }
+reads_agreed : (ds : List Declaration) (idle : List Bool) (d : Diagram) (xs ys : List Slot) → IsInside ds idle d → AreAgreed idle xs ys → ReadsAlike ds d xs ys
+reads_agreed ds idle d xs ys inside agreed = reads_alike ds d xs ys (record { same = λ e k in' reads. agreed.same k (inside e k in' (inl reads)) })
 
 -- its blocks make the same steps
 steps_merged : (ds : List Declaration) (idle : List Bool) (d : Diagram) (between ys : List Slot) → IsInside ds idle d → length between ≡ length ys
-    → StepsSame ds d between (merged idle between ys)
-steps_merged ds idle d between ys inside long = record {
+    → ShowsAlike ds d between (merged idle between ys)
+steps_merged ds idle d between ys inside long = shows_alike ds d between (merged idle between ys) (record {
   same = λ b k in' at. sym (merged_busy idle between ys k (busy idle k (inside (Box b) k in' (inr (inl at)))) long);
-}
+})
 
 blocks_merged : (ds : List Declaration) (idle : List Bool) (d : Diagram) (dt : ℕ) (xs ys between : List Slot) (ms : List Bool) → IsInside ds idle d → AreAgreed idle xs ys
     → BlocksStep ds d dt (moment xs ms) between → BlocksStep ds d dt (moment ys ms) (merged idle between ys)
@@ -48,13 +48,13 @@ blocks_merged ds idle d dt xs ys between ms inside agreed step = record {
     long : length between ≡ length ys
     long = step.same_length ∙ sym agreed.long
 
-    reads : ReadsSame ds d xs ys
+    reads : ReadsAlike ds d xs ys
     reads = reads_agreed ds idle d xs ys inside agreed
 
-    steps : StepsSame ds d between (merged idle between ys)
+    steps : ShowsAlike ds d between (merged idle between ys)
     steps = steps_merged ds idle d between ys inside long
 
-merged_agreed : (idle : List Bool) (between ys : List Slot) → length between ≡ length ys → AreAgreed idle between (merged idle between ys)
+pub merged_agreed : (idle : List Bool) (between ys : List Slot) → length between ≡ length ys → AreAgreed idle between (merged idle between ys)
 merged_agreed idle between ys long = record {
   long = length_merged idle between ys ∙ sym long;
   same = λ k matters. sym (merged_busy idle between ys k (busy idle k matters) long);
@@ -76,7 +76,7 @@ links_merged ds idle d xs ys between ms links inside agreed long power =
       power = λ k e at.
           let was = power.power k e at in (
             (λ on. power_from ds d xs ys between (merged idle between ys) ms reads steps (first_place e) (was.0 on)),
-            (λ p. was.1 (power_from ds d ys xs (merged idle between ys) between ms (reads_back ds d xs ys reads) (steps_back ds d between (merged idle between ys) steps) (first_place e) p)),
+            (λ p. was.1 (power_from ds d ys xs (merged idle between ys) between ms (reads_back ds d xs ys reads) (shows_back ds d between (merged idle between ys) steps) (first_place e) p)),
           );
     }
 
@@ -93,7 +93,7 @@ keeps ds idle d dt xs ys ms new inside agreed m =
         blocks = blocks_merged ds idle d dt xs ys m.between ms inside agreed m.blocks;
         links = m.links;
         power = links_merged ds idle d xs ys m.between ms m.links inside agreed long m.power;
-        memories = m.memories ∙ memories_same ds xs ys ms m.links 0 d.elements (λ e k in' r. reads.same e k in' r);
+        memories = m.memories ∙ memories_same ds xs ys ms m.links 0 d.elements reads.contacts;
         slots = refl;
       };
       agreed = subst (λ s. AreAgreed idle s (stored (merged idle m.between ys) (stores ds d (moment ys ms) (merged idle m.between ys) m.links))) (sym m.slots)

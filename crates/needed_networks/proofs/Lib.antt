@@ -6,3 +6,7 @@ pub mod Leaving
 pub mod Scanning
 pub mod Kept
 pub mod Placing
+pub mod Counting
+pub mod Near
+pub mod Counted
+pub mod CountedScans

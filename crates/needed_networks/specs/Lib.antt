@@ -1,3 +1,4 @@
+pub mod Counts
 pub mod Needs
 pub mod Slices
 pub mod Steps

@@ -5,7 +5,9 @@ use Rattle.network.specs.Links.{Diagram}
 use Rattle.declared_names.specs.declared.declarations.Declaration.{Declaration}
 use Rattle.scan_steps.specs.declared.slot.Slot.{Slot}
 use Rattle.power_flow.specs.Scan.{ScanMeaning}
+use Rattle.needed_networks.specs.declared.count_limit.CountLimit.{CountLimit}
 use Rattle.needed_networks.specs.Needs.{IsIdle, IsClosed}
+use Rattle.needed_networks.specs.Counts.{AreCounters, AreLimits, limited_at}
 
 -- the networks that aren't left out
 abbrev pub kept_networks : List Bool → List Diagram → List Diagram
@@ -50,3 +52,23 @@ SlicesFollow = (ds : List Declaration) (dt : ℕ) (idle omitted : List Bool) (ne
     (slots : List Slot) (ms : List Bool) (slots' : List Slot) (ms' : List Bool) (others : List Slot)
     → IsClosed ds idle omitted networks → length ms ≡ memory_count networks → AreAgreed idle slots others
     → ScanMeaning ds dt networks slots ms slots' ms' → Follows ds dt idle omitted networks ms slots' ms' others
+
+-- what stands at each place that matters is the same, as far as its count matters
+pub record AreAgreedWithin (idle : List Bool) (limits : List CountLimit) (slots others : List Slot) : Type 0 where
+  pub long : length others ≡ length slots
+  pub same : (k : ℕ) → (IsIdle idle k → ⊥) → limited_at limits slots k ≡ limited_at limits others k
+
+-- a scan of the networks that aren't left out, from such slots to such slots
+pub record FollowsWithin (ds : List Declaration) (dt : ℕ) (idle omitted : List Bool) (limits : List CountLimit)
+    (networks : List Diagram) (ms : List Bool) (slots' : List Slot) (ms' : List Bool) (others : List Slot) : Type 0 where
+  pub others' : List Slot
+  pub scan : ScanMeaning ds dt (kept_networks omitted networks) others (kept_memories omitted networks ms) others' (kept_memories omitted networks ms')
+  pub agreed : AreAgreedWithin idle limits slots' others'
+
+-- Where no count beyond its limit can be told from it besides, they do so whatever the counts beyond the limits are.
+abbrev pub CountsFollow : Type 0
+CountsFollow = (ds : List Declaration) (dt : ℕ) (idle omitted : List Bool) (limits : List CountLimit) (networks : List Diagram)
+    (slots : List Slot) (ms : List Bool) (slots' : List Slot) (ms' : List Bool) (others : List Slot)
+    → IsClosed ds idle omitted networks → AreLimits ds limits omitted networks → AreCounters limits slots
+    → AreCounters limits others → length ms ≡ memory_count networks → AreAgreedWithin idle limits slots others
+    → ScanMeaning ds dt networks slots ms slots' ms' → FollowsWithin ds dt idle omitted limits networks ms slots' ms' others

@@ -3,7 +3,10 @@
 
 mod blank_page;
 mod closed;
+mod count_limit;
+mod counts;
 mod laws;
+mod limits;
 mod needs;
 mod places;
 mod same_networks;
@@ -11,7 +14,9 @@ mod slice;
 mod touched;
 
 pub use closed::is_closed;
-pub use laws::slices_follow;
+pub use count_limit::CountLimit;
+pub use laws::{counts_follow, slices_follow};
+pub use limits::count_limits;
 pub use needs::Needs;
 pub use same_networks::has_elements;
 pub use slice::{Slice, slice_of};

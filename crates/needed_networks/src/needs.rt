@@ -2,6 +2,7 @@ ghost use Rattle.std.specs.Prelude.{◌↔◌, IsTrue, All};
 ghost use Rattle.needed_networks.specs.Needs.{IsIdle};
 
 use crate::closed::is_closed;
+use crate::count_limit::CountLimit;
 use crate::places::has_mark;
 use crate::touched::{Touched, all_touched};
 use power_flow::Ladder;
@@ -48,11 +49,12 @@ fn places_matter(idle: &[bool], places: &[usize]) -> bool
 }
 
 /// A mark for each name at which nothing stands that matters to a question, and for each network that it doesn't need. What
-/// has no mark matters, and is needed.
+/// has no mark matters, and is needed. Of the counts of counters, how far they matter.
 #[derive(Drop)]
 pub struct Needs {
     pub idle: Vec<bool>,
     pub omitted: Vec<bool>,
+    pub limits: Vec<CountLimit>,
 }
 
 impl Needs {
@@ -67,6 +69,7 @@ impl Needs {
         Needs {
             idle: Vec::new(alloc),
             omitted: Vec::new(alloc),
+            limits: Vec::new(alloc),
         }
     }
 
@@ -85,7 +88,11 @@ impl Needs {
             }
         }
         if is_closed(ladder, &idle, &omitted) && places_matter(&idle, places) {
-            return Ok(Needs { idle, omitted });
+            return Ok(Needs {
+                idle,
+                omitted,
+                limits: Vec::new(alloc),
+            });
         }
         Ok(Needs::all(alloc))
     }

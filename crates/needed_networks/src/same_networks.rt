@@ -43,7 +43,7 @@ fn has_same_pins(drawn: &DrawnBox, other: &DrawnBox) -> bool
     are_same(drawn.pins.as_slice(), other.pins.as_slice(), is_same_pin)
 }
 
-fn is_same_box(drawn: &DrawnBox, other: &DrawnBox) -> bool
+pub(crate) fn is_same_box(drawn: &DrawnBox, other: &DrawnBox) -> bool
     ensures { IsTrue result → drawn.now ≡ other.now }
 {
     has_same_pins(drawn, other)

@@ -1,6 +1,6 @@
 pub mod VariableLines
 pub mod Scanning
-pub mod WordRows
+pub mod WordTexts
 pub mod SeriesValues
 pub mod SeriesWords
 pub mod SettingWords

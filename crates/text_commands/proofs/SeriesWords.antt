@@ -14,7 +14,7 @@ use Rattle.declared_names.specs.declared.declarations.Kind.TheVariants as kind
 use Rattle.text_commands.specs.Rows.{texts}
 use Rattle.text_commands.specs.Series.{ItemValue, AreItems, IsBad, IsItem, IsRefusedSeries, IsTimes, Says, given_by, is_comma, repeated}
 use Rattle.text_commands.specs.Steps.Series.{bad_values}
-use Rattle.text_commands.proofs.WordRows.{word_at}
+use Rattle.text_commands.proofs.WordTexts.{word_at}
 
 -- one part reads as nothing
 pub no_part : {A : Type 0} (Reads : List ℕ → A → Type 0) (words : List (Bor (List ℕ))) (n : ℕ) (d : Bor (List ℕ)) → n < length words → ((x : A) → Reads (get_or words n d).now x → ⊥)

@@ -26,7 +26,7 @@ use Rattle.text_commands.specs.declared.text_command_fault.TextCommandFault.TheV
 use Rattle.text_commands.specs.Rows.{name_in, digits_in, texts}
 use Rattle.text_commands.specs.Series.{ItemValue, SeriesValue, AreItems, AreOfDistinct, IsBad, IsFirstRefusedSetting, IsItem, IsNamed, IsOfVariable, IsRefusedSeries, IsRefusedSetting, IsSeries, IsSetting, Says, SpellSettings, SpellNoSettings, bit_of, given_by, repeated}
 use Rattle.text_commands.specs.Steps.Testing.{IsNewPlace, RefusesSet, RefusesWord}
-use Rattle.text_commands.proofs.WordRows.{word_at}
+use Rattle.text_commands.proofs.WordTexts.{word_at}
 
 -- a refusal without others before is one behind any
 pub refused_behind_any : (ds : List Declaration) (before : List SeriesValue) (name text : List ℕ) (fault : WordFaultKind) → IsRefusedSeries ds [] name text fault → IsRefusedSeries ds before name text fault

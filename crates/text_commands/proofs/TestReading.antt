@@ -15,7 +15,7 @@ use Rattle.text_commands.specs.Rows.{name_in, texts}
 use Rattle.text_commands.specs.Series.{SeriesValue, IsOfVariable, IsSetting}
 use Rattle.text_commands.specs.Expectations.{IsExpected, IsFirstRefusedOf, IsRefusedBehind, SpellTest, expected_in, is_expectation}
 use Rattle.text_commands.specs.Steps.Testing.{AddsWord, IsNewPlace, RefusesWord, RefusesTest}
-use Rattle.text_commands.proofs.WordRows.{word_at}
+use Rattle.text_commands.proofs.WordTexts.{word_at}
 use Rattle.text_commands.proofs.SettingWords.{apart_more, series_of_variable, settings_of_variables}
 
 one_in : {X : Type 0} (p : X → Bool) (x : X) → p x ≡ true → filter p (x ∷ []) ≡ x ∷ []

@@ -1,5 +1,5 @@
 -- A second drawing, whose rungs stand behind those of a first one.
-use Rattle.std.specs.Prelude.{◌≡◌, ◌≢◌, ◌⊎◌, ◌-◌, ℕ, ◌++◌, ◌∷◌, [], ◌==◌, if◌then◌else◌, List, Bool, true, false, Option, Some, None, All, codes, length, map, filter, fold, replicate, take, slice_get}
+use Rattle.std.specs.Prelude.{◌≡◌, ◌≢◌, ◌⊎◌, ◌-◌, max, ℕ, ◌++◌, ◌∷◌, [], ◌==◌, if◌then◌else◌, List, Bool, true, false, Option, Some, None, All, codes, length, map, filter, fold, replicate, take, slice_get}
 use Rattle.std.specs.Option.{is_some, option_map}
 use Rattle.words.specs.Lines.{without_last}
 use Rattle.std_blocks.specs.declared.block_type.BlockType.{BlockType}
@@ -116,15 +116,20 @@ as_input (Instance block) = Instance block
 abbrev pub seen_names : List Declaration → List Declaration
 seen_names names = map (λ (d : Declaration). record { name = d.name; declared = as_input d.declared }) names
 
--- faults of the second drawing, told by the lines of its own text: so many empty rows stand above it
+-- the line of the second drawing's text that stands on this one, where so many empty rows stand above it; its first, where
+-- this one stands above it
+abbrev pub own_line : ℕ → ℕ → ℕ
+own_line rows line = max (line - rows) 1
+
+-- faults of the second drawing, told by the lines of its own text
 abbrev pub draw_fault_below : ℕ → DrawFault → DrawFault
-draw_fault_below rows fault = record { kind = fault.kind; line = fault.line - rows; column = fault.column }
+draw_fault_below rows fault = record { kind = fault.kind; line = own_line rows fault.line; column = fault.column }
 
 abbrev pub graph_fault_below : ℕ → GraphFault → GraphFault
-graph_fault_below rows fault = record { kind = fault.kind; line = fault.line - rows; column = fault.column }
+graph_fault_below rows fault = record { kind = fault.kind; line = own_line rows fault.line; column = fault.column }
 
 abbrev pub bind_fault_below : ℕ → BindFault → BindFault
-bind_fault_below rows fault = record { kind = fault.kind; line = fault.line - rows; column = fault.column }
+bind_fault_below rows fault = record { kind = fault.kind; line = own_line rows fault.line; column = fault.column }
 
 -- so a fault of its text is told
 abbrev pub fault_below : ℕ → TextFault → TextFault
@@ -161,7 +166,7 @@ IsNoneTwice names boxes = All (λ b. IsBoxName names b.instance → ⊥) boxes
 
 -- where something stands in the second drawing, by row and column below the first
 abbrev pub line_below : ℕ → ℕ → ℕ
-line_below rows row = line_of_row 1 row - rows
+line_below rows row = own_line rows (line_of_row 1 row)
 
 -- What the second drawing has wrong beside the first: its left rail stands in another column; else a box has the name of one
 -- of the first; else a name is refused, where the first's variables are inputs.

@@ -12,7 +12,7 @@ use Rattle.text_commands.specs.Comments.{without_comments}
 use Rattle.text_commands.specs.CheckText.{RefusesPlantText}
 use Rattle.text_commands.specs.EvalText.{IsLadderOfDrawing, RefusesDrawing}
 use Rattle.text_commands.specs.SecondDrawing.{IsLadderOfBoth, RefusesBoth, one_below_other}
-use Rattle.text_commands.specs.Rows.{IsFirstRefused, SpellNoRows}
+use Rattle.text_commands.specs.Series.{IsFirstRefusedSetting, SpellNoSettings}
 use Rattle.text_commands.specs.declared.ladder_source.LadderSource.{LadderSource}
 use Rattle.text_commands.specs.declared.text_command_fault.TextCommandFault.{TextCommandFault}
 use Rattle.text_commands.specs.declared.text_command_fault.TextCommandFault.TheVariants.{Word}
@@ -111,10 +111,10 @@ no_program = Word unknown_program
 abbrev pub RefusesName : SourceValue → WordFault → Type 0
 RefusesName s fault = LacksProgram s × (fault ≡ unknown_program)
 
--- the words are no rows of digits for the source's ladder, and this is the first fault
+-- the words set nothing that the source's ladder has, and this is the first fault
 pub record RefusesWords (source : SourceValue) (words : List (List ℕ)) (fault : WordFault) : Type 0 where
   pub declarations : List Declaration
   pub networks : List Diagram
   pub ladder : IsLadderFrom source declarations networks
-  pub refused : SpellNoRows declarations words
-  pub first : IsFirstRefused declarations words fault
+  pub refused : SpellNoSettings declarations words
+  pub first : IsFirstRefusedSetting declarations words fault

@@ -2,7 +2,6 @@
 -- believe them.
 pub mod Refusing
 pub mod Joining
-pub mod Rows
 pub mod Series
 pub mod Testing
 pub mod Showing

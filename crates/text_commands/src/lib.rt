@@ -1,6 +1,7 @@
 //! The commands that need one text alone: `eval` a drawing or a program type, `check` a plant, tell its plan.
 #![tactic(auto)]
 
+mod bits;
 mod chart;
 mod check_command;
 mod comments;
@@ -23,8 +24,6 @@ mod plant_counts;
 mod program_types;
 mod restart_words;
 mod restarting;
-mod row;
-mod rows;
 mod second_drawing;
 mod second_fault;
 mod series;
@@ -41,6 +40,7 @@ mod traced_command;
 mod tracks;
 mod word_fault;
 
+pub use bits::is_bool_variable;
 pub use check_command::{check, read_plant};
 pub use comments::without_comments;
 pub use difference::Difference;
@@ -54,10 +54,10 @@ pub use plan_lines::interval_of;
 pub use program_types::read_program;
 pub use restart_words::read_restarts;
 pub use restarting::{kept_places, restart};
-pub use row::{Row, is_bool_variable};
-pub use rows::read_rows;
 pub use second_drawing::{JoinedLadder, read_both, second_changes_nothing};
 pub use second_fault::SecondFault;
+pub use series::Series;
+pub use settings::read_settings;
 pub use source_ladder::no_program;
 pub use stored::{ladder_places, stored_places};
 pub use test_command::eval_test;

@@ -4,7 +4,7 @@ ghost use Rattle.evaluation.specs.InputTexts.{value_below, word_value};
 ghost use Rattle.text_commands.specs.Series.{Says};
 ghost use Rattle.text_commands.specs.Steps.Series.{IsShort, once_values};
 
-use crate::row::are_digits;
+use crate::bits::are_digits;
 use declared_names::Kind;
 use std_blocks::Value;
 use words::{duration_up_to, number_up_to};

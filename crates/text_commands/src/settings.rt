@@ -1,7 +1,7 @@
-ghost use Rattle.std.specs.Prelude.{◌≡◌, ◌↔◌, IfOk, IfErr, IsTrue, Any, length, max, fold};
+ghost use Rattle.std.specs.Prelude.{◌≡◌, ◌↔◌, IfOk, IfErr, IsTrue, All, Any, length, max, fold};
 ghost use Rattle.text_commands.specs.declared.text_command_fault.TextCommandFault.TheVariants.{Word};
 ghost use Rattle.text_commands.specs.Rows.{texts};
-ghost use Rattle.text_commands.specs.Series.{SeriesValue, IsSeries, IsSetting, IsRefusedSeries, IsRefusedSetting, SpellSettings, scans_of};
+ghost use Rattle.text_commands.specs.Series.{SeriesValue, IsOfVariable, IsSeries, IsSetting, IsRefusedSeries, IsRefusedSetting, SpellSettings, scans_of};
 ghost use Rattle.text_commands.specs.Steps.Testing.{IsNewPlace, RefusesSet, RefusesWord};
 
 use crate::series::{Series, read_series};
@@ -65,12 +65,13 @@ pub(crate) fn next_setting<'a>(
 }
 
 /// Reads the words NAME=VALUES, each of another variable.
-pub(crate) fn read_settings<'a>(
+pub fn read_settings<'a>(
     alloc: Global,
     declarations: &Declarations,
     words: &[&'a str],
 ) -> Result<Vec<Series<'a>>, TextCommandFault>
     ensures ok { IfOk result (λ series. SpellSettings declarations.now (texts words.now) series.items) }
+    ensures declared { IfOk result (λ series. All (IsOfVariable declarations.now) series.items) }
     ensures err { IfErr result (RefusesSet declarations.now (texts words.now)) }
 {
     let mut settings = Vec::new(alloc);

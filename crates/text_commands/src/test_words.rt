@@ -4,8 +4,8 @@ ghost use Rattle.text_commands.specs.Series.{IsRefusedSeries};
 ghost use Rattle.text_commands.specs.Expectations.{IsExpected, IsRefusedBehind, SpellTest, expected_in, is_expectation, test_scans};
 ghost use Rattle.text_commands.specs.Steps.Testing.{AddsWord, IsNewPlace, RefusesWord, RefusesTest};
 
+use crate::bits::split_at_equals;
 use crate::given::Given;
-use crate::row::split_at_equals;
 use crate::series::Series;
 use crate::settings::{next_series, next_setting, scan_count};
 use crate::text_command_fault::TextCommandFault;

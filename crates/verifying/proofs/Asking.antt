@@ -8,18 +8,21 @@ use Rattle.std.proofs.lemmas.Option.{none-some, same_Some, slice_get-get_or, sli
 use Rattle.std.proofs.KnownBytes.{Keeps-refl}
 use Rattle.std.proofs.lemmas.List.Elements.{All-map}
 use Rattle.std.specs.Option.{option_map}
-use Rattle.lists.proofs.Members.{all_from_places}
+use Rattle.lists.proofs.Members.{all_at, all_from_places}
 use Rattle.lists.proofs.Places.{element_at}
 use Rattle.lists.proofs.Zips.{zip_back, zip_length}
-use Rattle.verifying.proofs.SetInputs.{declared_bool}
 use Rattle.verifying.proofs.Premising.{constants_of}
 use Rattle.verifying.proofs.Slicing.{whole_long}
+use Rattle.std_blocks.specs.declared.value.Value.{Value}
 use Rattle.network.specs.Links.{Diagram}
+use Rattle.declared_names.specs.Kinds.{kind_of}
+use Rattle.declared_names.specs.declared.declarations.Kind.{Kind}
 use Rattle.declared_names.specs.declared.declarations.Declaration.{Declaration}
 use Rattle.text_commands.specs.Sources.{AreRetainedFrom, IsLadderFrom, SourceValue}
-use Rattle.text_commands.specs.Rows.{RowValue, IsRow, SpellRows, texts}
+use Rattle.text_commands.specs.Rows.{texts}
+use Rattle.text_commands.specs.Series.{IsOfVariable, IsSetting, IsVariableAt, SeriesValue, SpellSettings}
 use Rattle.text_commands.specs.Steps.Sources.{RefusesFrom}
-use Rattle.text_commands.specs.Steps.Refusing.{RefusesRows}
+use Rattle.text_commands.specs.Steps.Testing.{RefusesSet}
 use Rattle.text_commands.specs.declared.text_command_fault.TextCommandFault.{TextCommandFault}
 use Rattle.text_commands.specs.declared.text_command_fault.TextCommandFault.TheVariants.{Text, Word, Write, Memory}
 use Rattle.needed_networks.specs.Needs.{IsIdle}
@@ -33,13 +36,13 @@ use Rattle.verifying.specs.declared.verdict.Verdict.{Verdict}
 use Rattle.verifying.specs.declared.verdict.Verdict.TheVariants.{Holds, Fails, Undecided}
 use Rattle.power_flow.specs.LadderValue.{LadderValue}
 use Rattle.power_flow.specs.Meaning.{Moment}
-use Rattle.verifying.specs.Runs.{HasInputs, IsBoolAt, Leads, SetupValue, first, width}
+use Rattle.verifying.specs.Runs.{CanHold, HasInputs, IsBoolAt, Leads, SetupValue, first, width}
 use Rattle.verifying.specs.Needed.{AreIdle, IsSearched, needed_places, whole_row}
 use Rattle.verifying.specs.Verdicts.{AreVerdicts, IsVerdict}
-use Rattle.verifying.specs.Inputs.{AreFree, AreInputs, IsInput}
-use Rattle.text_commands.specs.Stores.{stored_places}
+use Rattle.verifying.specs.Inputs.{AreFree, AreInputs, IsHeldInput}
+use Rattle.text_commands.specs.Stores.{IsStored, stored_places}
 use Rattle.verifying.specs.Premises.{HasTimer, IsTimed}
-use Rattle.verifying.specs.Questions.{HoldsInput, HoldsNoInput, IsClaim, IsNoClaim, QuestionValue}
+use Rattle.verifying.specs.Questions.{HoldsAt, HoldsInput, HoldsNoInput, IsClaim, IsNoClaim, QuestionValue}
 use Rattle.verifying.specs.VerifyText.{ExplainsAnswer, IsSetup, restarts_of}
 use Rattle.verifying.specs.Steps.Adding.{AreWholeRows, FitsSetup}
 use Rattle.verifying.specs.Steps.Asking.{AreHeldBy, IsAsked, IsPrepared, RefusesAsking, RefusesHolding, RefusesPreparing}
@@ -48,7 +51,7 @@ use Rattle.verifying.specs.Steps.Marks.{AreConstantsOf, AreMarksOf, AreUnmarked,
 use Rattle.verifying.specs.declared.verify_fault.ClaimFaultKind.{ClaimFaultKind}
 use Rattle.verifying.specs.declared.verify_fault.ClaimFaultKind.TheVariants.{NoVariable, NeverStored}
 use Rattle.verifying.specs.declared.verify_fault.HeldFaultKind.{HeldFaultKind}
-use Rattle.verifying.specs.declared.verify_fault.HeldFaultKind.TheVariants.{NotOneDigit, NoInput}
+use Rattle.verifying.specs.declared.verify_fault.HeldFaultKind.TheVariants.{NotOneValue, NoInput}
 use Rattle.verifying.specs.declared.verify_fault.VerifyFault.{VerifyFault}
 use Rattle.verifying.specs.declared.verify_fault.VerifyFault.TheVariants.{Command, Claim, Given, Held, TooManyInputs, NoTime}
 
@@ -56,8 +59,19 @@ use Rattle.verifying.specs.declared.verify_fault.VerifyFault.TheVariants.{Comman
 abbrev pub AreLadderMarks : List Declaration → List Diagram → List Bool → Type 0
 AreLadderMarks ds networks marks = AreMarksOf (stored_places ds networks) (length ds) marks
 
-row_bool : (ds : List Declaration) (word : List ℕ) (row : RowValue) → IsRow ds word row → IsBoolAt ds row.place
-row_bool ds word row is = let (e, at, bool) = is.bool in (e, at, declared_bool e.declared bool)
+-- a word sets a variable that is declared
+row_within : (ds : List Declaration) (word : List ℕ) (row : SeriesValue) → IsSetting ds word row → row.place < length ds
+row_within ds word row is = let (e, at, variable) = is.1.named.1 in slice_get_within ds row.place e at
+
+-- the variable can hold the one value that a word gives
+kind_held : (k : Kind) (values : List Value) (value : Value) → All (λ v. kind_of v ≡ k) values → values ≡ value ∷ [] → k ≡ kind_of value
+kind_held k [] value all one = absurd cc
+kind_held k (v ∷ values) value all one = sym (all 0 value (omega arith)) ∙ ap kind_of (let here : v ≡ value = cc in here)
+
+can_hold : (ds : List Declaration) (row : SeriesValue) (s : Setting) → IsOfVariable ds row → HoldsAt row s → CanHold ds s
+can_hold ds row s (k, variable, all) holds =
+    subst (λ place. IsVariableAt ds place (kind_of s.value)) (sym holds.place)
+    (subst (IsVariableAt ds row.place) (kind_held k row.values s.value all holds.value) variable)
 
 within_of : (ds : List Declaration) (place : ℕ) → IsBoolAt ds place → place < length ds
 within_of ds place (e, at, bool) = slice_get_within ds place e at
@@ -78,11 +92,11 @@ no_claim_of ds networks marks name NoVariable are is = is
 no_claim_of ds networks marks name NeverStored are (place, named, unmarked) = (place, named, λ stored. unmarked ((are.each place (within_of ds place named.bool)).1 stored))
 
 -- a row that holds an input by the marks holds one
-holds_of : (ds : List Declaration) (networks : List Diagram) (marks : List Bool) (word : List ℕ) (row : RowValue) (s : Setting) → AreLadderMarks ds networks marks → IsRow ds word row → HoldsOf marks row s → HoldsInput ds networks row s
+holds_of : (ds : List Declaration) (networks : List Diagram) (marks : List Bool) (word : List ℕ) (row : SeriesValue) (s : Setting) → AreLadderMarks ds networks marks → IsSetting ds word row → HoldsOf marks row s → HoldsInput ds networks row s
 holds_of ds networks marks word row s are read is =
-    record { holds = is.holds; unstored = λ stored. is.unmarked ((are.each row.place (within_of ds row.place (row_bool ds word row read))).1 stored) }
+    record { holds = is.holds; unstored = λ stored. is.unmarked ((are.each row.place (row_within ds word row read)).1 stored) }
 
-held_of : (ds : List Declaration) (networks : List Diagram) (marks : List Bool) (words : List (List ℕ)) (rows : List RowValue) (held : List Setting) → AreLadderMarks ds networks marks → AllZip (IsRow ds) words rows
+held_of : (ds : List Declaration) (networks : List Diagram) (marks : List Bool) (words : List (List ℕ)) (rows : List SeriesValue) (held : List Setting) → AreLadderMarks ds networks marks → AllZip (IsSetting ds) words rows
     → HeldRead marks rows held → AllZip (HoldsInput ds networks) rows held
 held_of ds networks marks [] [] [] are read is = tt
 held_of ds networks marks [] [] (s ∷ held) are read is = absurd is
@@ -91,17 +105,17 @@ held_of ds networks marks (w ∷ words) [] held are read is = absurd read
 held_of ds networks marks (w ∷ words) (r ∷ rows) [] are read is = absurd is
 held_of ds networks marks (w ∷ words) (r ∷ rows) (s ∷ held) are read is = (holds_of ds networks marks w r s are read.0 is.0, held_of ds networks marks words rows held are read.1 is.1)
 
-take_zip : (ds : List Declaration) (n : ℕ) (words : List (List ℕ)) (rows : List RowValue) → AllZip (IsRow ds) words rows → AllZip (IsRow ds) (take n words) (take n rows)
+take_zip : (ds : List Declaration) (n : ℕ) (words : List (List ℕ)) (rows : List SeriesValue) → AllZip (IsSetting ds) words rows → AllZip (IsSetting ds) (take n words) (take n rows)
 take_zip ds zero words rows read = tt
 take_zip ds (suc n) [] [] read = tt
 take_zip ds (suc n) [] (r ∷ rows) read = absurd read
 take_zip ds (suc n) (w ∷ words) [] read = absurd read
 take_zip ds (suc n) (w ∷ words) (r ∷ rows) read = (read.0, take_zip ds n words rows read.1)
 
-holds_none_of : (ds : List Declaration) (networks : List Diagram) (marks : List Bool) (word : List ℕ) (row : RowValue) (kind : HeldFaultKind) → AreLadderMarks ds networks marks → IsRow ds word row → HoldsNoneOf marks row kind
+holds_none_of : (ds : List Declaration) (networks : List Diagram) (marks : List Bool) (word : List ℕ) (row : SeriesValue) (kind : HeldFaultKind) → AreLadderMarks ds networks marks → IsSetting ds word row → HoldsNoneOf marks row kind
     → HoldsNoInput ds networks row kind
-holds_none_of ds networks marks word row NotOneDigit are read is = is
-holds_none_of ds networks marks word row NoInput are read is = (are.each row.place (within_of ds row.place (row_bool ds word row read))).0 is
+holds_none_of ds networks marks word row NotOneValue are read is = is
+holds_none_of ds networks marks word row NoInput are read is = (are.each row.place (row_within ds word row read)).0 is
 
 -- why nothing was prepared
 pub text_refused : (source : SourceValue) (q : QuestionValue) (fault : TextCommandFault) → RefusesFrom source fault → RefusesPreparing source q (Command fault)
@@ -110,8 +124,8 @@ text_refused source q (Word fault) refused = inl refused
 text_refused source q Write refused = absurd refused
 text_refused source q Memory refused = tt
 
-held_refused : (source : SourceValue) (q : QuestionValue) (ds : List Declaration) (networks : List Diagram) (marks : List Bool) (rows : List RowValue) (fault : VerifyFault) → IsLadderFrom source ds networks
-    → AreLadderMarks ds networks marks → SpellRows ds q.words rows → HeldRefused marks rows fault → RefusesPreparing source q fault
+held_refused : (source : SourceValue) (q : QuestionValue) (ds : List Declaration) (networks : List Diagram) (marks : List Bool) (rows : List SeriesValue) (fault : VerifyFault) → IsLadderFrom source ds networks
+    → AreLadderMarks ds networks marks → SpellSettings ds q.words rows → HeldRefused marks rows fault → RefusesPreparing source q fault
 held_refused source q ds networks marks rows (Command (Text fault)) ladder are read refused = absurd refused
 held_refused source q ds networks marks rows (Command (Word fault)) ladder are read refused = absurd refused
 held_refused source q ds networks marks rows (Command Write) ladder are read refused = absurd refused
@@ -121,7 +135,7 @@ held_refused source q ds networks marks rows (Given fault) ladder are read refus
 held_refused source q ds networks marks rows (TooManyInputs count) ladder are read refused = absurd refused
 held_refused source q ds networks marks rows NoTime ladder are read refused = absurd refused
 held_refused source q ds networks marks rows (Held fault) ladder are read refused =
-    let partner = zip_back (IsRow ds) q.words rows read.each fault.number refused.row refused.at in
+    let partner = zip_back (IsSetting ds) q.words rows read.each fault.number refused.row refused.at in
     record {
       declarations = ds;
       networks = networks;
@@ -200,12 +214,12 @@ free_of ds networks marks held free are is = record {
 }
 
 -- the words hold inputs, where each row does
-pub held_by_rows : (ds : List Declaration) (marks : List Bool) (words : List (List ℕ)) (rows : List RowValue) (r : Result (Vec Setting) VerifyFault) → SpellRows ds words rows
-    → IfOk r (λ held. HeldRead marks rows held.items) → IfOk r (λ held. AreHeldBy ds marks words held.items)
-held_by_rows ds marks words rows (Ok held) read each = record { rows = rows; read = read; each = each }
-held_by_rows ds marks words rows (Err fault) read each = tt
+pub held_by_rows : (ds : List Declaration) (marks : List Bool) (words : List (List ℕ)) (rows : List SeriesValue) (r : Result (Vec Setting) VerifyFault) → SpellSettings ds words rows
+    → All (IsOfVariable ds) rows → IfOk r (λ held. HeldRead marks rows held.items) → IfOk r (λ held. AreHeldBy ds marks words held.items)
+held_by_rows ds marks words rows (Ok held) read declared each = record { rows = rows; read = read; declared = declared; each = each }
+held_by_rows ds marks words rows (Err fault) read declared each = tt
 
-pub settings_refused : (ds : List Declaration) (marks : List Bool) (words : List (List ℕ)) (rows : List RowValue) (r : Result (Vec Setting) VerifyFault) → SpellRows ds words rows
+pub settings_refused : (ds : List Declaration) (marks : List Bool) (words : List (List ℕ)) (rows : List SeriesValue) (r : Result (Vec Setting) VerifyFault) → SpellSettings ds words rows
     → IfErr r (HeldRefused marks rows) → IfErr r (RefusesHolding ds marks words)
 settings_refused ds marks words rows (Ok held) read refused = tt
 settings_refused ds marks words rows (Err (Command (Text fault))) read refused = absurd refused
@@ -218,7 +232,7 @@ settings_refused ds marks words rows (Err (Held fault)) read refused = record { 
 settings_refused ds marks words rows (Err (TooManyInputs count)) read refused = absurd refused
 settings_refused ds marks words rows (Err NoTime) read refused = absurd refused
 
-pub rows_refused : (ds : List Declaration) (marks : List Bool) (words : List (List ℕ)) (fault : TextCommandFault) → RefusesRows ds words fault → RefusesHolding ds marks words (Command fault)
+pub rows_refused : (ds : List Declaration) (marks : List Bool) (words : List (List ℕ)) (fault : TextCommandFault) → RefusesSet ds words fault → RefusesHolding ds marks words (Command fault)
 rows_refused ds marks words (Text fault) refused = absurd refused
 rows_refused ds marks words (Word fault) refused = refused
 rows_refused ds marks words Write refused = absurd refused
@@ -243,30 +257,30 @@ asking_refused source q ds networks marks fault ladder are (inr (inl refused)) =
 asking_refused source q ds networks marks fault ladder are (inr (inr (inl refused))) = given_refused source q ds networks marks refused.held refused.claims fault ladder are refused.by refused.claimed refused.refused
 asking_refused source q ds networks marks fault ladder are (inr (inr (inr memory))) = subst (RefusesPreparing source q) (sym memory) tt
 
-inputs_of : (ds : List Declaration) (networks : List Diagram) (words : List (List ℕ)) (rows : List RowValue) (held : List Setting) (free : List ℕ) → AllZip (IsRow ds) words rows
+inputs_of : (ds : List Declaration) (networks : List Diagram) (rows : List SeriesValue) (held : List Setting) (free : List ℕ) → All (IsOfVariable ds) rows
     → AllZip (HoldsInput ds networks) rows held → AreFree ds networks held free → AreInputs ds networks free held
-inputs_of ds networks words rows held free read holds are = record {
+inputs_of ds networks rows held free declared holds are = record {
   are_free = are;
   are_held = λ k d lt.
       let s = get_or held k d in
       let row = zip_back (HoldsInput ds networks) rows held holds k s (slice_get-get_or held k d lt) in
-      let word = zip_back (IsRow ds) words rows read k row.0 row.1 in
-      let place : row.0.place ≡ s.place = sym row.2.holds.place in
-      let at : IsInput ds networks row.0.place = record { bool = row_bool ds word.0 row.0 word.2; unstored = row.2.unstored } in
-      subst (IsInput ds networks) place at;
+      record {
+        can_hold = can_hold ds row.0 s (all_at (IsOfVariable ds) rows k row.0 declared row.1) row.2.holds;
+        unstored = subst (λ place. IsStored ds networks place → ⊥) (sym row.2.holds.place) row.2.unstored;
+      };
 }
 
 -- what a ladder with its inputs needs
 has_inputs : (ds : List Declaration) (networks : List Diagram) (free : List ℕ) (held : List Setting) → AreInputs ds networks free held → HasInputs ds free held
 has_inputs ds networks free held are = record {
   free = λ k d lt. ((are.are_free.each (get_or free k d)).0 (k, lt, get_or_default free k (get_or free k d) d lt)).0.bool;
-  held = λ k d lt. (are.are_held k d lt).bool;
+  held = λ k d lt. (are.are_held k d lt).can_hold;
 }
 
 asked_inputs : (ds : List Declaration) (networks : List Diagram) (marks : List Bool) (q : QuestionValue) (a : Asked) → AreLadderMarks ds networks marks → IsAsked ds marks q a
     → AreInputs ds networks a.free.items a.held.items
 asked_inputs ds networks marks q a are asked =
-    inputs_of ds networks q.words asked.by.rows a.held.items a.free.items asked.by.read.each (held_of ds networks marks q.words asked.by.rows a.held.items are asked.by.read.each asked.by.each)
+    inputs_of ds networks asked.by.rows a.held.items a.free.items asked.by.declared (held_of ds networks marks q.words asked.by.rows a.held.items are asked.by.read.each asked.by.each)
     (free_of ds networks marks a.held.items a.free.items are asked.free)
 
 pub asked_has_inputs : (ds : List Declaration) (networks : List Diagram) (marks : List Bool) (q : QuestionValue) (a : Asked) → AreLadderMarks ds networks marks → IsAsked ds marks q a
@@ -356,7 +370,7 @@ needed_by l dt a restarts idle (Some s) needed networks is count = is.count
 
 pub asked_prepared : (source : SourceValue) (q : QuestionValue) (m : Marked) (a : Asked) (restarts : Option (List ℕ)) (s : Sliced) (needed constants : List ℕ) → IsLadderFrom source m.ladder.declarations m.ladder.networks
     → AreRetainedFrom source m.retained.items → restarts ≡ restarts_of q.restarts m.ladder.declarations m.ladder.networks m.retained.items → IsMarkedLadder m → IsAsked m.ladder.declarations m.marks.items q a → IsSliced m.ladder a.claims.items a.given.items s → needed ≡ needed_places s.idle.items a.free.items → length needed ≤ 20
-    → IsTimed m.ladder.declarations q.dt → AreConstantsOf m.ladder.declarations m.marks.items (length m.ladder.declarations) constants
+    → IsTimed m.ladder.declarations q.dt → AreConstantsOf m.ladder.declarations m.marks.items a.held.items (length m.ladder.declarations) constants
     → IsPrepared source q (setup_of m.ladder q.dt a restarts) s.idle.items (searched_of (option_map (slice_setup q.dt needed a.held.items a.given.items restarts) s.slice) (setup_of m.ladder q.dt a restarts)) a.claims.items constants
     (needed_count s.slice m.networks) m.networks
 asked_prepared source q m a restarts s needed constants ladder kept are_restarts marked asked sliced same few timed found = record {
@@ -364,7 +378,7 @@ asked_prepared source q m a restarts s needed constants ladder kept are_restarts
   claims = claims_of m.ladder.declarations m.ladder.networks m.marks.items q.claims a.claims.items marked.marks asked.claimed;
   searched = searched_by m.ladder q.dt a restarts s.idle.items s.slice needed sliced same few;
   timed = timed;
-  are_constants = constants_of m.ladder.declarations m.ladder.networks m.marks.items constants marked.marks found;
+  are_constants = constants_of m.ladder.declarations m.ladder.networks m.marks.items a.held.items constants marked.marks found;
   needed_is = needed_by m.ladder q.dt a restarts s.idle.items s.slice needed m.networks sliced marked.count;
   networks_is = marked.count;
 }

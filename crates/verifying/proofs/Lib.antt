@@ -19,3 +19,4 @@ pub mod Joining
 pub mod Summing
 pub mod Asking
 pub mod Wholes
+pub mod Holding

@@ -6,7 +6,6 @@ use Rattle.std.proofs.lemmas.List.{length-set}
 use Rattle.std.proofs.lemmas.Option.{slice_get_past}
 use Rattle.lists.proofs.Places.{same_by_slice_get, slice_get-set_other, slice_get-set_same}
 use Rattle.std_blocks.specs.declared.value.Value.{Value}
-use Rattle.std_blocks.specs.declared.value.Value.TheVariants.{Bool as BoolValue}
 use Rattle.scan_steps.specs.declared.slot.Slot.{Slot}
 use Rattle.scan_steps.specs.declared.slot.Slot.TheVariants.{Variable}
 use Rattle.scan_steps.specs.Slots.{variable_at, variable_of}
@@ -62,24 +61,24 @@ same_places (f ∷ free) (x ∷ a) (y ∷ b) held place p q (inr h) = inr (same_
 length-assigned : (settings : List Setting) (xs : List Slot) → length (assigned settings xs) ≡ length xs
 length-assigned [] xs = refl
 length-assigned (s ∷ settings) xs =
-    length-assigned settings (set xs s.place (Variable (BoolValue s.value))) ∙ length-set xs s.place (Variable (BoolValue s.value))
+    length-assigned settings (set xs s.place (Variable s.value)) ∙ length-set xs s.place (Variable s.value)
 
 -- nothing changes at a place that isn't set
 unset : (settings : List Setting) (xs : List Slot) (k : ℕ) → (Sets settings k → ⊥) → slice_get (assigned settings xs) k ≡ slice_get xs k
 unfolding Sets
 unset [] xs k other = refl
 unset (s ∷ settings) xs k other =
-    unset settings (set xs s.place (Variable (BoolValue s.value))) k (λ h. other (inr h))
-    ∙ slice_get-set_other xs s.place k (Variable (BoolValue s.value)) (λ is. other (inl (sym is)))
+    unset settings (set xs s.place (Variable s.value)) k (λ h. other (inr h))
+    ∙ slice_get-set_other xs s.place k (Variable s.value) (λ is. other (inl (sym is)))
 
 -- what is set again doesn't count
 pub same_early : (early late : List Setting) (xs : List Slot) → ((place : ℕ) → Sets early place → Sets late place) → AreSameBut (Sets late) (assigned early xs) xs
 same_early early late xs all = record { long = sym (length-assigned early xs); same = λ k other. unset early xs k (λ h. other (all k h)) }
 
 one_less : (s : Setting) (settings : List Setting) (xs ys : List Slot) → AreSameBut (Sets (s ∷ settings)) xs ys
-    → AreSameBut (Sets settings) (set xs s.place (Variable (BoolValue s.value))) (set ys s.place (Variable (BoolValue s.value)))
+    → AreSameBut (Sets settings) (set xs s.place (Variable s.value)) (set ys s.place (Variable s.value))
 unfolding Sets
-one_less s settings xs ys are = let x = Variable (BoolValue s.value) in record {
+one_less s settings xs ys are = let x = Variable s.value in record {
   long = length-set ys s.place x ∙ are.long ∙ sym (length-set xs s.place x);
   same = λ k other. elim (cases_eq k s.place) [
     | inl is ↦ subst (λ j. slice_get (set xs s.place x) j ≡ slice_get (set ys s.place x) j) (sym is) (set_here xs ys s.place x are.long)
@@ -95,7 +94,7 @@ pub same_assigned : (settings : List Setting) (xs ys : List Slot) → AreSameBut
 unfolding Sets
 same_assigned [] xs ys are = same_by_slice_get xs ys (λ k. are.same k (λ none. none))
 same_assigned (s ∷ settings) xs ys are =
-    same_assigned settings (set xs s.place (Variable (BoolValue s.value))) (set ys s.place (Variable (BoolValue s.value))) (one_less s settings xs ys are)
+    same_assigned settings (set xs s.place (Variable s.value)) (set ys s.place (Variable s.value)) (one_less s settings xs ys are)
 
 -- a value that is kept, if there is one
 length-set_value : (xs : List Slot) (place : ℕ) (value : Option Value) → length (set_value xs place value) ≡ length xs

@@ -5,7 +5,6 @@ use Rattle.std.specs.List.{AllPairs, join_by}
 use Rattle.std.specs.Option.{option_map_or}
 use Rattle.std_blocks.specs.declared.block_type.BlockType.{BlockType}
 use Rattle.std_blocks.specs.declared.block_type.BlockType.TheVariants.{SR, RS, CTU, CTD, CTUD, TP, TON, TOF}
-use Rattle.std_blocks.specs.declared.value.Value.TheVariants.{Bool as BoolValue}
 use Rattle.declared_names.specs.Kinds.{value_first}
 use Rattle.declared_names.specs.declared.declarations.Declaration.{Declaration}
 use Rattle.declared_names.specs.declared.declarations.Declared.{Declared}
@@ -15,6 +14,7 @@ use Rattle.declared_names.specs.declared.declarations.Kind.TheVariants as kind
 use Rattle.network.specs.Links.{Diagram}
 use Rattle.text_commands.specs.Lines.{item_text}
 use Rattle.verifying.specs.declared.setup.Setting.{Setting}
+use Rattle.verifying.specs.Inputs.{IsHeld}
 use Rattle.verifying.specs.Runs.{SetupValue}
 use Rattle.text_commands.specs.Stores.{IsStored}
 use Rattle.verifying.specs.VerdictLines.{name_at}
@@ -63,23 +63,25 @@ IsNumber (Instance block) = ⊥
 abbrev pub IsNumberAt : List Declaration → ℕ → Type 0
 IsNumberAt ds place = (e : Declaration) × (slice_get ds place ≡ Some e) × IsNumber e.declared
 
--- a constant: an INT or TIME variable at which no coil and no output pin stores, so that it is 0 in all runs
-pub record IsConstant (ds : List Declaration) (networks : List Diagram) (place : ℕ) : Type 0 where
+-- a constant: an INT or TIME variable that is not held, and at which no coil and no output pin stores, so that it is 0 in all
+-- runs
+pub record IsConstant (ds : List Declaration) (networks : List Diagram) (held : List Setting) (place : ℕ) : Type 0 where
   pub number : IsNumberAt ds place
   pub unstored : IsStored ds networks place → ⊥
+  pub unheld : IsHeld held place → ⊥
 
 -- the constants, in the order of their declarations
-pub record AreConstants (ds : List Declaration) (networks : List Diagram) (constants : List ℕ) : Type 0 where
-  pub each : (place : ℕ) → Contains constants place ↔ IsConstant ds networks place
+pub record AreConstants (ds : List Declaration) (networks : List Diagram) (held : List Setting) (constants : List ℕ) : Type 0 where
+  pub each : (place : ℕ) → Contains constants place ↔ IsConstant ds networks held place
   pub ascending : AllPairs ◌<◌ constants
 
 -- the time from scan to scan, if any passes
 abbrev pub dt_premises : ℕ → List (List ℕ)
 dt_premises dt = if dt == 0 then [] else (codes "dt " ++ decimal dt ++ codes " ms") ∷ []
 
--- NAME=BIT
+-- NAME=VALUE
 abbrev pub held_premise : List Declaration → Setting → List ℕ
-held_premise ds s = item_text (name_at ds s.place) (BoolValue s.value)
+held_premise ds s = item_text (name_at ds s.place) s.value
 
 -- what a variable is at first: 0 or T#0ms
 abbrev pub first_of : Declared → List ℕ → List ℕ

@@ -3,8 +3,11 @@ use Rattle.std.specs.Prelude.{◌≡◌, ℕ, ◌==◌, ◌++◌, if◌then◌el
 use Rattle.std.specs.Fmt.{decimal}
 use Rattle.std.specs.List.{enumerate_from, flat_map, join_by}
 use Rattle.std.specs.Option.{option_map_or}
+use Rattle.std_blocks.specs.declared.value.Value.{Value}
+use Rattle.std_blocks.specs.declared.value.Value.TheVariants.{Bool as BoolValue, Int as IntValue, Time as TimeValue}
 use Rattle.declared_names.specs.declared.declarations.Declaration.{Declaration}
 use Rattle.power_flow.specs.Meaning.{Moment}
+use Rattle.text_lines.specs.LineParts.{value_text}
 use Rattle.text_commands.specs.Lines.{line_of}
 use Rattle.verifying.specs.declared.setup.Setting.{Setting}
 use Rattle.verifying.specs.declared.verdict.Tally.{Tally}
@@ -57,17 +60,27 @@ holds_line u t name = codes "HOLDS " ++ name ++ codes " is never on" ++ held_in 
 abbrev pub digit_of : Bool → ℕ
 digit_of on = if on then 49 else 48
 
--- a word NAME=DIGITS behind a blank
+-- a word NAME=VALUES behind a blank
 abbrev pub input_word : List ℕ → List ℕ → List ℕ
-input_word name digits = codes " " ++ name ++ codes "=" ++ digits
+input_word name values = codes " " ++ name ++ codes "=" ++ values
 
 -- the digits of a free input, by its number: its value in each row
 abbrev pub digits_of_free : List (List Bool) → ℕ → List ℕ
 digits_of_free rows input = map (λ (row : List Bool). digit_of (slice_index_or row input false)) rows
 
--- the digits of a held input: its value for each row
+-- the digits of a BOOL that is held: its value for each row
 abbrev pub digits_of_held : List (List Bool) → Bool → List ℕ
 digits_of_held rows value = map (λ (row : List Bool). digit_of value) rows
+
+-- how often a value comes, if that isn't once
+abbrev pub times_text : ℕ → List ℕ
+times_text times = if times == 1 then [] else codes "*" ++ decimal times
+
+-- the values of a held input, one for each row
+abbrev pub values_of_held : List (List Bool) → Value → List ℕ
+values_of_held rows (BoolValue on) = digits_of_held rows on
+values_of_held rows (IntValue n) = value_text (IntValue n) ++ times_text (length rows)
+values_of_held rows (TimeValue t) = value_text (TimeValue t) ++ times_text (length rows)
 
 abbrev pub free_words : List Declaration → List ℕ → List (List Bool) → List ℕ
 free_words ds free rows =
@@ -75,7 +88,7 @@ free_words ds free rows =
 
 abbrev pub held_words : List Declaration → List Setting → List (List Bool) → List ℕ
 held_words ds held rows =
-    flat_map (λ (s : Setting). input_word (name_at ds s.place) (digits_of_held rows s.value)) held
+    flat_map (λ (s : Setting). input_word (name_at ds s.place) (values_of_held rows s.value)) held
 
 -- the option of `plc eval`, where it isn't what it is without
 abbrev pub dt_words : ℕ → List ℕ

@@ -7,7 +7,7 @@ use Rattle.declared_names.specs.declared.declarations.Declaration.{Declaration}
 use Rattle.text_lines.specs.Sending.{SendsLess}
 use Rattle.text_commands.specs.Restarts.{kept_places}
 use Rattle.text_commands.specs.Sources.{AreRetainedFrom, IsLadderFrom, RefusesName, RefusesSource, RefusesWords, SourceValue}
-use Rattle.text_commands.specs.Rows.{RowValue, SpellRows}
+use Rattle.text_commands.specs.Series.{SeriesValue, SpellSettings}
 use Rattle.text_commands.specs.declared.text_command_fault.TextCommandFault.TheVariants.{Text, Word, Write, Memory}
 use Rattle.verifying.specs.declared.setup.Setting.{Setting}
 use Rattle.verifying.specs.declared.verdict.Tally.{Tally}
@@ -35,8 +35,8 @@ restarts_of asked ds networks retained = if asked then Some (kept_places ds netw
 pub record IsSetup (source : SourceValue) (q : QuestionValue) (u : SetupValue) : Type 0 where
   pub ladder : IsLadderFrom source u.ladder.declarations u.ladder.networks
   pub dt : u.dt ≡ q.dt
-  pub rows : List RowValue
-  pub read : SpellRows u.ladder.declarations q.words rows
+  pub rows : List SeriesValue
+  pub read : SpellSettings u.ladder.declarations q.words rows
   pub held : AllZip (HoldsInput u.ladder.declarations u.ladder.networks) rows u.held
   pub inputs : AreInputs u.ladder.declarations u.ladder.networks u.free u.held
   pub given : AllZip (IsClaim u.ladder.declarations u.ladder.networks) q.given u.given
@@ -67,7 +67,7 @@ pub record IsAnswer (source : SourceValue) (q : QuestionValue) (text : List ℕ)
   pub texts : AreTexts setup q.file tally q.claims verdicts lines
   pub timed : IsTimed setup.ladder.declarations q.dt
   pub constants : List ℕ
-  pub are_constants : AreConstants setup.ladder.declarations setup.ladder.networks constants
+  pub are_constants : AreConstants setup.ladder.declarations setup.ladder.networks setup.held constants
   pub whole : text ≡ lines ++ premise_line (premises setup constants)
 
 -- such a text was written, and this is its summary
@@ -88,8 +88,8 @@ pub record RefusesClaims (source : SourceValue) (q : QuestionValue) (fault : Cla
   pub declarations : List Declaration
   pub networks : List Diagram
   pub ladder : IsLadderFrom source declarations networks
-  pub rows : List RowValue
-  pub read : SpellRows declarations q.words rows
+  pub rows : List SeriesValue
+  pub read : SpellSettings declarations q.words rows
   pub held : List Setting
   pub holds : AllZip (HoldsInput declarations networks) rows held
   pub first : IsFirstClaimFault declarations networks q.claims fault
@@ -99,8 +99,8 @@ pub record RefusesHeld (source : SourceValue) (q : QuestionValue) (fault : HeldF
   pub declarations : List Declaration
   pub networks : List Diagram
   pub ladder : IsLadderFrom source declarations networks
-  pub rows : List RowValue
-  pub read : SpellRows declarations q.words rows
+  pub rows : List SeriesValue
+  pub read : SpellSettings declarations q.words rows
   pub first : IsFirstHeldFault declarations networks rows fault
 
 -- the words hold inputs of the source's ladder, the names are claims of it, a name that is given is none, and this is the
@@ -109,8 +109,8 @@ pub record RefusesGiven (source : SourceValue) (q : QuestionValue) (fault : Clai
   pub declarations : List Declaration
   pub networks : List Diagram
   pub ladder : IsLadderFrom source declarations networks
-  pub rows : List RowValue
-  pub read : SpellRows declarations q.words rows
+  pub rows : List SeriesValue
+  pub read : SpellSettings declarations q.words rows
   pub held : List Setting
   pub holds : AllZip (HoldsInput declarations networks) rows held
   pub places : List ℕ
@@ -122,8 +122,8 @@ pub record HasManyInputs (source : SourceValue) (q : QuestionValue) (count : ℕ
   pub declarations : List Declaration
   pub networks : List Diagram
   pub ladder : IsLadderFrom source declarations networks
-  pub rows : List RowValue
-  pub read : SpellRows declarations q.words rows
+  pub rows : List SeriesValue
+  pub read : SpellSettings declarations q.words rows
   pub held : List Setting
   pub holds : AllZip (HoldsInput declarations networks) rows held
   pub places : List ℕ

@@ -7,7 +7,7 @@ ghost use Rattle.verifying.specs.Premises.{HasTimer, IsNumber, IsNumberAt, IsTim
 ghost use Rattle.verifying.specs.VerdictLines.{name_at};
 ghost use Rattle.verifying.specs.Steps.Marks.{AreConstantsOf, IsConstantOf};
 
-use crate::inputs::is_marked;
+use crate::inputs::{is_held, is_marked};
 use crate::names::name_at;
 use crate::setup::{Setting, Setup};
 use crate::verify_fault::VerifyFault;
@@ -95,23 +95,24 @@ fn is_number_at(declarations: &Declarations, place: usize) -> bool
     }
 }
 
-fn is_constant(declarations: &Declarations, marks: &[bool], place: usize) -> bool
-    ensures { IsTrue result ↔ IsConstantOf declarations.now marks.now place }
+fn is_constant(declarations: &Declarations, marks: &[bool], held: &[Setting], place: usize) -> bool
+    ensures { IsTrue result ↔ IsConstantOf declarations.now marks.now held.now place }
 {
-    is_number_at(declarations, place) && !is_marked(marks, place)
+    is_number_at(declarations, place) && !is_marked(marks, place) && !is_held(held, place)
 }
 
-/// The places of the INT and TIME variables that are not marked, in order.
+/// The places of the INT and TIME variables that are neither marked nor held, in order.
 pub(crate) fn constant_places(
     alloc: Global,
     declarations: &Declarations,
     marks: &[bool],
+    held: &[Setting],
 ) -> Result<Vec<usize>, AllocError>
-    ensures { IfOk result (λ constants. AreConstantsOf declarations.now marks.now (length declarations.now) constants.items) }
+    ensures { IfOk result (λ constants. AreConstantsOf declarations.now marks.now held.now (length declarations.now) constants.items) }
 {
     let mut constants = Vec::new(alloc);
     for place in 0..declarations.len() {
-        if is_constant(declarations, marks, place) {
+        if is_constant(declarations, marks, held, place) {
             constants.push(place)?;
         }
     }
@@ -136,11 +137,7 @@ fn held_premise(
 ) -> Result<String, AllocError>
     ensures { IfOk result (λ text. string_bytes text ≡ held_premise declarations.now setting.now) }
 {
-    item(
-        alloc,
-        name_at(declarations, setting.place),
-        Value::Bool(setting.value),
-    )
+    item(alloc, name_at(declarations, setting.place), setting.value)
 }
 
 fn constant_premise(

@@ -1,8 +1,9 @@
 //! The words that have `plc eval` make a run.
 
-ghost use Rattle.std.specs.Prelude.{◌≡◌, [], ◌∷◌, IfOk, OnOk, length};
+ghost use Rattle.std.specs.Prelude.{◌≡◌, ◌++◌, [], ◌∷◌, IfOk, OnOk, length};
 ghost use Rattle.text_lines.specs.Growing.{GrowsBy};
-ghost use Rattle.verifying.specs.VerdictLines.{can_be_words, digit_of, digits_of_free, digits_of_held, dt_words, eval_line, free_words, held_words, input_word, name_at, restart_scans, restart_words};
+ghost use Rattle.text_lines.specs.LineParts.{value_text};
+ghost use Rattle.verifying.specs.VerdictLines.{can_be_words, digit_of, digits_of_free, digits_of_held, dt_words, eval_line, free_words, held_words, input_word, name_at, restart_scans, restart_words, times_text, values_of_held};
 
 use crate::names::name_at;
 use crate::row::Row;
@@ -10,6 +11,8 @@ use crate::setup::{Setting, Setup};
 use declared_names::Declarations;
 use std::alloc::{AllocError, Global};
 use std::fmt::Write;
+use std_blocks::Value;
+use text_lines::push_value;
 
 fn push_digit(text: &mut String, on: bool) -> Result<(), AllocError>
     ensures { OnOk result (GrowsBy text.old text.new (digit_of on ∷ [])) }
@@ -35,7 +38,7 @@ fn push_free_digits(text: &mut String, rows: &[Row], input: usize) -> Result<(),
     Ok(())
 }
 
-/// Writes the value of a held input, once for each row.
+/// Writes the digit of a held input, once for each row.
 fn push_held_digits(text: &mut String, rows: &[Row], value: bool) -> Result<(), AllocError>
     ensures { OnOk result (GrowsBy text.old text.new (digits_of_held rows.now value)) }
 {
@@ -43,6 +46,27 @@ fn push_held_digits(text: &mut String, rows: &[Row], value: bool) -> Result<(), 
         push_digit(text, value)?;
     }
     Ok(())
+}
+
+/// Writes a number, and how often it comes, if that isn't once.
+fn push_number(text: &mut String, value: Value, times: usize) -> Result<(), AllocError>
+    ensures { OnOk result (GrowsBy text.old text.new (value_text value ++ times_text times)) }
+{
+    push_value(text, value)?;
+    if times == 1 {
+        return Ok(());
+    }
+    write!(text, "*{times}")
+}
+
+/// Writes the value of a held input for each row.
+fn push_held_values(text: &mut String, rows: &[Row], value: Value) -> Result<(), AllocError>
+    ensures { OnOk result (GrowsBy text.old text.new (values_of_held rows.now value)) }
+{
+    match value {
+        Value::Bool(on) => push_held_digits(text, rows, on),
+        Value::Int(_) | Value::Time(_) => push_number(text, value, rows.len()),
+    }
 }
 
 fn push_free_words(
@@ -70,7 +94,7 @@ fn push_held_words(
 {
     for setting in held {
         push_name(text, declarations, setting.place)?;
-        push_held_digits(text, rows, setting.value)?;
+        push_held_values(text, rows, setting.value)?;
     }
     Ok(())
 }

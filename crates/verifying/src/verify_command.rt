@@ -20,7 +20,7 @@ ghost use Rattle.verifying.specs.Steps.Asking.{AreHeldBy, IsAsked, IsPrepared, I
 use crate::asked::Asked;
 use crate::claims::{read_claims, read_given};
 use crate::first_scans::has_run;
-use crate::held::read_settings;
+use crate::held::held_settings;
 use crate::inputs::{marks_of, unmarked_places};
 use crate::needed::{few_inputs, needed_slice};
 use crate::premises::{check_time, constant_places, push_premise_line};
@@ -45,7 +45,7 @@ use std::alloc::{AllocError, Global};
 use std::io::Write;
 use text_commands::{
     LadderSource, TextCommandFault, TextFault, kept_places, ladder_places, no_program, read_both,
-    read_program, read_rows, stored_places, without_comments,
+    read_program, read_settings, stored_places, without_comments,
 };
 use text_lines::{Progress, write_text};
 
@@ -238,8 +238,8 @@ fn held_inputs(
     ensures ok { IfOk result (λ held. AreHeldBy declarations.now marks.now (texts words.now) held.items) }
     ensures err { IfErr result (RefusesHolding declarations.now marks.now (texts words.now)) }
 {
-    let rows = read_rows(alloc, declarations, words)?;
-    read_settings(alloc, marks, &rows)
+    let rows = read_settings(alloc, declarations, words)?;
+    held_settings(alloc, marks, &rows)
 }
 
 /// The places that are kept where runs may restart, if this is asked.
@@ -382,7 +382,7 @@ fn prepare(
     )?;
     let free = few_inputs(alloc, &sliced.idle, &asked.free)?;
     check_time(ladder.declarations(), question.dt)?;
-    let constants = constant_places(alloc, ladder.declarations(), &marks)?;
+    let constants = constant_places(alloc, ladder.declarations(), &marks, &asked.held)?;
     let needed = needed_count(&sliced.slice, networks);
     let slice = slice_setup(alloc, sliced.slice, question.dt, free, &asked, &restarts)?;
     let whole = Setup::new(

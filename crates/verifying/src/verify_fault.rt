@@ -20,12 +20,12 @@ pub struct ClaimFault {
     pub kind: ClaimFaultKind,
 }
 
-/// Why a word NAME=BIT holds no input.
+/// Why a word NAME=VALUE holds no input.
 #[derive(Clone, Copy, Debug, PartialEq, Eq, Error)]
 pub enum HeldFaultKind {
-    /// It gives more than one digit.
-    #[error("an input is held by one digit, 0 or 1")]
-    NotOneDigit,
+    /// It gives more than one value.
+    #[error("an input is held at one value")]
+    NotOneValue,
     /// A coil or an output pin stores at the variable.
     #[error("a coil or an output pin stores at this variable: it is no input")]
     NoInput,

@@ -13,26 +13,34 @@ from rules.verify import MOST_INPUTS, Search, key_of, only, verdict_lines
 
 from .drawings import Drawer, Names, cased, drawing
 from .pieces import in_a_row, symbol
+from .test_words import refused_word
 
 # With more free inputs the model takes long.
 MOST_FREE = 4
 # A verdict is compared with a search through the whole drawing where that takes no more scans.
 MOST_SCANS = 800
 FIRST_LETTERS = ("ABCD", "EFGH", "JKLM")
+# What INTs and TIMEs are held at.
+HELD = {"INT": ["1", "2", "2", "3", "07", "-1", "2*1", "3,3"], "TIME": ["T#10ms", "T#10ms", "t#20MS", "TIME#30ms", "T#20ms*1", "T#1s,T#2s"]}
 SOME_BLOCKS = ["SR", "RS", "SR", "RS", "CTU", "CTD", "CTUD", "TON", "TOF", "TP"]
 
 
 class SmallDrawer(Drawer):
+    """Draws small numbers, and often the last name of a kind in their place, at which nothing is stored in a group."""
+
     def literal(self, kind):
+        if self.chance.random() < 0.4 and self.names.reads[kind]:
+            return self.names.reads[kind][-1]
         return self.chance.choice(["0", "1", "2", "3"] if kind == "INT" else ["T#0ms", "T#10ms", "T#20ms", "T#30ms"])
 
 
 def group_of(chance, letters):
     """Names that no other group has; some are never stored."""
     bits = list(letters[: chance.randint(2, 4)])
-    reads = {"BOOL": bits, "INT": [f"N{letters[0]}"], "TIME": [f"Z{letters[0]}"]}
+    stores = {"INT": [f"N{letters[0]}"], "TIME": [f"Z{letters[0]}"]}
+    reads = {"BOOL": bits, "INT": [*stores["INT"], f"K{letters[0]}"], "TIME": [*stores["TIME"], f"D{letters[0]}"]}
     boxes = [(f"T{letters[0]}{k}", chance.choice(SOME_BLOCKS)) for k in range(chance.choice([0, 1, 1, 2, 2]))]
-    return Names(reads, {**reads, "BOOL": bits[len(bits) // 2 :]}, boxes)
+    return Names(reads, {**stores, "BOOL": bits[len(bits) // 2 :]}, boxes)
 
 
 def groups(chance):
@@ -99,7 +107,19 @@ def claims(chance):
             given += [option, cased(chance, name)]
     given += ["--restarts"] * (chance.random() < 0.4)
     held = held_of(chance, ladder, [*claimed, *assumed], inputs)
-    return {"it.ladder": text}, [given + [f"{cased(chance, name)}={chance.randint(0, 1)}" for name in held]]
+    return {"it.ladder": text}, [given + held_words(chance, ladder, held)]
+
+
+def held_words(chance, ladder, bits):
+    """Words that hold these BOOLs, and some INTs and TIMEs; a few are refused."""
+    given = [f"{cased(chance, name)}={chance.randint(0, 1)}{chance.choice([''] * 30 + ['*1'])}" for name in bits]
+    stored = stored_names(ladder.drawing)
+    for it in ladder.declarations:
+        if it.role != "Instance" and it.kind != "BOOL" and chance.random() < (0.02 if words.fold(it.name) in stored else 0.7):
+            given.append(f"{cased(chance, it.name)}={chance.choice(HELD[it.kind])}")
+            if chance.random() < 0.02:
+                given[-1] = refused_word(chance, it.name, it.kind)
+    return chance.sample(given, len(given)) if chance.random() < 0.2 else given
 
 
 def held_of(chance, ladder, names, inputs):

@@ -6,7 +6,7 @@ from rules.refusal import Refusal
 from rules.scan import stored_names
 
 from .beside import with_beside
-from .claims import MOST_FREE
+from .claims import MOST_FREE, held_words
 from .drawings import COMMENTS, cased, digits, further_words
 from .plants import PlantMaker
 from .scan_restarts import restart_words
@@ -123,4 +123,4 @@ def program_claims(chance):
     read, inputs = names_of(found.ladder.networks), [it for it in bits if words.fold(it) not in stored]
     own, others = [it for it in inputs if words.fold(it) in read], [it for it in inputs if words.fold(it) not in read]
     held = chance.sample(own, max(0, len(own) - chance.randint(0, MOST_FREE))) + [it for it in others if chance.random() < 0.2]
-    return {"it.plant": text}, [given + [f"{cased(chance, name)}={chance.randint(0, 1)}" for name in held]]
+    return {"it.plant": text}, [given + held_words(chance, found.ladder, held)]

@@ -3,7 +3,7 @@ from rules.lines import lines_of
 from rules.refusal import Refusal
 from rules.second_drawing import with_second
 
-from .claims import SOME_BLOCKS, SmallDrawer, claim_rung, groups, held_of, names_of, read_ladder
+from .claims import SOME_BLOCKS, SmallDrawer, claim_rung, groups, held_of, held_words, names_of, read_ladder
 from .drawings import Drawer, Names, cased, digits, drawing, operands_of, with_comment
 from .scan_restarts import restart_words
 from .slips import SLIPS
@@ -139,8 +139,8 @@ def second_claims(chance):
         given += ["--given", cased(chance, name)]
     given += ["--restarts"] * (chance.random() < 0.3)
     given += chance.choice([*REFUSED, ["--never", "R1.I0.Q"], ["--no-restarts"]]) if chance.random() < 0.04 else []
-    held = held_of(chance, both, claimed, inputs) if both else []
-    return {"it.ladder": text, "second.ladder": second_text}, [given + [f"{cased(chance, name)}={chance.randint(0, 1)}" for name in held]]
+    held = held_words(chance, both, held_of(chance, both, claimed, inputs)) if both else []
+    return {"it.ladder": text, "second.ladder": second_text}, [given + held]
 
 
 def second_ladder(ladder, text, second_text):

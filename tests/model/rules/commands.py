@@ -19,7 +19,7 @@ from .run import Run, do_in_turns, lines_of_steps
 from .scan import Ladder, State, kept_by_restarts, stored_names
 from .schedule import MOST_U32, steps_of
 from .second_drawing import with_second
-from .test_words import BadWord, tests_of
+from .test_words import BadWord, tests_of, values_of as values_in
 from .traces import Track, diagram, dump
 from .warnings import warnings_of, warnings_of_plant
 from . import verify_plant
@@ -431,9 +431,10 @@ def verify_drawing(write, files, paths, options, more):
 
 def question_of_drawing(ladder, options, more, kept):
     """What words ask of a drawing, of which a restart keeps some variables."""
-    bits = [words.fold(it.name) for it in ladder.declarations if it.role != "Instance" and it.kind == "BOOL"]
+    kinds = {words.fold(it.name): it.kind for it in ladder.declarations if it.role != "Instance"}
+    bits = [name for name, kind in kinds.items() if kind == "BOOL"]
     stored = stored_names(ladder.drawing)
-    held = held_of(more, bits)
+    held = held_of(more, kinds)
     claims = [words.fold(it) for it in options["--never"]]
     given = [words.fold(it) for it in options.get("--given", ())]
     free = [it for it in bits if it not in stored and it not in held]
@@ -446,15 +447,19 @@ def question_of_drawing(ladder, options, more, kept):
     return question
 
 
-def held_of(given, bits):
-    """The values of the BOOLs that words NAME=0 and NAME=1 hold."""
+def held_of(given, kinds):
+    """The value of each variable that words NAME=VALUE hold, as a word of a test gives it for one scan."""
     held = {}
     for word in given:
-        name, _, digit = word.partition("=")
+        name, _, text = word.partition("=")
         name = words.fold(name)
-        if name not in bits or name in held or digit not in ("0", "1"):
+        try:
+            values = values_in(kinds[name], text)
+        except (KeyError, BadWord):
+            raise Refused(REFUSED_WORDS) from None
+        if name in held or len(values) != 1:
             raise Refused(REFUSED_WORDS)
-        held[name] = digit == "1"
+        held[name] = values[0]
     return held
 
 

@@ -46,11 +46,11 @@ def second_drawing(text, above):
 
 
 def read_below(lines, above):
-    """A fault that stands above the text has the line 0: where nothing is drawn, or the first leaves no rows."""
+    """A fault that stands above the text has its first line: where nothing is drawn, or the first leaves no rows."""
     try:
         return read_drawing([""] * above + lines, 1 - above)
     except Refusal as refusal:
-        raise Refusal(refusal.kind, max(0, refusal.line), refusal.column, refusal.within) from None
+        raise Refusal(refusal.kind, max(1, refusal.line), refusal.column, refusal.within) from None
 
 
 def refuse_other_rail(first, second, first_line):

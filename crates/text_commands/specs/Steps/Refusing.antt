@@ -1,7 +1,6 @@
 -- Which faults the parts of a command answer.
 use Rattle.std.specs.Prelude.{◌≡◌, ℕ, List, Result, Ok, Err, IfErr, IsErrAnd}
 use Rattle.std.proofs.Common.{inl, inr, sym, subst}
-use Rattle.declared_names.specs.declared.declarations.Declaration.{Declaration}
 use Rattle.ladder_text.specs.declared.draw_fault.DrawFault.{DrawFault}
 use Rattle.ladder_text.specs.declared.draw_fault.DrawFaultKind.TheVariants.{Memory as DrawMemory}
 use Rattle.network.specs.declared.fault.GraphFault.{GraphFault}
@@ -11,7 +10,6 @@ use Rattle.name_faults.specs.declared.bind_fault.BindKind.TheVariants.{Memory as
 use Rattle.text_commands.specs.declared.text_fault.TextFault.TheVariants.{Bind, Draw, Graph}
 use Rattle.text_commands.specs.declared.text_command_fault.TextCommandFault.{TextCommandFault}
 use Rattle.text_commands.specs.declared.text_command_fault.TextCommandFault.TheVariants.{Text, Word, Write, Memory}
-use Rattle.text_commands.specs.Rows.{SpellNoRows, IsFirstRefused}
 use Rattle.text_commands.specs.Giving.{GivenFor}
 use Rattle.text_commands.specs.EvalText.{RefusesDrawing, RefusesNamesOf, RefusesNetworksOf, RefusesText}
 
@@ -28,13 +26,6 @@ RefusesLadderOfText text (Text fault) = RefusesText text fault
 RefusesLadderOfText text (Word fault) = ⊥
 RefusesLadderOfText text Write = ⊥
 RefusesLadderOfText text Memory = Unit {0}
-
--- no rows were made: a word is refused, or memory
-abbrev pub RefusesRows : List Declaration → List (List ℕ) → TextCommandFault → Type 0
-RefusesRows ds words (Text fault) = ⊥
-RefusesRows ds words (Word fault) = SpellNoRows ds words × IsFirstRefused ds words fault
-RefusesRows ds words Write = ⊥
-RefusesRows ds words Memory = Unit {0}
 
 -- a refusal by binding is one of the text, or of memory
 pub names_refused : {T : Type 0} (drawing : List ℕ) (found : BindFault) (r : Result T TextCommandFault) → IsErrAnd r (GivenFor (found.kind ≡ BindMemory) (Bind found))

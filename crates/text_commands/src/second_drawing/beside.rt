@@ -7,7 +7,7 @@ ghost use Rattle.text_commands.specs.Steps.SecondDrawing.{IsAsideOf, IsBelowOf, 
 
 use crate::second_drawing::drawn_graph::DrawnGraph;
 use crate::second_drawing::names::{add_names, is_box_name, seen_names};
-use crate::second_drawing::reading::bind_fault_below;
+use crate::second_drawing::reading::{bind_fault_below, own_line};
 use crate::second_fault::SecondFault;
 use crate::text_command_fault::TextCommandFault;
 use crate::text_fault::TextFault;
@@ -47,8 +47,7 @@ fn twice(declarations: &Declarations, boxes: &[DrawnBox]) -> Option<Place>
 fn line_below(rows: u64, row: usize) -> u64
     ensures { result ≡ line_below rows row }
 {
-    1u64.saturating_add(row.saturating_sub(1) as u64)
-        .saturating_sub(rows)
+    own_line(rows, 1u64.saturating_add(row.saturating_sub(1) as u64))
 }
 
 /// Looks for what the second drawing has wrong beside the first: where its rail stands, names of boxes, and other names, where

@@ -4,7 +4,7 @@ ghost use Rattle.std.specs.Prelude.{◌≡◌, IfOk, IfErr, length, string_bytes
 ghost use Rattle.name_faults.specs.Guess.{AreGuessed};
 ghost use Rattle.name_faults.specs.Binding.{CanBind};
 ghost use Rattle.power_flow.specs.LadderValue.{diagrams};
-ghost use Rattle.text_commands.specs.SecondDrawing.{bind_fault_below, draw_fault_below, empty_rows, fault_below, graph_fault_below, lowered};
+ghost use Rattle.text_commands.specs.SecondDrawing.{bind_fault_below, draw_fault_below, empty_rows, fault_below, graph_fault_below, lowered, own_line};
 ghost use Rattle.text_commands.specs.Steps.Refusing.{RefusesLadder};
 ghost use Rattle.text_commands.specs.Steps.SecondDrawing.{IsReadGraph, RefusesOther, told_below};
 
@@ -36,12 +36,20 @@ pub(crate) fn read_first(
     }
 }
 
+/// The line of the second drawing's text that stands on this one, where so many empty rows stand above it; its first, where
+/// this one stands above it.
+pub(crate) fn own_line(rows: u64, line: u64) -> u64
+    ensures { result ≡ own_line rows line }
+{
+    line.saturating_sub(rows).max(1)
+}
+
 fn draw_fault_below(rows: u64, fault: DrawFault) -> DrawFault
     ensures { result ≡ draw_fault_below rows fault }
 {
     DrawFault {
         kind: fault.kind,
-        line: fault.line.saturating_sub(rows),
+        line: own_line(rows, fault.line),
         column: fault.column,
     }
 }
@@ -51,7 +59,7 @@ fn graph_fault_below(rows: u64, fault: GraphFault) -> GraphFault
 {
     GraphFault {
         kind: fault.kind,
-        line: fault.line.saturating_sub(rows),
+        line: own_line(rows, fault.line),
         column: fault.column,
     }
 }
@@ -61,7 +69,7 @@ pub(crate) fn bind_fault_below(rows: u64, fault: BindFault) -> BindFault
 {
     BindFault {
         kind: fault.kind,
-        line: fault.line.saturating_sub(rows),
+        line: own_line(rows, fault.line),
         column: fault.column,
     }
 }

@@ -1,9 +1,9 @@
 -- What is known before the search.
-use Rattle.std.specs.Prelude.{◌≡◌, ◌⊎◌, ℕ, List, Bool, length}
+use Rattle.std.specs.Prelude.{◌≡◌, ◌⊎◌, ℕ, List, Bool, All, length}
 use Rattle.std.specs.List.{AllZip}
 use Rattle.declared_names.specs.declared.declarations.Declaration.{Declaration}
 use Rattle.text_commands.specs.Sources.{RefusesName, RefusesSource, RefusesWords, SourceValue}
-use Rattle.text_commands.specs.Rows.{IsFirstRefused, RowValue, SpellNoRows, SpellRows}
+use Rattle.text_commands.specs.Series.{IsFirstRefusedSetting, IsOfVariable, SeriesValue, SpellNoSettings, SpellSettings}
 use Rattle.text_commands.specs.declared.text_command_fault.TextCommandFault.TheVariants.{Text, Word, Write, Memory}
 use Rattle.verifying.specs.declared.setup.Setting.{Setting}
 use Rattle.verifying.specs.Runs.{SetupValue}
@@ -21,19 +21,20 @@ use Rattle.verifying.specs.declared.verify_fault.VerifyFault.TheVariants.{Comman
 
 -- the inputs that words hold, where the marks tell what is stored
 pub record AreHeldBy (ds : List Declaration) (marks : List Bool) (words : List (List ℕ)) (held : List Setting) : Type 0 where
-  pub rows : List RowValue
-  pub read : SpellRows ds words rows
+  pub rows : List SeriesValue
+  pub read : SpellSettings ds words rows
+  pub declared : All (IsOfVariable ds) rows
   pub each : HeldRead marks rows held
 
 pub record IsHeldFaultIn (ds : List Declaration) (marks : List Bool) (words : List (List ℕ)) (fault : HeldFault) : Type 0 where
-  pub rows : List RowValue
-  pub read : SpellRows ds words rows
+  pub rows : List SeriesValue
+  pub read : SpellSettings ds words rows
   pub first : IsHeldFaultOf marks rows fault
 
 -- why words hold no inputs
 abbrev pub RefusesHolding : List Declaration → List Bool → List (List ℕ) → VerifyFault → Type 0
 RefusesHolding ds marks words (Command (Text fault)) = ⊥
-RefusesHolding ds marks words (Command (Word fault)) = SpellNoRows ds words × IsFirstRefused ds words fault
+RefusesHolding ds marks words (Command (Word fault)) = SpellNoSettings ds words × IsFirstRefusedSetting ds words fault
 RefusesHolding ds marks words (Command Write) = ⊥
 RefusesHolding ds marks words (Command Memory) = Unit {0}
 RefusesHolding ds marks words (Claim fault) = ⊥
@@ -76,7 +77,7 @@ pub record IsPrepared (source : SourceValue) (q : QuestionValue) (u : SetupValue
   pub claims : AllZip (IsClaim u.ladder.declarations u.ladder.networks) q.claims places
   pub searched : IsSearched u places idle v
   pub timed : IsTimed u.ladder.declarations q.dt
-  pub are_constants : AreConstants u.ladder.declarations u.ladder.networks constants
+  pub are_constants : AreConstants u.ladder.declarations u.ladder.networks u.held constants
   pub needed_is : needed ≡ length v.ladder.networks
   pub networks_is : networks ≡ length u.ladder.networks
 

@@ -1,11 +1,12 @@
 -- Where a ladder stores, as a mark for each declared name.
-use Rattle.std.specs.Prelude.{◌≡◌, ◌≢◌, ℕ, ◌<◌, ◌↔◌, List, Bool, IsTrue, Some, false, Contains, length, slice_get, slice_index_or, take}
+use Rattle.std.specs.Prelude.{◌≡◌, ◌≢◌, ℕ, ◌<◌, ◌↔◌, List, [], ◌∷◌, Bool, IsTrue, Some, false, Contains, length, slice_get, slice_index_or, take}
 use Rattle.std.specs.List.{AllPairs, AllZip}
+use Rattle.std_blocks.specs.declared.value.Value.{Value}
 use Rattle.declared_names.specs.declared.declarations.Declaration.{Declaration}
 use Rattle.verifying.specs.declared.setup.Setting.{Setting}
 use Rattle.verifying.specs.Runs.{IsBoolAt}
 use Rattle.verifying.specs.Premises.{IsNumberAt}
-use Rattle.text_commands.specs.Rows.{RowValue}
+use Rattle.text_commands.specs.Series.{SeriesValue}
 use Rattle.text_commands.specs.declared.text_command_fault.TextCommandFault.TheVariants.{Text, Word, Write, Memory}
 use Rattle.verifying.specs.Inputs.{IsHeld}
 use Rattle.verifying.specs.Questions.{HoldsAt, IsBoolNamed}
@@ -14,7 +15,7 @@ use Rattle.verifying.specs.declared.verify_fault.ClaimFaultKind.{ClaimFaultKind}
 use Rattle.verifying.specs.declared.verify_fault.ClaimFaultKind.TheVariants.{NoVariable, NeverStored}
 use Rattle.verifying.specs.declared.verify_fault.HeldFault.{HeldFault}
 use Rattle.verifying.specs.declared.verify_fault.HeldFaultKind.{HeldFaultKind}
-use Rattle.verifying.specs.declared.verify_fault.HeldFaultKind.TheVariants.{NotOneDigit, NoInput}
+use Rattle.verifying.specs.declared.verify_fault.HeldFaultKind.TheVariants.{NotOneValue, NoInput}
 use Rattle.verifying.specs.declared.verify_fault.VerifyFault.{VerifyFault}
 use Rattle.verifying.specs.declared.verify_fault.VerifyFault.TheVariants.{Command, Claim, Given, Held, TooManyInputs, NoTime}
 
@@ -38,14 +39,15 @@ pub record AreUnmarked (ds : List Declaration) (marks : List Bool) (held : List 
   pub each : (place : ℕ) → Contains free place ↔ (IsUnmarked ds marks held place × (place < count))
   pub ascending : AllPairs ◌<◌ free
 
--- an INT or TIME variable that isn't marked
-pub record IsConstantOf (ds : List Declaration) (marks : List Bool) (place : ℕ) : Type 0 where
+-- an INT or TIME variable that is neither marked nor held
+pub record IsConstantOf (ds : List Declaration) (marks : List Bool) (held : List Setting) (place : ℕ) : Type 0 where
   pub number : IsNumberAt ds place
   pub unmarked : IsMarked marks place → ⊥
+  pub unheld : IsHeld held place → ⊥
 
 -- those before a place, in order
-pub record AreConstantsOf (ds : List Declaration) (marks : List Bool) (count : ℕ) (constants : List ℕ) : Type 0 where
-  pub each : (place : ℕ) → Contains constants place ↔ (IsConstantOf ds marks place × (place < count))
+pub record AreConstantsOf (ds : List Declaration) (marks : List Bool) (held : List Setting) (count : ℕ) (constants : List ℕ) : Type 0 where
+  pub each : (place : ℕ) → Contains constants place ↔ (IsConstantOf ds marks held place × (place < count))
   pub ascending : AllPairs ◌<◌ constants
 
 -- a claim, where the marks tell what is stored
@@ -79,26 +81,26 @@ GivenRefused ds marks names (Given fault) = IsClaimFaultOf ds marks names fault
 GivenRefused ds marks names fault = fault ≡ Command Memory
 
 -- a row holds an input, where the marks tell what is stored
-pub record HoldsOf (marks : List Bool) (row : RowValue) (s : Setting) : Type 0 where
+pub record HoldsOf (marks : List Bool) (row : SeriesValue) (s : Setting) : Type 0 where
   pub holds : HoldsAt row s
   pub unmarked : IsMarked marks row.place → ⊥
 
-abbrev pub HoldsNoneOf : List Bool → RowValue → HeldFaultKind → Type 0
-HoldsNoneOf marks row NotOneDigit = length row.digits ≢ 1
+abbrev pub HoldsNoneOf : List Bool → SeriesValue → HeldFaultKind → Type 0
+HoldsNoneOf marks row NotOneValue = (value : Value) → row.values ≢ value ∷ []
 HoldsNoneOf marks row NoInput = IsMarked marks row.place
 
-abbrev pub HeldRead : List Bool → List RowValue → List Setting → Type 0
+abbrev pub HeldRead : List Bool → List SeriesValue → List Setting → Type 0
 HeldRead marks rows held = AllZip (HoldsOf marks) rows held
 
 -- the first row that holds no input
-pub record IsHeldFaultOf (marks : List Bool) (rows : List RowValue) (fault : HeldFault) : Type 0 where
-  pub row : RowValue
+pub record IsHeldFaultOf (marks : List Bool) (rows : List SeriesValue) (fault : HeldFault) : Type 0 where
+  pub row : SeriesValue
   pub at : slice_get rows fault.number ≡ Some row
   pub held : List Setting
   pub before : HeldRead marks (take fault.number rows) held
   pub refused : HoldsNoneOf marks row fault.kind
 
-abbrev pub HeldRefused : List Bool → List RowValue → VerifyFault → Type 0
+abbrev pub HeldRefused : List Bool → List SeriesValue → VerifyFault → Type 0
 HeldRefused marks rows (Command (Text fault)) = ⊥
 HeldRefused marks rows (Command (Word fault)) = ⊥
 HeldRefused marks rows (Command Write) = ⊥

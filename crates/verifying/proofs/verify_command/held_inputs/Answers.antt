@@ -12,8 +12,8 @@ returns-in_err-rows-clause-err c =
 
 pub returns-clause-ok : goal.returns-clause-ok
 returns-clause-ok c =
-    held_by_rows c.args.declarations.now c.args.marks.now (texts c.args.words.now) c.in_ok-rows.rows.items c.read_settings.result c.in_ok-rows.ensures.ok (rw c.deref.ensures.value at c.read_settings.ensures.ok)
+    held_by_rows c.args.declarations.now c.args.marks.now (texts c.args.words.now) c.in_ok-rows.rows.items c.held_settings.result c.in_ok-rows.ensures.ok c.in_ok-rows.ensures.declared (rw c.deref.ensures.value at c.held_settings.ensures.ok)
 
 pub returns-clause-err : goal.returns-clause-err
 returns-clause-err c =
-    settings_refused c.args.declarations.now c.args.marks.now (texts c.args.words.now) c.in_ok-rows.rows.items c.read_settings.result c.in_ok-rows.ensures.ok (rw c.deref.ensures.value at c.read_settings.ensures.err)
+    settings_refused c.args.declarations.now c.args.marks.now (texts c.args.words.now) c.in_ok-rows.rows.items c.held_settings.result c.in_ok-rows.ensures.ok (rw c.deref.ensures.value at c.held_settings.ensures.err)

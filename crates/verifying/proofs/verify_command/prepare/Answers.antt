@@ -99,7 +99,7 @@ returns-clause-ok c =
     let sliced = rw c.deref-5.ensures.value at (rw c.deref-4.ensures.value at c.in_ok-sliced.ensures) in
     let same = rw c.deref-7.ensures.value at (rw c.deref-6.ensures.value at c.in_ok-free.ensures.ok) in
     let timed = rw c.declarations-2.ensures.list at c.in_ok-check_time.ensures.ok in
-    let found = rw c.declarations-3.ensures.list at (rw c.deref-8.ensures.value at c.in_ok-constants.ensures) in
+    let found = rw c.declarations-3.ensures.list at (rw c.deref-8.ensures.value at (rw c.deref-9.ensures.value at c.in_ok-constants.ensures)) in
     let made = c.in_ok-slice.ensures in
     subst (λ (w : SetupValue). IsPrepared (source_of c.args.source) q w s.idle.items (searched_of c.in_ok-slice.slice w) a.claims.items constants count m.networks) (sym c.new-whole.ensures)
     (subst (λ (o : Option SetupValue). IsPrepared (source_of c.args.source) q u s.idle.items (searched_of o u) a.claims.items constants count m.networks) (sym made)
