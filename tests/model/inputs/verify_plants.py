@@ -7,11 +7,13 @@ from collections import deque
 from dataclasses import dataclass, field
 from itertools import islice, product
 
-from rules import verify_plant
+from rules import verify_plant, words
 from rules.commands import SHAPES, Files, Refused, question_of, read_words
 from rules.inputs import Inputs
+from rules.plant_text import read_plant
 from rules.refusal import Refusal
 from rules.schedule import Deliver, Evaluate, Hear, Restart, events_of
+from rules.words import is_literal
 
 from .beside import BITS, with_beside
 from .drawings import Drawer, cased
@@ -247,6 +249,35 @@ class SmallPlant(PlantMaker):
         return [",".join(self.chance.sample(bits, min(len(bits), self.chance.choice([1, 2, 2, 2, 3])))) for _ in range(self.chance.choice([1, 1, 1, 2]))]
 
 
+# (The program looks for PV and Q in capital letters alone.)
+SMALL = re.compile(r"\|\s*(?:pv|Pv|pV)\b|\.q\b|\bq\|")
+
+
+class CountingPlant(SmallPlant):
+    """Such a plant, whose programs have counters up and down of which nothing shows the count. Those up have a number at PV, at most 3."""
+
+    def variables(self):
+        found, chance = super().variables(), self.chance
+        found.boxes = {name: chance.choice(["CTU", "CTU", "CTD"]) for name in ["X", "X2"][: chance.choice([1, 1, 1, 2])]}
+        return found
+
+    def text(self):
+        while True:
+            text = super().text()
+            if is_read(text) and not re.search(r"(?i)CV\|-*[A-Z_]|\.CV", text) and not SMALL.search(text) and all(map(has_preset, boxes_in(text))):
+                return text
+            self.__init__(self.chance)
+
+
+def boxes_in(text):
+    return [box for it in read_plant(text).types for network in it.ladder.networks for box in network.boxes]
+
+
+def has_preset(box):
+    numbers = [pin.operand.text for pin in box.pins if words.fold(pin.name) == "PV" and pin.is_left and pin.operand]
+    return words.fold(box.block) != "CTU" or any(map(is_literal, numbers))
+
+
 def options(chance, plant):
     """Words that say which runs are looked at."""
     return [
@@ -318,16 +349,22 @@ def asked(given, folder):
     return question_of(Files(folder).plant(paths[0]), options_given, more)
 
 
-def plant_claims(chance):
+def counted_claims(chance):
+    """A plant with counters, with words that ask what of it is never on together."""
+    return plant_claims(chance, CountingPlant)
+
+
+def plant_claims(chance, maker=None):
     """A plant, with words that ask what of it is never on together, whatever its network does."""
     while True:
-        plant = Zone(chance) if chance.random() < 0.5 else SmallPlant(chance)
+        plant = maker(chance) if maker else Zone(chance) if chance.random() < 0.5 else SmallPlant(chance)
         text = plant.text()
         given = ["verify", "it.plant", *(word for it in plant.claims() for word in ("--never", it)), *options(chance, plant)]
         searches = decided(text, given) if is_read(text) else None
         if searches:
             break
     given += [*most_waiting(chance, searches), *(["--most-states", str(ENOUGH_STATES)] if " E0 : " in text else [])]
+    given += chance.choice([[], [], [], ["--strict"], ["--no-warnings"]])
     if chance.random() < 0.06:
         given += chance.choice(REFUSED)
     return {"it.plant": text}, [given]
