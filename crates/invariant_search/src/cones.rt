@@ -72,7 +72,6 @@ pub(crate) fn cone_of(
 ) -> Result<Cone, AllocError> {
     let gates = system.gates.gates();
     let mut cone = Cone::new(alloc, gates)?;
-    cone.put_all(&system.state)?;
     cone.put(system.constraint.variable)?;
     cone.put_all(goal)?;
     cone.fill(gates)?;
