@@ -63,8 +63,7 @@ impl Cone {
     }
 }
 
-/// The variables of the state, of the constraint and of a goal, and all that these are made of. Values of them go on to all
-/// others.
+/// The variables of the constraint and of a goal, and all that these are made of.
 pub(crate) fn cone_of(
     alloc: Global,
     system: &TransitionSystem,
