@@ -24,9 +24,11 @@ pub(crate) fn check_step(
 {
     let steps = certificate.steps.as_slice();
     let next = system.next.as_slice();
-    check_kept(alloc, next, kept, certificate.kept.as_slice(), steps)?;
+    let clauses = certificate.clauses.as_slice();
+    let places = certificate.kept.as_slice();
+    check_kept(alloc, next, kept, places, steps)?;
     check_safe(alloc, system.bad, certificate.safe, steps)?;
-    let formula = formula_of(alloc, system, certificate.clauses.as_slice())?;
+    let formula = formula_of(alloc, system, clauses)?;
     let variables = system.gates.gates().len();
     let follows = are_following(alloc, variables, formula.as_slice(), steps)?;
     if follows {
@@ -56,5 +58,6 @@ pub fn check_certificate(
     if !hold_of(clauses, first) {
         return Err(CertificateFault::NotAtFirst);
     }
-    check_step(alloc, system, certificate, clauses)
+    check_step(alloc, system, certificate, clauses)?;
+    Ok(())
 }

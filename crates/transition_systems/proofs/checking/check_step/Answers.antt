@@ -14,9 +14,9 @@ returns-then-follows c =
     let steps = c.as_slice-steps.result.now in
     let formula = c.in_ok-formula.formula.items in
     let following : AreFollowing formula steps =
-    subst (λ (fs : List (Vec Literal)). AreFollowing fs steps) c.as_slice-2.ensures.value (c.in_ok-follows.ensures c.if-follows.true) in
+    subst (λ (fs : List (Vec Literal)). AreFollowing fs steps) c.as_slice.ensures.value (c.in_ok-follows.ensures c.if-follows.true) in
     let kept : AreShown steps c.args.kept.now t.next.items =
     subst (λ (ss : List Signal). AreShown steps c.args.kept.now ss) c.as_slice-next.ensures.value c.in_ok-check_kept.ensures in
     let is : IsFormula t c.args.certificate.now.clauses.items formula =
-    subst (λ (cs : List (Vec Literal)). IsFormula t cs formula) c.as_slice.ensures.value c.in_ok-formula.ensures in
+    subst (λ (cs : List (Vec Literal)). IsFormula t cs formula) c.as_slice-clauses.ensures.value c.in_ok-formula.ensures in
     lead_to t c.args.certificate.now.clauses.items c.args.kept.now formula steps is following kept c.in_ok-check_safe.ensures
