@@ -1,14 +1,14 @@
 //! The search for why a system is never bad, or for a run on which it is: property-directed reachability. Nothing is believed
 //! of it: a certificate is checked, and a run done, before it is handed out. In this order: cubes, what signals depend on,
-//! frames, solvers over them, queries, obligations, the search; steps, what is needed of them, certificates; what is found.
+//! depths, solvers over them, queries, obligations, the search; steps, what is needed of them, certificates; what is found.
 #![tactic(auto)]
 
 mod certifying;
 mod cones;
 mod cubes;
+mod depth_solver;
+mod depths;
 mod finding;
-mod frame_solver;
-mod frames;
 mod needed;
 mod obligations;
 mod queries;

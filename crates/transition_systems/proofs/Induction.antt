@@ -10,7 +10,7 @@ use Rattle.transition_systems.specs.declared.certificate.Certificate.{Certificat
 use Rattle.transition_systems.specs.declared.system.TransitionSystem.{TransitionSystem}
 use Rattle.transition_systems.specs.Systems.{NeverBad, NeverBadFrom, bits_at}
 use Rattle.transition_systems.specs.Certificates.{AreInductive, HoldOf, LeadTo}
-use Rattle.transition_systems.specs.Steps.Frames.{clauses_or, its_clauses}
+use Rattle.transition_systems.specs.Steps.Depths.{clauses_or, its_clauses}
 use Rattle.transition_systems.specs.Steps.Inductive.{AreShown, IsFormula, IsShownFalse}
 
 -- what steps that follow show of a step of the system
@@ -36,31 +36,31 @@ never_from t clauses ever (row ∷ rows) state holds = λ v at given. (
 pub never_bad : (t : TransitionSystem) (clauses : List (Vec Literal)) → AreInductive t clauses → NeverBad t
 never_bad t clauses are = λ rows. never_from t clauses are.ever rows t.first.items are.at_first
 
--- from a state of which the clauses of a frame hold, none is bad under as many rows as there are frames from it on
-pub never_within : (t : TransitionSystem) (frames : List Certificate) (none : List (Vec Literal))
-    → ((k : ℕ) → k < length frames → LeadTo t (clauses_or frames k none) (clauses_or frames (k + 1) none))
-    → (rows : List (List Bool)) (k : ℕ) (state : List Bool) → k + length rows ≤ length frames → HoldOf (clauses_or frames k none) state
+-- from a state of which the clauses of a depth hold, none is bad under as many rows as there are depths from it on
+pub never_within : (t : TransitionSystem) (depths : List Certificate) (none : List (Vec Literal))
+    → ((k : ℕ) → k < length depths → LeadTo t (clauses_or depths k none) (clauses_or depths (k + 1) none))
+    → (rows : List (List Bool)) (k : ℕ) (state : List Bool) → k + length rows ≤ length depths → HoldOf (clauses_or depths k none) state
     → NeverBadFrom t state rows
-never_within t frames none lead [] k state le holds = tt
-never_within t frames none lead (row ∷ rows) k state le holds = λ v at given.
+never_within t depths none lead [] k state le holds = tt
+never_within t depths none lead (row ∷ rows) k state le holds = λ v at given.
     let step = lead k (omega arith) in (
       step.safe state row v holds at given,
-      never_within t frames none lead rows (k + 1) (bits_at v t.next.items) (omega arith) (step.kept state row v holds at given),
+      never_within t depths none lead rows (k + 1) (bits_at v t.next.items) (omega arith) (step.kept state row v holds at given),
     )
 
--- a frame more leads to the next one
-pub frames_more : (t : TransitionSystem) (frames : List Certificate) (none next : List (Vec Literal)) (number : ℕ) (frame : Certificate)
-    → number < length frames → frame ≡ get_or frames number frame → next ≡ clauses_or frames (number + 1) none
-    → LeadTo t frame.clauses.items next
-    → ((k : ℕ) → k < number → LeadTo t (clauses_or frames k none) (clauses_or frames (k + 1) none))
-    → (k : ℕ) → k < number + 1 → LeadTo t (clauses_or frames k none) (clauses_or frames (k + 1) none)
-frames_more t frames none next number frame lt is e here before k less =
+-- a depth more leads to the next one
+pub depths_more : (t : TransitionSystem) (depths : List Certificate) (none next : List (Vec Literal)) (number : ℕ) (depth : Certificate)
+    → number < length depths → depth ≡ get_or depths number depth → next ≡ clauses_or depths (number + 1) none
+    → LeadTo t depth.clauses.items next
+    → ((k : ℕ) → k < number → LeadTo t (clauses_or depths k none) (clauses_or depths (k + 1) none))
+    → (k : ℕ) → k < number + 1 → LeadTo t (clauses_or depths k none) (clauses_or depths (k + 1) none)
+depths_more t depths none next number depth lt is e here before k less =
     ⊎_elim
     (λ below. before k below)
     (λ le.
     let same : number ≡ k = omega arith in
-    let own : frame.clauses.items ≡ clauses_or frames number none = ap its_clauses is ∙ sym (get_or-map its_clauses frames number frame none lt) in
-    subst (λ (n : ℕ). LeadTo t (clauses_or frames n none) (clauses_or frames (n + 1) none)) same
-    (subst (λ (clauses : List (Vec Literal)). LeadTo t clauses (clauses_or frames (number + 1) none)) own
-    (subst (λ (clauses : List (Vec Literal)). LeadTo t frame.clauses.items clauses) e here)))
+    let own : depth.clauses.items ≡ clauses_or depths number none = ap its_clauses is ∙ sym (get_or-map its_clauses depths number depth none lt) in
+    subst (λ (n : ℕ). LeadTo t (clauses_or depths n none) (clauses_or depths (n + 1) none)) same
+    (subst (λ (clauses : List (Vec Literal)). LeadTo t clauses (clauses_or depths (number + 1) none)) own
+    (subst (λ (clauses : List (Vec Literal)). LeadTo t depth.clauses.items clauses) e here)))
     (cases_lt k number)

@@ -2,7 +2,7 @@ use Rattle.std.proofs.Common.{ℕ, List, length, ap, subst, ◌∙◌}
 use Rattle.std.proofs.lemmas.List.{length-reverse}
 use Rattle.transition_systems.specs.declared.certificate.Certificate.{Certificate}
 use Rattle.transition_systems.specs.Systems.{NeverBadWithin}
-use Rattle.invariant_search.proofs.certifying.certify_frames.Goals as goal
+use Rattle.invariant_search.proofs.certifying.certify_depths.Goals as goal
 
 pub returns : goal.returns
 returns c =
@@ -11,4 +11,4 @@ returns c =
     ∙ ap (λ (cs : List Certificate). length cs) c.reverse.ensures.items
     ∙ length-reverse c.in_ok-certificates.certificates.items
     ∙ c.in_ok-certificates.ensures)
-    c.in_ok-check_frames.ensures.never
+    c.in_ok-check_depths.ensures.never

@@ -8,6 +8,6 @@ use Rattle.transition_systems.specs.declared.certificate.Certificate.{Certificat
 abbrev pub its_clauses : Certificate → List (Vec Literal)
 its_clauses c = c.clauses.items
 
--- the clauses of a frame, behind the last these
+-- the clauses of a depth, behind the last these
 abbrev pub clauses_or : List Certificate → ℕ → List (Vec Literal) → List (Vec Literal)
-clauses_or frames number none = slice_index_or (map its_clauses frames) number none
+clauses_or depths number none = slice_index_or (map its_clauses depths) number none
