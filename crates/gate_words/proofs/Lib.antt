@@ -1,0 +1,4 @@
+pub mod LowValues
+pub mod Built
+pub mod BitLaws
+pub mod WordLaws
