@@ -1,8 +1,8 @@
 ghost use Rattle.std.specs.Prelude.{◌≡◌, length};
 
+use crate::choosing::if_then_else;
 use crate::comparing::at_most;
-use crate::exact::{chosen_bits, exact};
-use crate::numbers::constant;
+use crate::numbers::{constant, resized};
 use gates::{Gates, Signal};
 use std::alloc::{AllocError, Global};
 
@@ -19,22 +19,35 @@ impl IntWord {
     ghost use Rattle.gates.specs.Signals.{signal_value};
     ghost use Rattle.gate_words.specs.Words.{word_value};
     ghost use Rattle.gate_words.specs.Values.{int_at, IsRaised};
+    ghost use Rattle.gate_words.specs.Steps.Bits.{IsFlipped};
 
     pub fn zero(gates: &Gates) -> IntWord
         ensures { (v : ℕ → Bool) → Agrees v gates.now → int_at v result ≡ pos 0 }
     {
-        IntWord {
-            bits: [gates.constant(false); 16],
-        }
+        let off = gates.constant(false);
+        IntWord { bits: [off; 16] }
+    }
+
+    /// The first sixteen bits of a word. Its number stays, where it fits.
+    fn of(alloc: Global, gates: &Gates, word: &[Signal]) -> Result<IntWord, AllocError>
+        ensures { IfOk result (λ new. (v : ℕ → Bool) → Agrees v gates.now → word_value v word.now < 2 ^ 16
+            → word_value v new.bits ≡ word_value v word.now) }
+    {
+        let first = resized(alloc, gates, word, 16)?;
+        let first = first.as_slice();
+        let mut bits = [gates.constant(false); 16];
+        bits.copy_from_slice(first);
+        Ok(IntWord { bits })
     }
 
     /// This number, whatever the variables are.
     pub fn constant(alloc: Global, gates: &Gates, number: i16) -> Result<IntWord, AllocError>
-        ensures { IfOk result (λ word. (v : ℕ → Bool) → Agrees v gates.now → int_at v word ≡ number) }
+        ensures { IfOk result (λ new. (v : ℕ → Bool) → Agrees v gates.now → int_at v new ≡ number) }
     {
         let word = constant(alloc, gates, u64::from(number.cast_unsigned()))?;
-        let bits = exact(alloc, gates, &word)?;
-        Ok(IntWord { bits })
+        let bits = word.as_slice();
+        let new = IntWord::of(alloc, gates, bits)?;
+        Ok(new)
     }
 
     /// The first where the condition is TRUE, and else the second.
@@ -45,30 +58,42 @@ impl IntWord {
         first: &IntWord,
         second: &IntWord,
     ) -> Result<IntWord, AllocError>
-        ensures { IfOk result (λ word. IsBuilt gates.old gates.new
-            (λ v. int_at v word ≡ (if signal_value v condition then int_at v first.now else int_at v second.now))) }
+        ensures { IfOk result (λ new. IsBuilt gates.old gates.new
+            (λ v. int_at v new ≡ (if signal_value v condition then int_at v first.now else int_at v second.now))) }
     {
-        let bits = chosen_bits(alloc, gates, condition, &first.bits, &second.bits)?;
-        Ok(IntWord { bits })
+        let word = if_then_else(alloc, gates, condition, &first.bits, &second.bits)?;
+        let bits = word.as_slice();
+        let new = IntWord::of(alloc, gates, bits)?;
+        Ok(new)
     }
 
-    /// The number by which it is more than the least INT.
-    pub fn raised(&self) -> [Signal; 16]
+    /// Its bits with the highest one negated.
+    fn flipped(&self) -> [Signal; 16]
         ensures long { length result ≡ 16 }
-        ensures value { (v : ℕ → Bool) → IsRaised (int_at v self.now) (word_value v result) }
+        ensures value { (v : ℕ → Bool) → IsFlipped 32768 (word_value v self.now.bits) (word_value v result) }
     {
         let mut bits = self.bits;
         bits[15] = bits[15].negated();
         bits
     }
 
-    /// The INT that is more than the least one by this number.
+    /// By how much it is more than the least INT.
+    pub fn raised(&self) -> [Signal; 16]
+        ensures long { length result ≡ 16 }
+        ensures fits { (v : ℕ → Bool) → word_value v result < 2 ^ 16 }
+        ensures value { (v : ℕ → Bool) → IsRaised (int_at v self.now) (word_value v result) }
+    {
+        let raised = self.flipped();
+        raised
+    }
+
+    /// The INT that is more than the least one by so much.
     pub fn of_raised(alloc: Global, gates: &Gates, word: &[Signal]) -> Result<IntWord, AllocError>
         ensures { IfOk result (λ new. (v : ℕ → Bool) → Agrees v gates.now → word_value v word.now < 2 ^ 16
             → IsRaised (int_at v new) (word_value v word.now)) }
     {
-        let mut bits = exact(alloc, gates, word)?;
-        bits[15] = bits[15].negated();
+        let raised = IntWord::of(alloc, gates, word)?;
+        let bits = raised.flipped();
         Ok(IntWord { bits })
     }
 
@@ -79,6 +104,7 @@ impl IntWord {
     {
         let left = self.raised();
         let right = other.raised();
-        at_most(gates, &left, &right)
+        let is = at_most(gates, &left, &right)?;
+        Ok(is)
     }
 }

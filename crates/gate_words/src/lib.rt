@@ -7,7 +7,6 @@ mod bits;
 mod choosing;
 mod comparing;
 mod differing;
-mod exact;
 mod int_word;
 mod numbers;
 mod time_word;

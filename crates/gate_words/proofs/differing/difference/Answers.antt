@@ -1,0 +1,4 @@
+use Rattle.gate_words.proofs.differing.difference.Goals as goal
+
+pub returns : goal.returns
+returns c = ?
