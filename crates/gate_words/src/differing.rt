@@ -40,7 +40,12 @@ pub fn difference(
 {
     let missing = complement(alloc, left)?;
     let most = greatest(alloc, gates, left.len())?;
-    let more = bounded_sum(alloc, gates, &missing, right, &most)?;
-    let kept = resized(alloc, gates, &more, left.len())?;
-    complement(alloc, &kept)
+    let missing_bits = missing.as_slice();
+    let most_bits = most.as_slice();
+    let more = bounded_sum(alloc, gates, missing_bits, right, most_bits)?;
+    let more_bits = more.as_slice();
+    let kept = resized(alloc, gates, more_bits, left.len())?;
+    let kept_bits = kept.as_slice();
+    let word = complement(alloc, kept_bits)?;
+    Ok(word)
 }

@@ -44,7 +44,8 @@ impl IntWord {
     pub fn constant(alloc: Global, gates: &Gates, number: i16) -> Result<IntWord, AllocError>
         ensures { IfOk result (λ new. (v : ℕ → Bool) → Agrees v gates.now → int_at v new ≡ number) }
     {
-        let word = constant(alloc, gates, u64::from(number.cast_unsigned()))?;
+        let unsigned = number.cast_unsigned();
+        let word = constant(alloc, gates, u64::from(unsigned))?;
         let bits = word.as_slice();
         let new = IntWord::of(alloc, gates, bits)?;
         Ok(new)
