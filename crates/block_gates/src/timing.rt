@@ -38,7 +38,8 @@ pub(crate) fn is_less(
         (λ v. signal_value v s ≡ nat_lt (time_at v first.now) (time_at v second.now))) }
 {
     let isnt = second.at_most(gates, first)?;
-    Ok(isnt.negated())
+    let less = isnt.negated();
+    Ok(less)
 }
 
 /// ET of a TON once it is stepped.
