@@ -1,5 +1,4 @@
 pub mod Bits
-pub mod Faults
 pub mod Marking
 pub mod Passed
 pub mod ContactsRead
