@@ -1,6 +1,5 @@
 -- Words of so many bits.
 use Rattle.std.proofs.Common.{◌≡◌, ℕ, zero, suc, ◌+◌, ◌-◌, ◌*◌, ◌^◌, ◌<◌, ◌≤◌, ◌≢◌, ◌⊎◌, inl, inr, min, Bool, true, false, not, cond, leb, ltb, List, [], ◌∷◌, ◌++◌, length, length-set, get_or, set, map, replicate, refl, ap, sym, ◌∙◌, ⊎_elim, arith, ℤ, pos, negsuc, ◌+ℤ◌}
-use Rattle.std.proofs.Math.Nat.{pow-suc}
 use Rattle.std.proofs.lemmas.Bool.{lt-leb}
 use Rattle.std.proofs.lemmas.Bool.Decides.{leb_tells}
 use Rattle.std.proofs.lemmas.Int.{to_z_pos}
@@ -144,14 +143,14 @@ pub all_off : (v : ℕ → Bool) (s : Signal) (n : ℕ) → signal_value v s ≡
 all_off v s zero off = refl
 all_off v s (suc n) off = ap (λ t. cond t 1 0 + 2 * word_value v (replicate n s)) off ∙ ap (λ k. 0 + 2 * k) (all_off v s n off)
 
-all_on_step : (x p q : ℕ) → x + 1 ≡ p → q ≡ p * 2 → 1 + 2 * x + 1 ≡ q
-all_on_step x p q e f = omega (arith, e, f)
+-- there is a number of so many bits
+pub some_number : (n : ℕ) → 0 < 2 ^ n
+some_number n =
+    let lt = low_lt (λ _. false) n in
+    let heavy = weight_is n in omega (arith, lt, heavy)
 
-pub all_on : (v : ℕ → Bool) (s : Signal) (n : ℕ) → signal_value v s ≡ true → word_value v (replicate n s) + 1 ≡ 2 ^ n
-all_on v s zero on = refl
-all_on v s (suc n) on =
-    ap (λ t. cond t 1 0 + 2 * word_value v (replicate n s) + 1) on
-    ∙ all_on_step (word_value v (replicate n s)) (2 ^ n) (2 ^ suc n) (all_on v s n on) (pow-suc 2 n)
+pub greatest_of : (word none all : ℕ) → word + none + 1 ≡ all → none ≡ 0 → word + 1 ≡ all
+greatest_of word none all e f = omega (arith, e, f)
 
 -- one more bit of what is missing of the greatest number
 missing_step : (t : Bool) (word low w big : ℕ) → word + low + 1 ≡ w → big ≡ w + w → word + cond (not t) w 0 + (low + cond t w 0) + 1 ≡ big

@@ -23,8 +23,9 @@ fn complement(alloc: Global, word: &[Signal]) -> Result<Vec<Signal>, AllocError>
 fn greatest(alloc: Global, gates: &Gates, bits: usize) -> Result<Vec<Signal>, AllocError>
     ensures { IfOk result (λ word. (v : ℕ → Bool) → Agrees v gates.now → word_value v word.items + 1 ≡ 2 ^ bits) }
 {
-    let on = gates.constant(true);
-    let word = vec![in alloc; on; bits]?;
+    let none = resized(alloc, gates, &[], bits)?;
+    let off = none.as_slice();
+    let word = complement(alloc, off)?;
     Ok(word)
 }
 
