@@ -5,3 +5,5 @@ pub mod ContactsRead
 pub mod Results
 pub mod Slots
 pub mod BoxesStepped
+pub mod StateBits
+pub mod Shapes

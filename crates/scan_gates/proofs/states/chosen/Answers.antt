@@ -1,0 +1,4 @@
+use Rattle.scan_gates.proofs.states.chosen.Goals as goal
+
+pub returns-clause-built : goal.returns-clause-built
+returns-clause-built c = ?
