@@ -17,8 +17,7 @@ pub fn blocks_are_signals()
         → state_at v i ≡ state_of (type_of i) (map (signal_value v) (instance_signals i)) }
     ensures outputs { (v : ℕ → Bool) (i : InstanceValue)
         → outputs_at v i ≡ outputs_of (type_of i) (map (signal_value v) (instance_signals i)) }
-{
-}
+{}
 
 /// The INT of sixteen signals.
 pub fn int_word(signals: &[Signal]) -> IntWord

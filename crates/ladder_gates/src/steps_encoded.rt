@@ -36,7 +36,9 @@ fn scan_in(
         AreScanned boxes.now coils.now steps.now (length rows.old) (time_at v dt.now) (slots_at v slots.old)
         (bits_at v memories.old) (slots_at v slots.new) (bits_at v memories.new))) }
 {
-    pass_signals(alloc, gates, steps, boxes, slots, dt, rows, memories, links, results)?;
+    pass_signals(
+        alloc, gates, steps, boxes, slots, dt, rows, memories, links, results,
+    )?;
     store_boxes(gates, boxes, results, slots);
     store_coils(gates, coils, links, memories, slots)?;
     Ok(())

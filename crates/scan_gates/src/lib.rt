@@ -14,12 +14,15 @@ mod states;
 mod stepping;
 mod storing;
 
-pub use block_gates::{EncodedCounter, EncodedInstance, EncodedTimer, EncodedUpDown, IntWord, TimeWord};
+pub use block_gates::{
+    EncodedCounter, EncodedInstance, EncodedTimer, EncodedUpDown, IntWord, TimeWord,
+};
 pub use encoded::{EncodedSlot, EncodedValue, constant_value, first_value};
 pub use shape::Shape;
 pub use sources::{output_of, variable_on};
 pub use states::{
-    chosen, declared_are_like, is_like, kinds_are_shapes, push_signals, states_are_signals, with_inputs,
+    chosen, declared_are_like, is_like, kinds_are_shapes, push_signals, states_are_signals,
+    with_inputs,
 };
 pub use stepping::pass_signals;
 pub use storing::{put_instance, put_value};

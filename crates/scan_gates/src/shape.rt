@@ -64,7 +64,9 @@ impl EncodedSlot {
     {
         match shape {
             Shape::Variable(Kind::Bool) => EncodedSlot::Variable(EncodedValue::Bool(signals[0])),
-            Shape::Variable(Kind::Int) => EncodedSlot::Variable(EncodedValue::Int(int_word(signals))),
+            Shape::Variable(Kind::Int) => EncodedSlot::Variable(EncodedValue::Int(int_word(
+                signals,
+            ))),
             Shape::Variable(Kind::Time) => {
                 EncodedSlot::Variable(EncodedValue::Time(time_word(signals)))
             }

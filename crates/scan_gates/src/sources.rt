@@ -61,7 +61,12 @@ pub fn variable_on(gates: &Gates, slots: &[EncodedSlot], place: usize) -> Signal
 }
 
 /// An output of the block at a place, if there is one.
-fn output_at(gates: &Gates, slots: &[EncodedSlot], place: usize, field: Field) -> Option<EncodedValue>
+fn output_at(
+    gates: &Gates,
+    slots: &[EncodedSlot],
+    place: usize,
+    field: Field,
+) -> Option<EncodedValue>
     ensures { (v : ℕ → Bool) → Agrees v gates.now → option_map (value_at v) result
         ≡ option_and_then (slot_output field) (slice_get (slots_at v slots.now) place) }
 {

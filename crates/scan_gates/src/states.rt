@@ -19,22 +19,19 @@ pub fn states_are_signals()
     ensures states { (v w : ℕ → Bool) (a b : List SlotValue) (m n : List SignalValue) → AreLike a b
         → bits_at v (state_signals a m) ≡ bits_at w (state_signals b n)
         → (slots_at v a ≡ slots_at w b) × (bits_at v m ≡ bits_at w n) }
-{
-}
+{}
 
 /// What is like what is declared is what is declared.
 pub fn kinds_are_shapes()
     ensures { (v w : ℕ → Bool) (ds : List Declaration) (a b : List SlotValue) → AreLike a b → AreSlotsOf ds (slots_at v a)
         → AreSlotsOf ds (slots_at w b) }
-{
-}
+{}
 
 /// What is declared once is alike.
 pub fn declared_are_like()
     ensures { (v w : ℕ → Bool) (ds : List Declaration) (a b : List SlotValue) → AreSlotsOf ds (slots_at v a)
         → AreSlotsOf ds (slots_at w b) → AreLike a b }
-{
-}
+{}
 
 /// Whether both are variables of one kind, or blocks of one type.
 pub fn is_like(first: &EncodedSlot, second: &EncodedSlot) -> bool
@@ -78,11 +75,7 @@ fn push_input(gates: &mut Gates, signals: &mut Vec<Signal>) -> Result<(), AllocE
 }
 
 /// Puts so many new inputs behind the others.
-fn push_inputs(
-    gates: &mut Gates,
-    count: usize,
-    signals: &mut Vec<Signal>,
-) -> Result<(), AllocError>
+fn push_inputs(gates: &mut Gates, count: usize, signals: &mut Vec<Signal>) -> Result<(), AllocError>
     ensures built { OnOk result (IsBuilt gates.old gates.new (λ _. Unit {0})) }
     ensures more { OnOk result (HasMore signals.old.items signals.new.items count) }
 {

@@ -191,10 +191,28 @@ fn obey(
             Ok(())
         }
         Step::Box(number) => {
-            obey_numbered(alloc, gates, *number as usize, boxes, slots, dt, rows, results)
+            obey_numbered(
+                alloc,
+                gates,
+                *number as usize,
+                boxes,
+                slots,
+                dt,
+                rows,
+                results,
+            )
         }
         Step::BoxCoil(number, row, coil) => {
-            obey_numbered(alloc, gates, *number as usize, boxes, slots, dt, rows, results)?;
+            obey_numbered(
+                alloc,
+                gates,
+                *number as usize,
+                boxes,
+                slots,
+                dt,
+                rows,
+                results,
+            )?;
             links[*coil as usize] = rows[*row as usize];
             Ok(())
         }
@@ -226,7 +244,9 @@ pub fn pass_signals(
         (pass_at v rows.new memories.new links.new results.new))) }
 {
     for step in steps {
-        obey(alloc, gates, step, boxes, slots, dt, rows, memories, links, results)?;
+        obey(
+            alloc, gates, step, boxes, slots, dt, rows, memories, links, results,
+        )?;
     }
     Ok(())
 }

@@ -78,8 +78,7 @@ returns-in-Coil c =
     let within : (c.in-Coil.row < length c.args.rows.now) × (c.in-Coil.coil < length c.args.links.now) = rw c.in-Coil.is at c.requires.step in
     rw c.in-Coil.is (λ v agrees. (
       agrees,
-      
-          ap (λ l. pass_of (bits_at v c.args.rows.now) (bits_at v c.args.memories.now) l (instances_at v c.args.results.now))
+      ap (λ l. pass_of (bits_at v c.args.rows.now) (bits_at v c.args.memories.now) l (instances_at v c.args.results.now))
           (bits_set v c.args.links.now c.in-Coil.coil _ _ (sym (bit_there v c.args.rows.now c.in-Coil.row _ within.0))),
     ))
 

@@ -34,6 +34,6 @@ returns c = λ v agrees.
     let was = c.loop-step.invariant.passed v agrees in
     let b = pass_at v c.loop-step.rows c.loop-step.memories c.loop-step.links c.loop-step.results in (
       was.0,
-          let Passed : List Step → Type 0 = λ steps. ArePassed c.args.boxes.now (slots_at v c.args.slots.now) (time_at v c.args.dt.now) steps b b in
+      let Passed : List Step → Type 0 = λ steps. ArePassed c.args.boxes.now (slots_at v c.args.slots.now) (time_at v c.args.dt.now) steps b b in
           was.1 b (subst Passed (sym (drop_all c.loop-step.step-index c.args.steps.now c.loop-step-test.false)) refl),
     )
