@@ -1,3 +1,4 @@
 pub mod Counts
 pub mod Both
 pub mod Parts
+pub mod Stepped
