@@ -1,5 +1,5 @@
 -- States by the values of their signals.
-use Rattle.std.proofs.Common.{◌≡◌, ℕ, ◌+◌, ◌<◌, ◌++◌, List, [], ◌∷◌, Bool, true, false, cond, length, map, get_or, take, drop, refl, sym, ap, ◌∙◌}
+use Rattle.std.proofs.Common.{◌≡◌, ℕ, ◌+◌, ◌<◌, ◌++◌, List, [], ◌∷◌, Bool, true, false, cond, length, map, get_or, take, drop, refl, sym, ap, ◌∙◌, arith}
 use Rattle.std.specs.List.{AllZip}
 use Rattle.std.proofs.Math.Seq.{take-append_seam, drop-append_seam}
 use Rattle.std.proofs.lemmas.List.{append_assoc, length-append, length-map, map-append, map_push, take_more}
@@ -35,12 +35,12 @@ so_many (Variable (encoded.Int word)) = word.many
 so_many (Variable (encoded.Time word)) = word.many
 so_many (Block (block.SR q1)) = refl
 so_many (Block (block.RS q1)) = refl
-so_many (Block (block.CTU c)) = ap (λ n. n + 1 + 1) c.count.many
-so_many (Block (block.CTD c)) = ap (λ n. n + 1 + 1) c.count.many
-so_many (Block (block.CTUD c)) = ap (λ n. n + 1 + 1 + 1 + 1) c.count.many
-so_many (Block (block.TP t)) = ap (λ n. n + 1 + 1) t.elapsed.many
-so_many (Block (block.TON t)) = ap (λ n. n + 1 + 1) t.elapsed.many
-so_many (Block (block.TOF t)) = ap (λ n. n + 1 + 1) t.elapsed.many
+so_many (Block (block.CTU c)) = let e = c.count.many in omega (arith, e)
+so_many (Block (block.CTD c)) = let e = c.count.many in omega (arith, e)
+so_many (Block (block.CTUD c)) = let e = c.count.many in omega (arith, e)
+so_many (Block (block.TP t)) = let e = t.elapsed.many in omega (arith, e)
+so_many (Block (block.TON t)) = let e = t.elapsed.many in omega (arith, e)
+so_many (Block (block.TOF t)) = let e = t.elapsed.many in omega (arith, e)
 
 pub like_many : (a b : EncodedSlot) → IsLike a b → length (slot_signals a) ≡ length (slot_signals b)
 like_many a b like = so_many a ∙ ap width_of like ∙ sym (so_many b)
