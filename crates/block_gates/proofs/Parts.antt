@@ -1,5 +1,5 @@
 -- Blocks by their signals.
-use Rattle.std.proofs.Common.{◌≡◌, ℕ, ◌+◌, ◌≤◌, List, [], ◌∷◌, Bool, length, get_or, drop, map, refl, ap, ◌∙◌, arith}
+use Rattle.std.proofs.Common.{◌≡◌, ℕ, ◌≤◌, List, [], ◌∷◌, Bool, length, get_or, drop, map, refl, ap, arith}
 use Rattle.gates.specs.declared.signal.Signal.{Signal}
 use Rattle.gates.specs.Signals.{signal_value}
 use Rattle.block_gates.specs.declared.instance.EncodedInstance.{EncodedInstance}
