@@ -1,6 +1,6 @@
 use Rattle.gate_words.specs.Values.{time_at}
 use Rattle.block_gates.proofs.Stepped.{reset_stepped, set_stepped}
-use Rattle.block_gates.proofs.stepping.EncodedInstance.step.Goals as goal
+use Rattle.block_gates.proofs.instance.EncodedInstance.step.Goals as goal
 
 pub returns-in_ok-on-in-SR-clause-stepped : goal.returns-in_ok-on-in-SR-clause-stepped
 returns-in_ok-on-in-SR-clause-stepped c = rw c.in-SR.is (λ v agrees.
