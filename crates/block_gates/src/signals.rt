@@ -10,13 +10,15 @@ use gates::Signal;
 use std::alloc::AllocError;
 use std_blocks::BlockType;
 
-/// A block is just what the values of its signals say.
+/// A block is just what the values of its signals say, and no others say the same.
 pub fn blocks_are_signals()
     ensures many { (i : InstanceValue) → length (instance_signals i) ≡ signals_of (type_of i) }
     ensures state { (v : ℕ → Bool) (i : InstanceValue)
         → state_at v i ≡ state_of (type_of i) (map (signal_value v) (instance_signals i)) }
     ensures outputs { (v : ℕ → Bool) (i : InstanceValue)
         → outputs_at v i ≡ outputs_of (type_of i) (map (signal_value v) (instance_signals i)) }
+    ensures bits { (v w : ℕ → Bool) (i j : InstanceValue) → type_of i ≡ type_of j → state_at v i ≡ state_at w j
+        → outputs_at v i ≡ outputs_at w j → map (signal_value v) (instance_signals i) ≡ map (signal_value w) (instance_signals j) }
 {}
 
 /// The INT of sixteen signals.
