@@ -1,0 +1,10 @@
+pub mod States
+pub mod Pushing
+pub mod FirstState
+pub mod Parts
+pub mod Made
+pub mod Opened
+pub mod Scanned
+pub mod Results
+pub mod NotOn
+pub mod Never

@@ -1,0 +1,2 @@
+pub mod LadderSystems
+pub mod Steps

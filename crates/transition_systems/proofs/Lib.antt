@@ -1,0 +1,3 @@
+pub mod InputValues
+pub mod Induction
+pub mod ClausesOver
