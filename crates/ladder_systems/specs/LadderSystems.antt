@@ -1,5 +1,5 @@
 -- The system of state bits that a ladder is under a setup.
-use Rattle.std.specs.Prelude.{◌≡◌, ℕ, List, Bool, true, length}
+use Rattle.std.specs.Prelude.{◌≡◌, ◌↔◌, ℕ, List, Bool, true, length}
 use Rattle.gates.specs.Signals.{signal_value}
 use Rattle.gates.specs.Gates.{Agrees}
 use Rattle.power_flow.specs.Meaning.{Moment}
@@ -12,8 +12,8 @@ abbrev pub StandFor : TransitionSystem → ((ℕ → Bool) → Moment) → List 
 StandFor t before bits s = (v : ℕ → Bool) → bits_at v t.state.items ≡ bits → before v ≡ s
 
 -- What the system says of the ladder: its first state stands for what is before the first scan, a row has a bit for each
--- digit, and a step makes the scan with that row; where what is given is TRUE behind it the constraint is, and where the
--- claimed variable is, this one is bad.
+-- digit, and a step makes the scan with that row; the constraint is TRUE where what is given is TRUE behind it, and the
+-- step is bad where the claimed variable is.
 pub record IsSystemOf (u : SetupValue) (place : ℕ) (t : TransitionSystem) : Type 0 where
   pub before : (ℕ → Bool) → Moment
   pub after : (ℕ → Bool) → Moment
@@ -21,5 +21,5 @@ pub record IsSystemOf (u : SetupValue) (place : ℕ) (t : TransitionSystem) : Ty
   pub rows : length t.inputs.items ≡ width u
   pub scan : (v : ℕ → Bool) → Agrees v t.gates → ScansWith u (bits_at v t.inputs.items) (before v) (after v)
   pub goes_on : (v : ℕ → Bool) → Agrees v t.gates → StandFor t before (bits_at v t.next.items) (after v)
-  pub given : (v : ℕ → Bool) → Agrees v t.gates → Meets u (after v) → signal_value v t.constraint ≡ true
-  pub claim : (v : ℕ → Bool) → Agrees v t.gates → IsOn (after v) place → signal_value v t.bad ≡ true
+  pub given : (v : ℕ → Bool) → Agrees v t.gates → (signal_value v t.constraint ≡ true) ↔ Meets u (after v)
+  pub claim : (v : ℕ → Bool) → Agrees v t.gates → (signal_value v t.bad ≡ true) ↔ IsOn (after v) place

@@ -1,42 +1,27 @@
-ghost use Rattle.std.specs.Prelude.{◌≡◌, ◌++◌, [], ◌∷◌, ℕ, Bool, false, IfOk, OnOk};
+ghost use Rattle.std.specs.Prelude.{◌≡◌, ◌++◌, [], ◌∷◌, ℕ, Bool, IfOk, OnOk};
 ghost use Rattle.gates.specs.Gates.{Agrees};
-ghost use Rattle.gates.specs.Signals.{signal_value};
-ghost use Rattle.declared_names.specs.Kinds.{value_first};
-ghost use Rattle.scan_steps.specs.declared.slot.Slot.TheVariants.{Variable};
 ghost use Rattle.scan_steps.specs.First.{slot_first};
 ghost use Rattle.scan_gates.specs.Encoded.{slot_at, slots_at};
+ghost use Rattle.scan_gates.specs.States.{AreWords, HasWords};
 ghost use Rattle.text_commands.specs.Restarts.{first_slots};
+ghost use Rattle.ladder_systems.specs.Steps.States.{AreOf, IsOf};
 
-use crate::system_fault::SystemFault;
-use declared_names::{Declarations, Declared, Kind};
-use gates::{Gates, Signal};
-use scan_gates::{EncodedInstance, EncodedSlot, EncodedValue};
+use declared_names::{Declarations, Declared};
+use gates::Gates;
+use scan_gates::{EncodedInstance, EncodedSlot, first_value};
 use std::alloc::{AllocError, Global};
 
-/// A variable of this kind before the first scan.
-fn first_variable(off: Signal, kind: Kind) -> EncodedSlot
-    ensures { (v : ℕ → Bool) → signal_value v off ≡ false → slot_at v result ≡ Variable (value_first kind) }
-{
-    EncodedSlot::Variable(match kind {
-        Kind::Bool => EncodedValue::Bool(off),
-        Kind::Int => EncodedValue::Int(0),
-        Kind::Time => EncodedValue::Time(0),
-    })
-}
-
 /// What stands at a name that is declared so before the first scan.
-fn first_slot(gates: &Gates, declared: Declared) -> Result<EncodedSlot, SystemFault>
-    ensures { IfOk result (λ s. (v : ℕ → Bool) → Agrees v gates.now → slot_at v s ≡ slot_first declared) }
+fn first_slot(gates: &Gates, declared: Declared) -> EncodedSlot
+    ensures first { (v : ℕ → Bool) → Agrees v gates.now → slot_at v result ≡ slot_first declared }
+    ensures of { IsOf declared result }
+    ensures words { HasWords result }
 {
-    let off = gates.constant(false);
     match declared {
         Declared::Input(kind) | Declared::Output(kind) | Declared::Local(kind) => {
-            Ok(first_variable(off, kind))
+            EncodedSlot::Variable(first_value(gates, kind))
         }
-        Declared::Instance(block) => match EncodedInstance::initial(block, off) {
-            Some(instance) => Ok(EncodedSlot::Block(instance)),
-            None => Err(SystemFault::NoLatch(block)),
-        },
+        Declared::Instance(block) => EncodedSlot::Block(EncodedInstance::initial(gates, block)),
     }
 }
 
@@ -53,13 +38,15 @@ pub(crate) fn first_slots(
     alloc: Global,
     gates: &Gates,
     declarations: &Declarations,
-) -> Result<Vec<EncodedSlot>, SystemFault>
-    ensures { IfOk result (λ slots. (v : ℕ → Bool) → Agrees v gates.now → slots_at v slots.items ≡ first_slots declarations.now) }
+) -> Result<Vec<EncodedSlot>, AllocError>
+    ensures first { IfOk result (λ slots. (v : ℕ → Bool) → Agrees v gates.now → slots_at v slots.items ≡ first_slots declarations.now) }
+    ensures of { IfOk result (λ slots. AreOf declarations.now slots.items) }
+    ensures words { IfOk result (λ slots. AreWords slots.items) }
 {
     let mut slots = Vec::new(alloc);
     for place in 0..declarations.len() {
         if let Some(declared) = declarations.declared_at(place) {
-            let slot = first_slot(gates, declared)?;
+            let slot = first_slot(gates, declared);
             push_slot(slot, &mut slots)?;
         }
     }

@@ -1,32 +1,26 @@
-ghost use Rattle.std.specs.Prelude.{◌≡◌, ℕ, Bool, false, IfOk, IfSome, OnOk, length, replicate, slice_set, if◌then◌else◌};
+ghost use Rattle.std.specs.Prelude.{◌≡◌, ℕ, Bool, List, false, IfOk, OnOk, length, replicate, if◌then◌else◌};
 ghost use Rattle.gates.specs.Gates.{IsBuilt};
 ghost use Rattle.gates.specs.Signals.{signal_value};
-ghost use Rattle.scan_gates.specs.Encoded.{bits_at, slot_at, slots_at, value_at};
+ghost use Rattle.declared_names.specs.declared.declarations.Declaration.{Declaration};
+ghost use Rattle.scan_gates.specs.Encoded.{bits_at, slots_at};
+ghost use Rattle.scan_gates.specs.States.{AreLike, AreWords};
 ghost use Rattle.scan_steps.specs.Slots.{variable_at};
-ghost use Rattle.scan_steps.specs.declared.slot.Slot.TheVariants.{Variable};
 ghost use Rattle.text_commands.specs.Restarts.{restarted};
 ghost use Rattle.text_commands.specs.Series.{set_value};
+ghost use Rattle.ladder_systems.specs.Steps.States.{AreOf};
 
 use crate::first::push_slot;
-use crate::system_fault::SystemFault;
+use crate::variables::put_variable;
 use gates::{Gates, Signal};
-use scan_gates::{EncodedInstance, EncodedSlot, EncodedValue};
+use scan_gates::{EncodedSlot, chosen};
 use std::alloc::{AllocError, Global};
-
-/// A variable with this value stands at a place, unless that is beyond the end.
-pub(crate) fn put_variable(place: usize, value: EncodedValue, slots: &mut [EncodedSlot])
-    ensures { (v : ℕ → Bool) → slots_at v slots.new
-        ≡ slice_set (slots_at v slots.old) place (Variable (value_at v value)) }
-{
-    if place < slots.len() {
-        slots[place] = EncodedSlot::Variable(value);
-    }
-}
 
 /// What stands there is kept where it is a variable.
 fn keep_variable(place: usize, slots: &[EncodedSlot], fresh: &mut [EncodedSlot])
-    ensures { (v : ℕ → Bool) → slots_at v fresh.new
+    ensures slots { (v : ℕ → Bool) → slots_at v fresh.new
         ≡ set_value (slots_at v fresh.old) place (variable_at (slots_at v slots.now) place) }
+    ensures of { (ds : List Declaration) → AreOf ds slots.now → AreOf ds fresh.old → AreOf ds fresh.new }
+    ensures words { AreWords slots.now → AreWords fresh.old → AreWords fresh.new }
 {
     if let Some(EncodedSlot::Variable(value)) = slots.get(place) {
         put_variable(place, *value, fresh);
@@ -35,53 +29,12 @@ fn keep_variable(place: usize, slots: &[EncodedSlot], fresh: &mut [EncodedSlot])
 
 /// The variables at these places are kept.
 fn keep_variables(kept: &[usize], slots: &[EncodedSlot], fresh: &mut [EncodedSlot])
-    ensures { (v : ℕ → Bool) → slots_at v fresh.new ≡ restarted kept.now (slots_at v fresh.old) (slots_at v slots.now) }
+    ensures slots { (v : ℕ → Bool) → slots_at v fresh.new ≡ restarted kept.now (slots_at v fresh.old) (slots_at v slots.now) }
+    ensures of { (ds : List Declaration) → AreOf ds slots.now → AreOf ds fresh.old → AreOf ds fresh.new }
+    ensures words { AreWords slots.now → AreWords fresh.old → AreWords fresh.new }
 {
     for place in kept {
         keep_variable(*place, slots, fresh);
-    }
-}
-
-/// The one where a condition is TRUE, and the other where it isn't; none if a signal alone can't be both.
-fn choose(
-    gates: &mut Gates,
-    condition: Signal,
-    first: EncodedSlot,
-    second: EncodedSlot,
-) -> Result<Option<EncodedSlot>, AllocError>
-    ensures { IfOk result (λ chosen. IsBuilt gates.old gates.new (λ v. IfSome chosen (λ s.
-        slot_at v s ≡ (if signal_value v condition then slot_at v first else slot_at v second)))) }
-{
-    match first {
-        EncodedSlot::Variable(EncodedValue::Bool(one)) => match second {
-            EncodedSlot::Variable(EncodedValue::Bool(other)) => {
-                let bit = gates.if_then_else(condition, one, other)?;
-                Ok(Some(EncodedSlot::Variable(EncodedValue::Bool(bit))))
-            }
-            _ => Ok(None),
-        },
-        EncodedSlot::Block(EncodedInstance::SR(one)) => match second {
-            EncodedSlot::Block(EncodedInstance::SR(other)) => {
-                let bit = gates.if_then_else(condition, one, other)?;
-                Ok(Some(EncodedSlot::Block(EncodedInstance::SR(bit))))
-            }
-            _ => Ok(None),
-        },
-        EncodedSlot::Block(EncodedInstance::RS(one)) => match second {
-            EncodedSlot::Block(EncodedInstance::RS(other)) => {
-                let bit = gates.if_then_else(condition, one, other)?;
-                Ok(Some(EncodedSlot::Block(EncodedInstance::RS(bit))))
-            }
-            _ => Ok(None),
-        },
-        EncodedSlot::Variable(EncodedValue::Int(one)) => match second {
-            EncodedSlot::Variable(EncodedValue::Int(other)) if one == other => Ok(Some(second)),
-            _ => Ok(None),
-        },
-        EncodedSlot::Variable(EncodedValue::Time(one)) => match second {
-            EncodedSlot::Variable(EncodedValue::Time(other)) if one == other => Ok(Some(second)),
-            _ => Ok(None),
-        },
     }
 }
 
@@ -92,20 +45,19 @@ fn choose_slots(
     condition: Signal,
     fresh: &[EncodedSlot],
     slots: &[EncodedSlot],
-) -> Result<Vec<EncodedSlot>, SystemFault>
-    requires { length fresh.now ≡ length slots.now }
-    ensures chosen { IfOk result (λ chosen. IsBuilt gates.old gates.new (λ v. slots_at v chosen.items
+) -> Result<Vec<EncodedSlot>, AllocError>
+    requires { AreLike fresh.now slots.now }
+    ensures slots { IfOk result (λ made. IsBuilt gates.old gates.new (λ v. slots_at v made.items
         ≡ (if signal_value v condition then slots_at v fresh.now else slots_at v slots.now))) }
-    ensures long { IfOk result (λ chosen. length chosen.items ≡ length slots.now) }
+    ensures like { IfOk result (λ made. AreLike fresh.now made.items) }
+    ensures words { IfOk result (λ made. AreWords made.items) }
 {
-    let mut chosen = Vec::new(alloc);
+    let mut made = Vec::new(alloc);
     for place in 0..slots.len() {
-        match choose(gates, condition, fresh[place], slots[place])? {
-            Some(slot) => push_slot(slot, &mut chosen)?,
-            None => return Err(SystemFault::Number(place)),
-        }
+        let slot = chosen(alloc, gates, condition, &fresh[place], &slots[place])?;
+        push_slot(slot, &mut made)?;
     }
-    Ok(chosen)
+    Ok(made)
 }
 
 /// Each memory, OFF where a condition is TRUE.
@@ -136,7 +88,7 @@ fn restarted_slots(
 ) -> Result<Vec<EncodedSlot>, AllocError>
     ensures slots { IfOk result (λ fresh. (v : ℕ → Bool)
         → slots_at v fresh.items ≡ restarted kept.now (slots_at v first.now) (slots_at v slots.now)) }
-    ensures long { IfOk result (λ fresh. length fresh.items ≡ length first.now) }
+    ensures of { IfOk result (λ fresh. (ds : List Declaration) → AreOf ds slots.now → AreOf ds first.now → AreOf ds fresh.items) }
 {
     let mut fresh = Vec::from_slice(alloc, first)?;
     keep_variables(kept, slots, &mut fresh);
@@ -153,9 +105,10 @@ pub(crate) fn restart_where(
     first: &[EncodedSlot],
     slots: &mut Vec<EncodedSlot>,
     memories: &mut Vec<Signal>,
-) -> Result<(), SystemFault>
-    requires { length first.now ≡ length slots.old.items }
-    ensures slots { OnOk result (length slots.new.items ≡ length slots.old.items) }
+) -> Result<(), AllocError>
+    requires { (ds : List Declaration) × AreOf ds first.now × AreOf ds slots.old.items }
+    ensures of { OnOk result ((ds : List Declaration) → AreOf ds first.now → AreOf ds slots.old.items → AreOf ds slots.new.items) }
+    ensures words { OnOk result (AreWords slots.new.items) }
     ensures memories { OnOk result (length memories.new.items ≡ length memories.old.items) }
     ensures state { OnOk result (IsBuilt gates.old gates.new (λ v.
         (slots_at v slots.new.items ≡ (if signal_value v restarts

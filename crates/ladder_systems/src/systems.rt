@@ -1,4 +1,4 @@
-ghost use Rattle.std.specs.Prelude.{◌≡◌, All, IfOk, OnOk, Some, length, true};
+ghost use Rattle.std.specs.Prelude.{◌≡◌, ◌↔◌, All, IfOk, OnOk, Some, length, true};
 ghost use Rattle.std_blocks.specs.declared.value.Value.TheVariants as value;
 ghost use Rattle.gates.specs.Gates.{IsBuilt};
 ghost use Rattle.gates.specs.Signals.{signal_value};
@@ -9,9 +9,8 @@ ghost use Rattle.ladder_systems.specs.LadderSystems.{IsSystemOf};
 use crate::scanning::scan_signals;
 use crate::state_bits::bits_of;
 use crate::state_signals::state_signals;
-use crate::system_fault::SystemFault;
 use gates::{Gates, Signal};
-use scan_gates::{EncodedSlot, variable_on};
+use scan_gates::{EncodedSlot, states_are_signals, variable_on};
 use std::alloc::{AllocError, Global};
 use transition_systems::TransitionSystem;
 use verifying::Setup;
@@ -40,8 +39,8 @@ fn all_on(
     slots: &[EncodedSlot],
     places: &[usize],
 ) -> Result<Signal, AllocError>
-    ensures { IfOk result (λ s. IsBuilt gates.old gates.new (λ v.
-        All (λ place. variable_at (slots_at v slots.now) place ≡ Some (value.Bool true)) places.now → signal_value v s ≡ true)) }
+    ensures { IfOk result (λ s. IsBuilt gates.old gates.new (λ v. (signal_value v s ≡ true)
+        ↔ All (λ place. variable_at (slots_at v slots.now) place ≡ Some (value.Bool true)) places.now)) }
 {
     let mut on = gates.constant(true);
     for place in places {
@@ -51,15 +50,15 @@ fn all_on(
     Ok(on)
 }
 
-/// The system that the ladder of a setup is, where it is bad that the variable at a place is TRUE after a scan. Counters
-/// and timers are refused, and numbers that change.
+/// The system that the ladder of a setup is, where it is bad that the variable at a place is TRUE after a scan.
 pub fn system_of(
     alloc: Global,
     setup: &Setup,
     place: usize,
-) -> Result<TransitionSystem, SystemFault>
+) -> Result<TransitionSystem, AllocError>
     ensures { IfOk result (IsSystemOf setup.now place) }
 {
+    states_are_signals();
     let mut gates = Gates::new(alloc)?;
     let state = state_signals(alloc, &mut gates, setup.ladder())?;
     let row = row_signals(alloc, &mut gates, &state.bits, setup.width())?;
@@ -69,12 +68,11 @@ pub fn system_of(
     let next = bits_of(alloc, &slots, &memories)?;
     let constraint = all_on(&mut gates, &slots, setup.given())?;
     let bad = variable_on(&gates, &slots, place);
-    let first = vec![in alloc; false; state.bits.len()]?;
     Ok(TransitionSystem {
         gates,
         state: state.bits,
         inputs: row,
-        first,
+        first: state.at_first,
         next,
         constraint,
         bad,

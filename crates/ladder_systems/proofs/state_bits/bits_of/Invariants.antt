@@ -1,6 +1,0 @@
-use Rattle.std.proofs.Common.{◌≡◌, ◌++◌, [], take}
-use Rattle.ladder_systems.specs.Steps.States.{state_bits}
-use Rattle.ladder_systems.proofs.state_bits.bits_of.Given as goal
-
-abbrev pub invariant-loop-slot : goal.invariant-loop-slot
-invariant-loop-slot l = l.bits.items ≡ state_bits (take l.slot-index l.slots) []
