@@ -1,5 +1,6 @@
 ghost use Rattle.std.specs.Prelude.{OnOk};
 ghost use Rattle.transition_systems.specs.Systems.{IsWhole, NeverBad};
+ghost use Rattle.transition_systems.specs.Certificates.{IsInductive};
 
 use crate::certificate::Certificate;
 use crate::certificate_fault::CertificateFault;
@@ -12,13 +13,15 @@ use clauses::are_following;
 use std::alloc::Global;
 
 /// Checks that a certificate shows that the system is never bad: its clauses hold of the first state; where they hold of a
-/// state and the row keeps the constraint, they hold of the next state, and this one isn't bad.
+/// state and the row keeps the constraint, they hold of the next state, and this one isn't bad. A certificate that is refused
+/// may still say what is so.
 pub fn check_certificate(
     alloc: Global,
     system: &TransitionSystem,
     certificate: &Certificate,
 ) -> Result<(), CertificateFault>
     ensures whole { OnOk result (IsWhole system.now) }
+    ensures inductive { OnOk result (IsInductive system.now certificate.now.clauses.items) }
     ensures never { OnOk result (NeverBad system.now) }
 {
     if !is_whole(system) {

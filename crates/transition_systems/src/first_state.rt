@@ -1,7 +1,7 @@
 ghost use Rattle.std.specs.Prelude.{◌≡◌, ◌↔◌, IsTrue};
 ghost use Rattle.clauses.specs.Clauses.{clause_value, literal_value};
 ghost use Rattle.gates.specs.Signals.{bit_of};
-ghost use Rattle.transition_systems.specs.Steps.Inductive.{HoldOf};
+ghost use Rattle.transition_systems.specs.Certificates.{HoldOf};
 
 use clauses::Literal;
 

@@ -1,7 +1,8 @@
 ghost use Rattle.std.specs.Prelude.{ℕ, Bool, IfOk, OnOk};
 ghost use Rattle.clauses.specs.Clauses.{AreTrue};
 ghost use Rattle.transition_systems.specs.Systems.{bits_at};
-ghost use Rattle.transition_systems.specs.Steps.Inductive.{HoldOf, IsFormula};
+ghost use Rattle.transition_systems.specs.Certificates.{HoldOf};
+ghost use Rattle.transition_systems.specs.Steps.Inductive.{IsFormula};
 
 use crate::certificate_fault::CertificateFault;
 use crate::over_signals::{clause_of, clause_over, put_clause};

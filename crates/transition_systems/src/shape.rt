@@ -1,6 +1,6 @@
 ghost use Rattle.std.specs.Prelude.{IsTrue};
 ghost use Rattle.transition_systems.specs.Systems.{IsWhole};
-ghost use Rattle.transition_systems.specs.Steps.Inputs.{AreInputs, IsInput};
+ghost use Rattle.transition_systems.specs.Steps.Inputs.{AreInputs, IsInput, IsLaidOut};
 
 use crate::system::TransitionSystem;
 use gates::{Gate, Signal};
@@ -32,7 +32,8 @@ fn are_inputs(gates: &[Gate], from: usize, signals: &[Signal]) -> bool
 
 /// Whether the parts of a system fit together, so that it goes on from each state under each row.
 pub fn is_whole(system: &TransitionSystem) -> bool
-    ensures { IsTrue result → IsWhole system.now }
+    ensures whole { IsTrue result → IsWhole system.now }
+    ensures laid_out { IsTrue result → IsLaidOut system.now }
 {
     let count = system.state.len();
     if system.first.len() != count {

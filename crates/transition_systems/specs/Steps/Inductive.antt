@@ -1,18 +1,15 @@
--- Clauses that hold of each state.
+-- What a formula, and steps from it, tell of a step of a system.
 use Rattle.std.specs.Prelude.{◌≡◌, ℕ, List, Bool, true, false}
 use Rattle.std.specs.Global.{Vec}
 use Rattle.clauses.specs.declared.literal.Literal.{Literal}
 use Rattle.clauses.specs.declared.step.Step.{Step}
 use Rattle.clauses.specs.Clauses.{AreFollowing, AreTrue}
 use Rattle.gates.specs.declared.signal.Signal.{Signal}
-use Rattle.gates.specs.Signals.{bit_of, signal_value}
+use Rattle.gates.specs.Signals.{signal_value}
 use Rattle.gates.specs.Gates.{Agrees}
 use Rattle.transition_systems.specs.declared.system.TransitionSystem.{TransitionSystem}
 use Rattle.transition_systems.specs.Systems.{bits_at}
-
--- the clauses, each literal a bit of a state, hold of a state
-abbrev pub HoldOf : List (Vec Literal) → List Bool → Type 0
-HoldOf clauses state = AreTrue (bit_of state) clauses
+use Rattle.transition_systems.specs.Certificates.{HoldOf}
 
 -- the formula holds of a step from a state of which the clauses hold, under a row that keeps the constraint
 abbrev pub IsFormula : TransitionSystem → List (Vec Literal) → List (Vec Literal) → Type 0

@@ -5,7 +5,7 @@ use Rattle.std.specs.Global.{Vec}
 use Rattle.clauses.specs.declared.literal.Literal.{Literal}
 use Rattle.clauses.specs.Clauses.{clause_value}
 use Rattle.gates.specs.Signals.{bit_of}
-use Rattle.transition_systems.specs.Steps.Inductive.{HoldOf}
+use Rattle.transition_systems.specs.Certificates.{HoldOf}
 use Rattle.transition_systems.proofs.first_state.hold_of.Goals as goal
 
 pub loop-clause-preserved : goal.loop-clause-preserved

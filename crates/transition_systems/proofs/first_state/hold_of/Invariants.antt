@@ -1,5 +1,5 @@
 use Rattle.std.proofs.Common.{take}
-use Rattle.transition_systems.specs.Steps.Inductive.{HoldOf}
+use Rattle.transition_systems.specs.Certificates.{HoldOf}
 use Rattle.transition_systems.proofs.first_state.hold_of.Given as goal
 
 abbrev pub invariant-loop-clause : goal.invariant-loop-clause
