@@ -2,7 +2,6 @@ ghost use Rattle.std.specs.Prelude.{◌≡◌, ◌++◌, [], ◌∷◌, ℕ, Boo
 ghost use Rattle.gates.specs.Gates.{Agrees};
 ghost use Rattle.scan_steps.specs.First.{slot_first};
 ghost use Rattle.scan_gates.specs.Encoded.{slot_at, slots_at};
-ghost use Rattle.scan_gates.specs.States.{AreWords, HasWords};
 ghost use Rattle.text_commands.specs.Restarts.{first_slots};
 ghost use Rattle.ladder_systems.specs.Steps.States.{AreOf, IsOf};
 
@@ -15,7 +14,6 @@ use std::alloc::{AllocError, Global};
 fn first_slot(gates: &Gates, declared: Declared) -> EncodedSlot
     ensures first { (v : ℕ → Bool) → Agrees v gates.now → slot_at v result ≡ slot_first declared }
     ensures of { IsOf declared result }
-    ensures words { HasWords result }
 {
     match declared {
         Declared::Input(kind) | Declared::Output(kind) | Declared::Local(kind) => {
@@ -41,7 +39,6 @@ pub(crate) fn first_slots(
 ) -> Result<Vec<EncodedSlot>, AllocError>
     ensures first { IfOk result (λ slots. (v : ℕ → Bool) → Agrees v gates.now → slots_at v slots.items ≡ first_slots declarations.now) }
     ensures of { IfOk result (λ slots. AreOf declarations.now slots.items) }
-    ensures words { IfOk result (λ slots. AreWords slots.items) }
 {
     let mut slots = Vec::new(alloc);
     for place in 0..declarations.len() {

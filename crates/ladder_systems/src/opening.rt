@@ -2,7 +2,6 @@ ghost use Rattle.std.specs.Prelude.{◌≡◌, ◌≤◌, ℕ, Bool, List, All, 
 ghost use Rattle.declared_names.specs.declared.declarations.Declaration.{Declaration};
 ghost use Rattle.gates.specs.Gates.{Agrees, IsBuilt};
 ghost use Rattle.scan_gates.specs.Encoded.{bits_at, slots_at};
-ghost use Rattle.scan_gates.specs.States.{AreWords};
 ghost use Rattle.scan_steps.specs.declared.slot.Slot.TheVariants.{Variable};
 ghost use Rattle.power_flow.specs.Meaning.{moment};
 ghost use Rattle.text_commands.specs.Restarts.{first_slots};
@@ -23,7 +22,6 @@ fn assign_row(free: &[usize], row: &[Signal], slots: &mut [EncodedSlot])
     ensures slots { (v : ℕ → Bool) → slots_at v slots.new
         ≡ assigned (settings_of free.now (bits_at v row.now)) (slots_at v slots.old) }
     ensures of { (ds : List Declaration) → All (IsBoolAt ds) free.now → AreOf ds slots.old → AreOf ds slots.new }
-    ensures words { AreWords slots.old → AreWords slots.new }
 {
     for digit in 0..free.len() {
         put_variable(free[digit], EncodedValue::Bool(row[digit]), slots);
@@ -40,7 +38,6 @@ fn assign(
     ensures slots { OnOk result ((v : ℕ → Bool) → Agrees v gates.now
         → slots_at v slots.new ≡ slice_set (slots_at v slots.old) setting.now.place (Variable setting.now.value)) }
     ensures of { OnOk result ((ds : List Declaration) → CanHold ds setting.now → AreOf ds slots.old → AreOf ds slots.new) }
-    ensures words { OnOk result (AreWords slots.old → AreWords slots.new) }
 {
     let value = constant_value(alloc, gates, setting.value)?;
     put_variable(setting.place, value, slots);
@@ -56,7 +53,6 @@ fn assign_held(
 ) -> Result<(), AllocError>
     ensures slots { OnOk result ((v : ℕ → Bool) → Agrees v gates.now → slots_at v slots.new ≡ assigned held.now (slots_at v slots.old)) }
     ensures of { OnOk result ((ds : List Declaration) → All (CanHold ds) held.now → AreOf ds slots.old → AreOf ds slots.new) }
-    ensures words { OnOk result (AreWords slots.old → AreWords slots.new) }
 {
     for setting in held {
         assign(alloc, gates, setting, slots)?;
@@ -103,7 +99,6 @@ fn set_inputs(
     ensures slots { OnOk result ((v : ℕ → Bool) → Agrees v gates.now
         → slots_at v slots.new ≡ before_scan setup.now (bits_at v row.now) (slots_at v slots.old)) }
     ensures of { OnOk result (AreOf setup.now.ladder.declarations slots.old → AreOf setup.now.ladder.declarations slots.new) }
-    ensures words { OnOk result (AreWords slots.old → AreWords slots.new) }
 {
     assign_row(setup.free(), row, slots);
     assign_held(alloc, gates, setup.held(), slots)

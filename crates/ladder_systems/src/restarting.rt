@@ -3,7 +3,7 @@ ghost use Rattle.gates.specs.Gates.{IsBuilt};
 ghost use Rattle.gates.specs.Signals.{signal_value};
 ghost use Rattle.declared_names.specs.declared.declarations.Declaration.{Declaration};
 ghost use Rattle.scan_gates.specs.Encoded.{bits_at, slots_at};
-ghost use Rattle.scan_gates.specs.States.{AreLike, AreWords};
+ghost use Rattle.scan_gates.specs.States.{AreLike};
 ghost use Rattle.scan_steps.specs.Slots.{variable_at};
 ghost use Rattle.text_commands.specs.Restarts.{restarted};
 ghost use Rattle.text_commands.specs.Series.{set_value};
@@ -20,7 +20,6 @@ fn keep_variable(place: usize, slots: &[EncodedSlot], fresh: &mut [EncodedSlot])
     ensures slots { (v : ℕ → Bool) → slots_at v fresh.new
         ≡ set_value (slots_at v fresh.old) place (variable_at (slots_at v slots.now) place) }
     ensures of { (ds : List Declaration) → AreOf ds slots.now → AreOf ds fresh.old → AreOf ds fresh.new }
-    ensures words { AreWords slots.now → AreWords fresh.old → AreWords fresh.new }
 {
     if let Some(EncodedSlot::Variable(value)) = slots.get(place) {
         put_variable(place, *value, fresh);
@@ -31,7 +30,6 @@ fn keep_variable(place: usize, slots: &[EncodedSlot], fresh: &mut [EncodedSlot])
 fn keep_variables(kept: &[usize], slots: &[EncodedSlot], fresh: &mut [EncodedSlot])
     ensures slots { (v : ℕ → Bool) → slots_at v fresh.new ≡ restarted kept.now (slots_at v fresh.old) (slots_at v slots.now) }
     ensures of { (ds : List Declaration) → AreOf ds slots.now → AreOf ds fresh.old → AreOf ds fresh.new }
-    ensures words { AreWords slots.now → AreWords fresh.old → AreWords fresh.new }
 {
     for place in kept {
         keep_variable(*place, slots, fresh);
@@ -50,7 +48,6 @@ fn choose_slots(
     ensures slots { IfOk result (λ made. IsBuilt gates.old gates.new (λ v. slots_at v made.items
         ≡ (if signal_value v condition then slots_at v fresh.now else slots_at v slots.now))) }
     ensures like { IfOk result (λ made. AreLike fresh.now made.items) }
-    ensures words { IfOk result (λ made. AreWords made.items) }
 {
     let mut made = Vec::new(alloc);
     for place in 0..slots.len() {
@@ -108,7 +105,6 @@ pub(crate) fn restart_where(
 ) -> Result<(), AllocError>
     requires { (ds : List Declaration) × AreOf ds first.now × AreOf ds slots.old.items }
     ensures of { OnOk result ((ds : List Declaration) → AreOf ds first.now → AreOf ds slots.old.items → AreOf ds slots.new.items) }
-    ensures words { OnOk result (AreWords slots.new.items) }
     ensures memories { OnOk result (length memories.new.items ≡ length memories.old.items) }
     ensures state { OnOk result (IsBuilt gates.old gates.new (λ v.
         (slots_at v slots.new.items ≡ (if signal_value v restarts

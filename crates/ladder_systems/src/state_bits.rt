@@ -2,7 +2,7 @@ ghost use Rattle.std.specs.Prelude.{◌≡◌, ◌++◌, ◌∷◌, [], IfOk, On
 ghost use Rattle.gates.specs.Gates.{IsBuilt};
 ghost use Rattle.power_flow.specs.declared.steps.circuit.Circuit.{Circuit as CircuitRecord};
 ghost use Rattle.scan_gates.specs.Encoded.{bits_at};
-ghost use Rattle.scan_gates.specs.States.{AreLike, AreWords, state_signals};
+ghost use Rattle.scan_gates.specs.States.{AreLike, state_signals};
 ghost use Rattle.ladder_systems.specs.Steps.States.{HasMore, none};
 
 use crate::first::push_slot;
@@ -20,7 +20,6 @@ pub(crate) fn with_bits(
 ) -> Result<Vec<EncodedSlot>, AllocError>
     ensures built { OnOk result (IsBuilt gates.old gates.new (λ _. Unit {0})) }
     ensures like { IfOk result (λ made. AreLike slots.now made.items) }
-    ensures words { IfOk result (λ made. AreWords made.items) }
     ensures bits { IfOk result (λ made. bits.new.items ≡ bits.old.items ++ state_signals made.items []) }
 {
     let mut made = Vec::new(alloc);

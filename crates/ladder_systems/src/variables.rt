@@ -4,8 +4,6 @@ ghost use Rattle.declared_names.specs.declared.declarations.Declaration.{Declara
 ghost use Rattle.gates.specs.Gates.{Agrees};
 ghost use Rattle.scan_steps.specs.declared.slot.Slot.TheVariants.{Variable};
 ghost use Rattle.scan_gates.specs.Encoded.{slots_at, value_at};
-ghost use Rattle.scan_gates.specs.States.{AreWords, HasWords};
-ghost use Rattle.scan_gates.specs.declared.encoded.EncodedSlot.TheVariants as encoded_slot;
 ghost use Rattle.text_commands.specs.Series.{IsVariableAt};
 ghost use Rattle.ladder_systems.specs.Steps.States.{AreOf, kind_of_signals};
 
@@ -22,7 +20,6 @@ pub(crate) fn constant_value(
 ) -> Result<EncodedValue, AllocError>
     ensures value { IfOk result (λ x. (v : ℕ → Bool) → Agrees v gates.now → value_at v x ≡ value) }
     ensures kind { IfOk result (λ x. kind_of_signals x ≡ kind_of value) }
-    ensures words { IfOk result (λ x. HasWords (encoded_slot.Variable x)) }
 {
     match value {
         Value::Bool(on) => Ok(EncodedValue::Bool(gates.constant(on))),
@@ -42,7 +39,6 @@ pub(crate) fn put_variable(place: usize, value: EncodedValue, slots: &mut [Encod
     ensures slots { (v : ℕ → Bool) → slots_at v slots.new
         ≡ slice_set (slots_at v slots.old) place (Variable (value_at v value)) }
     ensures of { (ds : List Declaration) → IsVariableAt ds place (kind_of_signals value) → AreOf ds slots.old → AreOf ds slots.new }
-    ensures words { HasWords (encoded_slot.Variable value) → AreWords slots.old → AreWords slots.new }
 {
     if place < slots.len() {
         slots[place] = EncodedSlot::Variable(value);

@@ -5,14 +5,13 @@ use Rattle.power_flow.specs.LadderValue.{LadderValue}
 use Rattle.power_flow.specs.Meaning.{moment}
 use Rattle.scan_gates.specs.declared.encoded.EncodedSlot.{EncodedSlot}
 use Rattle.scan_gates.specs.Encoded.{bits_at, slots_at}
-use Rattle.scan_gates.specs.States.{AreWords, state_signals}
+use Rattle.scan_gates.specs.States.{state_signals}
 use Rattle.text_commands.specs.Restarts.{first_slots, memories_off}
 use Rattle.ladder_systems.specs.Steps.States.{AreOf, none}
 
 -- signals at names, as they are declared, and of memories
 pub record AreStates (l : LadderValue) (slots : List EncodedSlot) (memories : List Signal) : Type 0 where
   pub of : AreOf l.declarations slots
-  pub words : AreWords slots
   pub many : length memories ≡ length (memories_off l.networks)
 
 -- what stands at the names before the first scan, the same with state bits, and memories; and the bits of the first state
