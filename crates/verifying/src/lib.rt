@@ -3,17 +3,17 @@
 #![tactic(auto)]
 
 mod asked;
-mod claim;
 mod claims;
 mod fault_from;
 mod first_scans;
 mod held;
 mod inputs;
-mod kept;
+mod ladder_search;
 mod names;
 mod needed;
 mod premises;
 mod question;
+mod rested;
 mod row;
 mod run_lines;
 mod search;
