@@ -1,5 +1,7 @@
 pub mod Restarting
 pub mod FreeInputs
+pub mod Limiting
+mod Clipping
 pub mod RowNumbers
 pub mod SetInputs
 pub mod Leading
