@@ -1,18 +1,18 @@
 pub mod Restarting
 pub mod FreeInputs
+pub mod Limiting
+mod Clipping
 pub mod RowNumbers
 pub mod SetInputs
 pub mod Leading
-pub mod Growing
-pub mod Tracing
-pub mod Answering
-pub mod Rows
+pub pub mod Tracing
+pub pub mod Rows
 pub mod Slicing
 pub mod Beginning
 pub mod Exploring
 pub mod Counting
-pub mod Chaining
-pub mod Marking
+mod Searching
+pub pub mod Marking
 pub mod Premising
 pub mod Reading
 pub mod Wording
