@@ -1,47 +1,33 @@
-ghost use Rattle.std.specs.Prelude.{◌≡◌, IfOk};
-ghost use Rattle.certified_claims.specs.Certified.{IsSizeOf, named_bits, are_named};
+ghost use Rattle.std.specs.Prelude.{◌≡◌, count_by};
+ghost use Rattle.std.specs.List.{range_with_len};
+ghost use Rattle.certified_claims.specs.Certificates.{IsSizeOf, is_named};
 
 use crate::verdict::CertificateSize;
 use clauses::Literal;
-use std::alloc::{AllocError, Global};
 
-/// Marks the variables of a clause that are among the marks.
-fn mark_clause(clause: &[Literal], marks: &mut [bool]) {
-    for literal in clause {
-        if literal.variable < marks.len() {
-            marks[literal.variable] = true;
-        }
-    }
+/// Whether a clause names a state bit.
+fn is_named(clauses: &[Vec<Literal>], bit: usize) -> bool
+    ensures { result ≡ is_named clauses.now bit }
+{
+    clauses
+        .iter()
+        .any(|clause| clause.iter().any(|literal| literal.variable == bit))
 }
 
-/// A mark for each of so many state bits: whether a clause names it.
-fn named_marks(
-    alloc: Global,
-    clauses: &[Vec<Literal>],
-    bits: usize,
-) -> Result<Vec<bool>, AllocError>
-    ensures { IfOk result (λ marks. marks.items ≡ are_named clauses.now bits) }
+/// How many of so many state bits are named.
+fn count_named(clauses: &[Vec<Literal>], bits: usize) -> usize
+    ensures { result ≡ count_by (is_named clauses.now) (range_with_len 0 bits) }
 {
-    let mut marks = vec![in alloc; false; bits]?;
-    for clause in clauses {
-        mark_clause(clause, &mut marks);
-    }
-    Ok(marks)
+    (0..bits).filter(|bit| is_named(clauses, *bit)).count()
 }
 
 /// How large clauses over so many state bits are.
-pub(crate) fn size_of(
-    alloc: Global,
-    clauses: &[Vec<Literal>],
-    bits: usize,
-) -> Result<CertificateSize, AllocError>
-    ensures { IfOk result (λ size. IsSizeOf clauses.now bits size) }
+pub(crate) fn size_of(clauses: &[Vec<Literal>], bits: usize) -> CertificateSize
+    ensures { IsSizeOf clauses.now bits result }
 {
-    let marks = named_marks(alloc, clauses, bits)?;
-    let named = marks.iter().filter(|mark| **mark).count();
-    Ok(CertificateSize {
+    CertificateSize {
         clauses: clauses.len(),
-        named,
+        named: count_named(clauses, bits),
         bits,
-    })
+    }
 }

@@ -1,9 +1,10 @@
-use std_blocks::BlockType;
+use clauses::Literal;
+use verifying::Row;
 
 /// How large a certificate is.
 #[derive(Clone, Copy, Debug, PartialEq, Eq)]
 pub struct CertificateSize {
-    /// How many clauses hold of each state.
+    /// How many clauses it has.
     pub clauses: usize,
     /// How many state bits these name.
     pub named: usize,
@@ -11,23 +12,21 @@ pub struct CertificateSize {
     pub bits: usize,
 }
 
-/// Why nothing is told of a claim.
-#[derive(Clone, Copy, Debug, PartialEq, Eq)]
-pub enum Reason {
-    /// A block of this type counts or measures time.
-    NoLatch(BlockType),
-    /// The number at this place changes.
-    Number(usize),
-    /// The search met what may be a run of so many scans that sets the variable; nobody made it.
-    Run(usize),
-    /// The search ended before it found anything out.
-    Effort,
+/// A certificate that was checked: clauses over state bits, by their numbers, that hold before the first scan and after each
+/// scan, and its size.
+#[derive(Debug, Drop)]
+pub struct Certified {
+    pub clauses: Vec<Vec<Literal>>,
+    pub size: CertificateSize,
 }
 
-/// What is told of a claim.
-#[derive(Clone, Copy, Debug, PartialEq, Eq)]
+/// What is told of a claim that a variable is never TRUE.
+#[derive(Debug, Drop)]
 pub enum CertifiedVerdict {
-    /// The variable is never TRUE: a certificate of this size shows it.
-    Holds(CertificateSize),
-    Undecided(Reason),
+    /// It never is: this shows it.
+    Holds(Certified),
+    /// It is after a run of these rows. There may be shorter ones.
+    Fails(Vec<Row>),
+    /// The search ended, and found neither.
+    Undecided,
 }

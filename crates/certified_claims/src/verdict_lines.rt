@@ -1,89 +1,86 @@
-ghost use Rattle.std.specs.Prelude.{◌≡◌, OnOk};
+//! The text of verdicts.
+
+ghost use Rattle.std.specs.Prelude.{◌≡◌, ◌++◌, ℕ, List, All, IfOk, OnOk, codes, length, string_bytes};
 ghost use Rattle.text_lines.specs.Growing.{GrowsBy};
-ghost use Rattle.certified_claims.specs.CertifiedLines.{reason_text, size_text, verdict_line};
+ghost use Rattle.text_commands.specs.Rows.{texts};
+ghost use Rattle.certified_claims.specs.CertifiedLines.{AreCertifiedTexts, holds_line, size_text, undecided_line};
+ghost use Rattle.certified_claims.specs.Steps.Adding.{AddsCertifiedText, FitsSetup};
 
-use crate::verdict::{CertificateSize, CertifiedVerdict, Reason};
-use declared_names::Declarations;
-use std::alloc::AllocError;
+use crate::verdict::{CertificateSize, CertifiedVerdict};
+use std::alloc::{AllocError, Global};
 use std::fmt::Write;
-use std_blocks::BlockType;
-use verifying::Setup;
-
-/// `1 scan`, `2 scans`.
-fn push_counted(text: &mut String, count: usize, what: &str) -> Result<(), AllocError> {
-    let ending = if count == 1 { "" } else { "s" };
-    write!(text, "{count} {what}{ending}")
-}
+use verifying::{Setup, push_counted, push_needed_of, push_run};
 
 /// How large a certificate is.
-fn push_size(text: &mut String, size: &CertificateSize) -> Result<(), AllocError>
-    ensures { OnOk result (GrowsBy text.old text.new (size_text size.now)) }
+fn push_size(text: &mut String, size: CertificateSize) -> Result<(), AllocError>
+    ensures { OnOk result (GrowsBy text.old text.new (size_text size)) }
 {
     push_counted(text, size.clauses, "clause")?;
-    write!(text, " over {} of {} bits", size.named, size.bits)
+    write!(text, " over {} of ", size.named)?;
+    push_counted(text, size.bits, "bit")
 }
 
-/// The name of a block's type.
-fn type_name(block: BlockType) -> &'static str {
-    match block {
-        BlockType::SR => "SR",
-        BlockType::RS => "RS",
-        BlockType::CTU => "CTU",
-        BlockType::CTD => "CTD",
-        BlockType::CTUD => "CTUD",
-        BlockType::TP => "TP",
-        BlockType::TON => "TON",
-        BlockType::TOF => "TOF",
-    }
+/// Where the texts of the verdicts go, and what they tell of beside the verdict itself.
+#[derive(Clone, Copy)]
+pub(crate) struct Told<'a> {
+    pub(crate) setup: &'a Setup,
+    pub(crate) file: &'a str,
+    pub(crate) needed: usize,
+    pub(crate) networks: usize,
 }
 
-/// The name that is declared at a place.
-fn name_at(declarations: &Declarations, place: usize) -> &str {
-    match declarations.entry(place) {
-        Some((name, _)) => name,
-        None => "",
-    }
-}
-
-/// Why nothing is told.
-fn push_reason(text: &mut String, setup: &Setup, reason: &Reason) -> Result<(), AllocError>
-    ensures { OnOk result (GrowsBy text.old text.new (reason_text setup.now reason.now)) }
+fn push_holds(text: &mut String, told: &Told<'_>, name: &str, size: CertificateSize) -> Result<(), AllocError>
+    ensures { OnOk result (GrowsBy text.old text.new (holds_line told.now.needed told.now.networks name.now size)) }
 {
-    match reason {
-        Reason::NoLatch(block) => {
-            let name = type_name(*block);
-            write!(text, "there is a {name}")
-        }
-        Reason::Number(place) => {
-            let name = name_at(setup.ladder().declarations(), *place);
-            write!(text, "{name} is a number that changes")
-        }
-        Reason::Run(scans) => {
-            text.push_str("it may be on after ")?;
-            push_counted(text, *scans, "scan")
-        }
-        Reason::Effort => text.push_str("no certificate was found"),
-    }
+    text.push_str("HOLDS ")?;
+    text.push_str(name)?;
+    text.push_str(" is never on: by induction, ")?;
+    push_size(text, size)?;
+    push_needed_of(text, told.needed, told.networks)?;
+    text.push_str("\n")
 }
 
-/// Writes the line of a verdict on the claim of this name.
-pub fn push_verdict_line(
+fn push_undecided(text: &mut String, name: &str) -> Result<(), AllocError>
+    ensures { OnOk result (GrowsBy text.old text.new (undecided_line name.now)) }
+{
+    text.push_str("UNDECIDED ")?;
+    text.push_str(name)?;
+    text.push_str(": by induction, no certificate and no run was found\n")
+}
+
+fn push_verdict(
+    alloc: Global,
     text: &mut String,
-    setup: &Setup,
+    told: &Told<'_>,
     name: &str,
     verdict: &CertifiedVerdict,
 ) -> Result<(), AllocError>
-    ensures { OnOk result (GrowsBy text.old text.new (verdict_line setup.now name.now verdict.now)) }
+    requires { FitsSetup told.now.setup.now verdict.now }
+    ensures { OnOk result (AddsCertifiedText told.now.setup.now told.now.file.now told.now.needed told.now.networks name.now verdict.now
+        (string_bytes text.old) (string_bytes text.new)) }
 {
     match verdict {
-        CertifiedVerdict::Holds(size) => {
-            write!(text, "HOLDS {name} is never on: by induction, ")?;
-            push_size(text, size)?;
-        }
-        CertifiedVerdict::Undecided(reason) => {
-            write!(text, "UNDECIDED {name}: by induction, ")?;
-            push_reason(text, setup, reason)?;
-        }
+        CertifiedVerdict::Holds(certified) => push_holds(text, told, name, certified.size),
+        CertifiedVerdict::Fails(rows) => push_run(alloc, text, told.setup, told.file, name, rows),
+        CertifiedVerdict::Undecided => push_undecided(text, name),
     }
-    text.push_str("\n")
+}
+
+/// The texts of the verdicts, one behind the other, each with the name of its claim.
+pub(crate) fn verdict_texts(
+    alloc: Global,
+    told: &Told<'_>,
+    names: &[&str],
+    verdicts: &[CertifiedVerdict],
+) -> Result<String, AllocError>
+    requires long { length verdicts.now ≡ length names.now }
+    requires fits { All (FitsSetup told.now.setup.now) verdicts.now }
+    ensures { IfOk result (λ text. AreCertifiedTexts told.now.setup.now told.now.file.now told.now.needed told.now.networks
+        (texts names.now) verdicts.now (string_bytes text)) }
+{
+    let mut text = String::new(alloc);
+    for (k, verdict) in verdicts.iter().enumerate() {
+        push_verdict(alloc, &mut text, told, names[k], verdict)?;
+    }
+    Ok(text)
 }

@@ -1,0 +1,187 @@
+//! What the state bits of a ladder are called.
+
+ghost use Rattle.std.specs.Prelude.{◌≡◌, ◌++◌, ◌∷◌, [], IfOk, OnOk, codes, length, map, string_bytes};
+ghost use Rattle.std.specs.List.{flat_map};
+ghost use Rattle.network.specs.Links.{Diagram};
+ghost use Rattle.power_flow.specs.declared.steps.circuit.Circuit.{Circuit as CircuitRecord};
+ghost use Rattle.certified_claims.specs.BitNames.{bit_names, block_bits, declared_bits, digits, memory_name, part, place_text, variable_bits};
+
+use declared_names::{Declared, Kind};
+use drawings::Place;
+use network::Element;
+use power_flow::{Circuit, Ladder};
+use std::alloc::{AllocError, Global};
+use std_blocks::BlockType;
+
+/// Puts a name behind the others.
+fn push_name(name: String, names: &mut Vec<String>) -> Result<(), AllocError>
+    ensures { OnOk result (map (λ n. string_bytes n) names.new.items ≡ map (λ n. string_bytes n) names.old.items ++ string_bytes name ∷ []) }
+{
+    names.push(name)?;
+    Ok(())
+}
+
+/// Adds a part of what has a name.
+fn push_part(alloc: Global, name: &str, of: &str, names: &mut Vec<String>) -> Result<(), AllocError>
+    ensures { OnOk result (map (λ n. string_bytes n) names.new.items ≡ map (λ n. string_bytes n) names.old.items ++ part name.now of.now ∷ []) }
+{
+    let made = format!(in alloc; "{name}.{of}")?;
+    push_name(made, names)
+}
+
+/// Adds so many bits of a number.
+fn push_digits(alloc: Global, name: &str, count: usize, names: &mut Vec<String>) -> Result<(), AllocError>
+    ensures { OnOk result (map (λ n. string_bytes n) names.new.items ≡ map (λ n. string_bytes n) names.old.items ++ digits name.now count) }
+{
+    for digit in 0..count {
+        let made = format!(in alloc; "{name}.{digit}")?;
+        push_name(made, names)?;
+    }
+    Ok(())
+}
+
+/// Adds the bits of a count.
+fn push_count(alloc: Global, name: &str, names: &mut Vec<String>) -> Result<(), AllocError>
+    ensures { OnOk result (map (λ n. string_bytes n) names.new.items
+        ≡ map (λ n. string_bytes n) names.old.items ++ digits (part name.now (codes "CV")) 16) }
+{
+    let count = format!(in alloc; "{name}.CV")?;
+    push_digits(alloc, count.as_str(), 16, names)
+}
+
+/// Adds the bits of a timer.
+fn push_timer(alloc: Global, name: &str, names: &mut Vec<String>) -> Result<(), AllocError>
+    ensures { OnOk result (map (λ n. string_bytes n) names.new.items ≡ map (λ n. string_bytes n) names.old.items
+        ++ (part name.now (codes "IN") ∷ part name.now (codes "Q") ∷ digits (part name.now (codes "ET")) 32)) }
+{
+    push_part(alloc, name, "IN", names)?;
+    push_part(alloc, name, "Q", names)?;
+    let elapsed = format!(in alloc; "{name}.ET")?;
+    push_digits(alloc, elapsed.as_str(), 32, names)
+}
+
+/// Adds the bits of a counter that counts one way.
+fn push_counter(alloc: Global, name: &str, input: &str, names: &mut Vec<String>) -> Result<(), AllocError>
+    ensures { OnOk result (map (λ n. string_bytes n) names.new.items ≡ map (λ n. string_bytes n) names.old.items
+        ++ (part name.now input.now ∷ part name.now (codes "Q") ∷ digits (part name.now (codes "CV")) 16)) }
+{
+    push_part(alloc, name, input, names)?;
+    push_part(alloc, name, "Q", names)?;
+    push_count(alloc, name, names)
+}
+
+/// Adds the bits of a counter that counts both ways.
+fn push_up_down(alloc: Global, name: &str, names: &mut Vec<String>) -> Result<(), AllocError>
+    ensures { OnOk result (map (λ n. string_bytes n) names.new.items ≡ map (λ n. string_bytes n) names.old.items ++ block_bits name.now BlockType.CTUD) }
+{
+    push_part(alloc, name, "CU", names)?;
+    push_part(alloc, name, "CD", names)?;
+    push_part(alloc, name, "QU", names)?;
+    push_part(alloc, name, "QD", names)?;
+    push_count(alloc, name, names)
+}
+
+/// Adds the bits of a block.
+fn push_block(alloc: Global, name: &str, block: BlockType, names: &mut Vec<String>) -> Result<(), AllocError>
+    ensures { OnOk result (map (λ n. string_bytes n) names.new.items ≡ map (λ n. string_bytes n) names.old.items ++ block_bits name.now block) }
+{
+    match block {
+        BlockType::SR | BlockType::RS => push_part(alloc, name, "Q1", names),
+        BlockType::CTU => push_counter(alloc, name, "CU", names),
+        BlockType::CTD => push_counter(alloc, name, "CD", names),
+        BlockType::CTUD => push_up_down(alloc, name, names),
+        BlockType::TP | BlockType::TON | BlockType::TOF => push_timer(alloc, name, names),
+    }
+}
+
+/// Adds the bits of a variable.
+fn push_variable(alloc: Global, name: &str, kind: Kind, names: &mut Vec<String>) -> Result<(), AllocError>
+    ensures { OnOk result (map (λ n. string_bytes n) names.new.items ≡ map (λ n. string_bytes n) names.old.items ++ variable_bits name.now kind) }
+{
+    match kind {
+        Kind::Bool => {
+            let made = String::from_str(alloc, name)?;
+            push_name(made, names)
+        }
+        Kind::Int => push_digits(alloc, name, 16, names),
+        Kind::Time => push_digits(alloc, name, 32, names),
+    }
+}
+
+/// Adds the bits of what is declared.
+fn push_declared(alloc: Global, name: &str, declared: Declared, names: &mut Vec<String>) -> Result<(), AllocError>
+    ensures { OnOk result (map (λ n. string_bytes n) names.new.items ≡ map (λ n. string_bytes n) names.old.items ++ declared_bits name.now declared) }
+{
+    match declared {
+        Declared::Input(kind) | Declared::Output(kind) | Declared::Local(kind) => {
+            push_variable(alloc, name, kind, names)
+        }
+        Declared::Instance(block) => push_block(alloc, name, block, names),
+    }
+}
+
+/// A place, by its row and its column.
+fn place_text(alloc: Global, at: Place) -> Result<String, AllocError>
+    ensures { IfOk result (λ text. string_bytes text ≡ place_text at) }
+{
+    format!(in alloc; "{}:{}", at.row, at.column)
+}
+
+/// A name at a place.
+fn named_at(alloc: Global, name: &str, at: Place) -> Result<String, AllocError>
+    ensures { IfOk result (λ text. string_bytes text ≡ name.now ++ codes " at " ++ place_text at) }
+{
+    let place = place_text(alloc, at)?;
+    format!(in alloc; "{name} at {place}")
+}
+
+/// The name of the memory of an element.
+fn memory_name(alloc: Global, element: &Element) -> Result<String, AllocError>
+    ensures { IfOk result (λ name. string_bytes name ≡ memory_name element.now) }
+{
+    let at = element.first_place();
+    match element {
+        Element::Contact(contact) => named_at(alloc, contact.name.as_str(), at),
+        Element::Coil(coil) => named_at(alloc, coil.name.as_str(), at),
+        Element::Wire(_) | Element::Join(_) | Element::Upright(_) | Element::Box(_) => {
+            place_text(alloc, at)
+        }
+    }
+}
+
+/// Adds the names of the memories of a network.
+fn push_memories(alloc: Global, elements: &[Element], names: &mut Vec<String>) -> Result<(), AllocError>
+    ensures { OnOk result (map (λ n. string_bytes n) names.new.items ≡ map (λ n. string_bytes n) names.old.items ++ map memory_name elements.now) }
+{
+    for element in elements {
+        let made = memory_name(alloc, element)?;
+        push_name(made, names)?;
+    }
+    Ok(())
+}
+
+/// Adds the names of the memories of all networks.
+fn push_circuits(alloc: Global, circuits: &[Circuit], names: &mut Vec<String>) -> Result<(), AllocError>
+    ensures { OnOk result (map (λ n. string_bytes n) names.new.items ≡ map (λ n. string_bytes n) names.old.items
+        ++ flat_map (λ (c : CircuitRecord). map memory_name c.elements.items) circuits.now) }
+{
+    for circuit in circuits {
+        push_memories(alloc, &circuit.elements, names)?;
+    }
+    Ok(())
+}
+
+/// What the state bits of a ladder are called, in their order.
+pub(crate) fn bit_names(alloc: Global, ladder: &Ladder) -> Result<Vec<String>, AllocError>
+    ensures { IfOk result (λ names. map (λ n. string_bytes n) names.items ≡ bit_names ladder.now.declarations ladder.now.networks) }
+{
+    let declarations = ladder.declarations();
+    let mut names = Vec::new(alloc);
+    for place in 0..declarations.len() {
+        if let Some((name, declared)) = declarations.entry(place) {
+            push_declared(alloc, name, declared, &mut names)?;
+        }
+    }
+    push_circuits(alloc, ladder.circuits(), &mut names)?;
+    Ok(names)
+}
