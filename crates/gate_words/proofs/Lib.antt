@@ -2,3 +2,4 @@ pub mod LowValues
 pub mod Built
 pub mod BitLaws
 pub mod WordLaws
+pub mod Fixed

@@ -5,7 +5,7 @@ use Rattle.gates.specs.declared.signal.Signal.{Signal}
 use Rattle.gates.specs.Signals.{signal_value}
 use Rattle.scan_steps.specs.Conducting.{bit_at}
 use Rattle.scan_steps.specs.declared.slot.Instance.{Instance}
-use Rattle.scan_gates.specs.declared.encoded.EncodedInstance.{EncodedInstance}
+use Rattle.block_gates.specs.declared.instance.EncodedInstance.{EncodedInstance}
 use Rattle.scan_gates.specs.Encoded.{bits_at, instance_at, instances_at}
 
 -- there is a value for each signal

@@ -1,6 +1,6 @@
 -- What networks leave, by their steps, one network after the other. What is known of a network by its steps, and that it
 -- keeps kinds, is handed in: `power_flow` promises both.
-use Rattle.std.proofs.Common.{◌≡◌, ℕ, suc, ◌+◌, List, [], ◌∷◌, ◌++◌, Any, Bool, length, map, sum_by, take, drop, refl, sym, ap, ◌∙◌, subst, arith}
+use Rattle.std.proofs.Common.{◌≡◌, ℕ, suc, ◌+◌, List, [], ◌∷◌, ◌++◌, Bool, length, map, sum_by, take, drop, refl, sym, ap, ◌∙◌, subst, arith}
 use Rattle.std.specs.List.{AllByRecursion}
 use Rattle.std.proofs.lemmas.List.{drop-map, map-append, take-map}
 use Rattle.std.proofs.lemmas.List.Sums.{sum_by-cons}
@@ -92,11 +92,3 @@ elements_counted rails (c ∷ circuits) =
 pub shapes : (rows links results : ℕ) (circuits : List Circuit) → AllByRecursion (HasRoom rows links results) circuits → AllByRecursion HasShape circuits
 shapes rows links results [] all = tt
 shapes rows links results (c ∷ circuits) all = (all.0.shape, shapes rows links results circuits all.1)
-
--- what holds of the first holds of one
-pub any_first : {X : Type 0} (P : X → Type 0) (xs rest : List X) (x : X) → xs ≡ x ∷ rest → P x → Any P xs
-any_first P xs rest x is h = rw is (0, x, omega arith, refl, h)
-
--- what holds of one of the others holds of one
-pub any_rest : {X : Type 0} (P : X → Type 0) (xs rest : List X) (x : X) → xs ≡ x ∷ rest → Any P rest → Any P xs
-any_rest P xs rest x is (k, y, lt, at, h) = rw is (suc k, y, omega (arith, lt), at, h)

@@ -10,7 +10,7 @@ ghost use Rattle.ladder_systems.specs.Steps.LadderStates.{AreStates};
 use crate::opening::open;
 use gates::{Gates, Signal};
 use ladder_gates::encode_scan;
-use scan_gates::{EncodedSlot, TimeWord, kinds_are_shapes};
+use scan_gates::{EncodedSlot, TimeWord};
 use std::alloc::{AllocError, Global};
 use verifying::Setup;
 
@@ -33,7 +33,6 @@ pub(crate) fn scan_signals(
         (moment (slots_at v slots.old.items) (bits_at v memories.old.items))
         (moment (slots_at v slots.new.items) (bits_at v memories.new.items)))) }
 {
-    kinds_are_shapes();
     open(alloc, gates, setup, row, first, slots, memories)?;
     let dt = TimeWord::constant(alloc, gates, setup.dt())?;
     encode_scan(alloc, gates, setup.ladder(), &dt, slots, memories)

@@ -6,7 +6,7 @@ use Rattle.std.proofs.lemmas.Option.{slice_get-map, get_or_from_slice_get}
 use Rattle.scan_steps.specs.declared.slot.Slot.TheVariants as slot
 use Rattle.scan_steps.specs.Steps.Storing.{of_same_kind, with_value, with_block, value_put, block_put}
 use Rattle.scan_gates.specs.declared.encoded.EncodedValue.{EncodedValue}
-use Rattle.scan_gates.specs.declared.encoded.EncodedInstance.{EncodedInstance}
+use Rattle.block_gates.specs.declared.instance.EncodedInstance.{EncodedInstance}
 use Rattle.scan_gates.specs.declared.encoded.EncodedSlot.{EncodedSlot}
 use Rattle.scan_gates.specs.declared.encoded.EncodedSlot.TheVariants.{Variable, Block}
 use Rattle.scan_gates.specs.Encoded.{value_at, instance_at, slot_at, slots_at}

@@ -1,27 +1,21 @@
-ghost use Rattle.std.specs.Prelude.{◌≡◌, ℕ, Bool, false, MatchOption};
-ghost use Rattle.gates.specs.Signals.{signal_value};
-ghost use Rattle.scan_steps.specs.First.{instance_first};
-ghost use Rattle.scan_gates.specs.Encoded.{IsNoLatch, instance_at};
+ghost use Rattle.std.specs.Prelude.{◌≡◌, ℕ, Bool, IfOk};
+ghost use Rattle.gates.specs.Gates.{Agrees};
+ghost use Rattle.declared_names.specs.Kinds.{value_first};
+ghost use Rattle.scan_gates.specs.Encoded.{value_at};
 
-use gates::Signal;
-use std_blocks::BlockType;
+use block_gates::EncodedInstance;
+use declared_names::Kind;
+use gate_words::{IntWord, TimeWord};
+use gates::{Gates, Signal};
+use std::alloc::{AllocError, Global};
+use std_blocks::Value;
 
-/// A value: that of a BOOL as a signal.
+/// A value.
 #[derive(Clone, Copy, Debug)]
 pub enum EncodedValue {
     Bool(Signal),
-    Int(i16),
-    /// Milliseconds.
-    Time(u32),
-}
-
-/// A block of the drawing: its state and its stored outputs.
-#[derive(Clone, Copy, Debug)]
-pub enum EncodedInstance {
-    /// Q1 of an SR.
-    SR(Signal),
-    /// Q1 of an RS.
-    RS(Signal),
+    Int(IntWord),
+    Time(TimeWord),
 }
 
 /// What stands at a declared name.
@@ -31,16 +25,34 @@ pub enum EncodedSlot {
     Block(EncodedInstance),
 }
 
-impl EncodedInstance {
-    /// A block of this type before its first step, by a signal that is never TRUE; none for a counter or a timer.
-    pub fn initial(block: BlockType, off: Signal) -> Option<EncodedInstance>
-        ensures { MatchOption result (IsNoLatch block)
-            (λ i. (v : ℕ → Bool) → signal_value v off ≡ false → instance_at v i ≡ instance_first block) }
-    {
-        match block {
-            BlockType::SR => Some(EncodedInstance::SR(off)),
-            BlockType::RS => Some(EncodedInstance::RS(off)),
-            _ => None,
+/// The value of a variable of this kind before the first scan.
+pub fn first_value(gates: &Gates, kind: Kind) -> EncodedValue
+    ensures { (v : ℕ → Bool) → Agrees v gates.now → value_at v result ≡ value_first kind }
+{
+    match kind {
+        Kind::Bool => EncodedValue::Bool(gates.constant(false)),
+        Kind::Int => EncodedValue::Int(IntWord::zero(gates)),
+        Kind::Time => EncodedValue::Time(TimeWord::zero(gates)),
+    }
+}
+
+/// This value, whatever the variables are.
+pub fn constant_value(
+    alloc: Global,
+    gates: &Gates,
+    value: Value,
+) -> Result<EncodedValue, AllocError>
+    ensures { IfOk result (λ new. (v : ℕ → Bool) → Agrees v gates.now → value_at v new ≡ value) }
+{
+    match value {
+        Value::Bool(on) => Ok(EncodedValue::Bool(gates.constant(on))),
+        Value::Int(number) => {
+            let word = IntWord::constant(alloc, gates, number)?;
+            Ok(EncodedValue::Int(word))
+        }
+        Value::Time(time) => {
+            let word = TimeWord::constant(alloc, gates, time)?;
+            Ok(EncodedValue::Time(word))
         }
     }
 }

@@ -1,38 +1,31 @@
-ghost use Rattle.std.specs.Prelude.{◌≡◌, ℕ, Bool, slice_get, slice_index_or, Some};
-ghost use Rattle.std.specs.Option.{option_and_then};
+ghost use Rattle.std.specs.Prelude.{◌≡◌, ℕ, Bool, IfOk, slice_get, slice_index_or, Some};
+ghost use Rattle.std.specs.Option.{option_and_then, option_map};
 ghost use Rattle.gates.specs.Signals.{signal_value};
 ghost use Rattle.gates.specs.Gates.{Agrees};
+ghost use Rattle.gate_words.specs.Values.{int_at, time_at};
 ghost use Rattle.std_blocks.specs.Pins.{field_value};
 ghost use Rattle.scan_steps.specs.Conducting.{bit_at};
 ghost use Rattle.scan_steps.specs.Slots.{variable_at};
-ghost use Rattle.scan_steps.specs.Values.{is_true};
+ghost use Rattle.scan_steps.specs.Values.{is_true, int_or_zero, time_or_zero};
 ghost use Rattle.scan_steps.specs.Steps.Sources.{slot_output, source_value, source_bit};
-ghost use Rattle.scan_gates.specs.Encoded.{bits_at, slots_at, instance_at, latch_outputs, value_at};
+ghost use Rattle.scan_gates.specs.Encoded.{bits_at, slots_at, instance_at, value_at};
 
-use crate::encoded::{EncodedInstance, EncodedSlot, EncodedValue};
+use crate::encoded::{EncodedSlot, EncodedValue, constant_value};
+use block_gates::EncodedInstance;
+use gate_words::{IntWord, TimeWord};
 use gates::{Gates, Signal};
 use scan_steps::Source;
+use std::alloc::{AllocError, Global};
 use std_blocks::{Field, Value};
-
-/// What an output pin of a latch gives, by its Q1.
-fn latch_output(gates: &Gates, q1: Signal, field: Field) -> EncodedValue
-    ensures { (v : ℕ → Bool) → Agrees v gates.now
-        → value_at v result ≡ field_value (latch_outputs (signal_value v q1)) field }
-{
-    match field {
-        Field::Bit(0) => EncodedValue::Bool(q1),
-        Field::Bit(_) => EncodedValue::Bool(gates.constant(false)),
-        Field::Int => EncodedValue::Int(0),
-        Field::Time => EncodedValue::Time(0),
-    }
-}
 
 /// What an output pin of a block gives.
 pub fn output_of(gates: &Gates, instance: EncodedInstance, field: Field) -> EncodedValue
     ensures { (v : ℕ → Bool) → Agrees v gates.now → value_at v result ≡ field_value (instance_at v instance).outputs field }
 {
-    match instance {
-        EncodedInstance::SR(q1) | EncodedInstance::RS(q1) => latch_output(gates, q1, field),
+    match field {
+        Field::Bit(place) => EncodedValue::Bool(instance.output_bit(gates, place)),
+        Field::Int => EncodedValue::Int(instance.output_int(gates)),
+        Field::Time => EncodedValue::Time(instance.output_time(gates)),
     }
 }
 
@@ -46,6 +39,16 @@ pub(crate) fn truth_of(gates: &Gates, value: EncodedValue) -> Signal
     }
 }
 
+/// The value of the variable at a place, if there is one.
+fn variable_of(slots: &[EncodedSlot], place: usize) -> Option<EncodedValue>
+    ensures { (v : ℕ → Bool) → option_map (value_at v) result ≡ variable_at (slots_at v slots.now) place }
+{
+    match slots.get(place) {
+        Some(EncodedSlot::Variable(value)) => Some(*value),
+        Some(EncodedSlot::Block(_)) | None => None,
+    }
+}
+
 /// Whether the variable at a place is TRUE.
 pub fn variable_on(gates: &Gates, slots: &[EncodedSlot], place: usize) -> Signal
     ensures { (v : ℕ → Bool) → Agrees v gates.now
@@ -54,6 +57,22 @@ pub fn variable_on(gates: &Gates, slots: &[EncodedSlot], place: usize) -> Signal
     match slots.get(place) {
         Some(EncodedSlot::Variable(value)) => truth_of(gates, *value),
         Some(EncodedSlot::Block(_)) | None => gates.constant(false),
+    }
+}
+
+/// An output of the block at a place, if there is one.
+fn output_at(
+    gates: &Gates,
+    slots: &[EncodedSlot],
+    place: usize,
+    field: Field,
+) -> Option<EncodedValue>
+    ensures { (v : ℕ → Bool) → Agrees v gates.now → option_map (value_at v) result
+        ≡ option_and_then (slot_output field) (slice_get (slots_at v slots.now) place) }
+{
+    match slots.get(place) {
+        Some(EncodedSlot::Block(instance)) => Some(output_of(gates, *instance, field)),
+        Some(EncodedSlot::Variable(_)) | None => None,
     }
 }
 
@@ -107,5 +126,46 @@ pub(crate) fn source_or_row_on(
         row_on(gates, rows, row)
     } else {
         source_on(gates, slots, source)
+    }
+}
+
+/// The value at a source, if there is one: none where the state of a row is read.
+pub(crate) fn source_of(
+    alloc: Global,
+    gates: &Gates,
+    slots: &[EncodedSlot],
+    source: Source,
+) -> Result<Option<EncodedValue>, AllocError>
+    ensures { IfOk result (λ value. (v : ℕ → Bool) → Agrees v gates.now
+        → option_map (value_at v) value ≡ source_value (slots_at v slots.now) source) }
+{
+    match source {
+        Source::Nothing | Source::Power(_) => Ok(None),
+        Source::Variable(place) => Ok(variable_of(slots, place)),
+        Source::Output(place, field) => Ok(output_at(gates, slots, place, field)),
+        Source::Literal(value) => {
+            let new = constant_value(alloc, gates, value)?;
+            Ok(Some(new))
+        }
+    }
+}
+
+/// The INT of a value, 0 where there is none.
+pub(crate) fn int_of(gates: &Gates, value: Option<EncodedValue>) -> IntWord
+    ensures { (v : ℕ → Bool) → Agrees v gates.now → int_at v result ≡ int_or_zero (option_map (value_at v) value) }
+{
+    match value {
+        Some(EncodedValue::Int(word)) => word,
+        Some(EncodedValue::Bool(_)) | Some(EncodedValue::Time(_)) | None => IntWord::zero(gates),
+    }
+}
+
+/// The TIME of a value, 0 where there is none.
+pub(crate) fn time_of(gates: &Gates, value: Option<EncodedValue>) -> TimeWord
+    ensures { (v : ℕ → Bool) → Agrees v gates.now → time_at v result ≡ time_or_zero (option_map (value_at v) value) }
+{
+    match value {
+        Some(EncodedValue::Time(word)) => word,
+        Some(EncodedValue::Bool(_)) | Some(EncodedValue::Int(_)) | None => TimeWord::zero(gates),
     }
 }

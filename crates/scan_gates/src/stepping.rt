@@ -1,20 +1,22 @@
-ghost use Rattle.std.specs.Prelude.{◌≡◌, ◌<◌, ◌+◌, ℕ, Bool, List, All, OnOk, IfErr, length, slice_set, true, false};
+ghost use Rattle.std.specs.Prelude.{◌≡◌, ◌<◌, ◌+◌, ℕ, Bool, List, All, OnOk, length, slice_set, true, false};
 ghost use Rattle.gates.specs.Gates.{IsBuilt};
+ghost use Rattle.gate_words.specs.Values.{time_at};
 ghost use Rattle.scan_steps.specs.Conducting.{bit_at};
 ghost use Rattle.scan_steps.specs.Steps.Contacts.{first_of, second_of, rows_over};
 ghost use Rattle.scan_steps.specs.Steps.Passing.{IsStepIn, AreJoined, IsBoxObeyed, IsObeyed, ArePassed, behind_all, pass_of};
-ghost use Rattle.scan_gates.specs.Encoded.{bits_at, slots_at, instances_at, pass_at, HasNoLatchFault};
+ghost use Rattle.scan_gates.specs.Encoded.{bits_at, slots_at, instances_at, pass_at};
 ghost use Rattle.scan_gates.specs.Steps.Pairs.{IsPairReadBy};
 
 use crate::boxes::obey_box;
 use crate::contact::Contact;
-use crate::encode_fault::EncodeFault;
-use crate::encoded::{EncodedInstance, EncodedSlot};
+use crate::encoded::EncodedSlot;
 use crate::joining::{join_off, join_rows, set_row};
 use crate::reading::{all_conduct, read_at_rail, read_contact, read_pair};
+use block_gates::EncodedInstance;
+use gate_words::TimeWord;
 use gates::{Gates, Signal};
 use scan_steps::{BoundBox, PairPlaces, PairRows, Series, Step};
-use std::alloc::AllocError;
+use std::alloc::{AllocError, Global};
 
 /// Joins the rows of a pair and those between, and then reads it.
 fn read_joined_pair(
@@ -89,45 +91,47 @@ fn read_rung(
 
 /// Steps the box with this number.
 fn obey_numbered(
+    alloc: Global,
     gates: &mut Gates,
     number: usize,
     boxes: &[BoundBox],
     slots: &[EncodedSlot],
+    dt: &TimeWord,
     rows: &mut [Signal],
     results: &mut [EncodedInstance],
-) -> Result<(), EncodeFault>
+) -> Result<(), AllocError>
     requires number { number < length boxes.now }
     requires outputs { All (λ e. All (λ o. o.row < length rows.old) e.outputs.items) boxes.now }
     requires results { length results.old ≡ length boxes.now }
-    ensures ok { OnOk result (IsBuilt gates.old gates.new (λ v. (dt : ℕ) (memories links : List Bool)
-        → IsBoxObeyed boxes.now (slots_at v slots.now) dt number
+    ensures { OnOk result (IsBuilt gates.old gates.new (λ v. (memories links : List Bool)
+        → IsBoxObeyed boxes.now (slots_at v slots.now) (time_at v dt.now) number
         (pass_of (bits_at v rows.old) memories links (instances_at v results.old))
         (pass_of (bits_at v rows.new) memories links (instances_at v results.new)))) }
-    ensures only { IfErr result (HasNoLatchFault boxes.now) }
 {
-    results[number] = obey_box(gates, &boxes[number], slots, rows)?;
+    results[number] = obey_box(alloc, gates, &boxes[number], slots, dt, rows)?;
     Ok(())
 }
 
 /// Does what a step of a network says.
 fn obey(
+    alloc: Global,
     gates: &mut Gates,
     step: &Step,
     boxes: &[BoundBox],
     slots: &[EncodedSlot],
+    dt: &TimeWord,
     rows: &mut [Signal],
     memories: &mut [Signal],
     links: &mut [Signal],
     results: &mut [EncodedInstance],
-) -> Result<(), EncodeFault>
+) -> Result<(), AllocError>
     requires step { IsStepIn (length rows.old) (length memories.old) (length links.old) (length boxes.now) step.now }
     requires outputs { All (λ e. All (λ o. o.row < length rows.old) e.outputs.items) boxes.now }
     requires results { length results.old ≡ length boxes.now }
-    ensures ok { OnOk result (IsBuilt gates.old gates.new (λ v. (dt : ℕ)
-        → IsObeyed boxes.now (slots_at v slots.now) dt step.now
+    ensures { OnOk result (IsBuilt gates.old gates.new (λ v.
+        IsObeyed boxes.now (slots_at v slots.now) (time_at v dt.now) step.now
         (pass_at v rows.old memories.old links.old results.old)
         (pass_at v rows.new memories.new links.new results.new))) }
-    ensures only { IfErr result (HasNoLatchFault boxes.now) }
 {
     match step {
         Step::Rail(row) => {
@@ -186,9 +190,29 @@ fn obey(
             links[*coil as usize] = rows[*row as usize];
             Ok(())
         }
-        Step::Box(number) => obey_numbered(gates, *number as usize, boxes, slots, rows, results),
+        Step::Box(number) => {
+            obey_numbered(
+                alloc,
+                gates,
+                *number as usize,
+                boxes,
+                slots,
+                dt,
+                rows,
+                results,
+            )
+        }
         Step::BoxCoil(number, row, coil) => {
-            obey_numbered(gates, *number as usize, boxes, slots, rows, results)?;
+            obey_numbered(
+                alloc,
+                gates,
+                *number as usize,
+                boxes,
+                slots,
+                dt,
+                rows,
+                results,
+            )?;
             links[*coil as usize] = rows[*row as usize];
             Ok(())
         }
@@ -196,30 +220,33 @@ fn obey(
 }
 
 /// Does what the steps of a network say, each once, in their order, with signals in the place of states: whatever values
-/// the inputs have, the signals have the values that the steps leave. Only a box that is no latch is refused, and a lack of
-/// memory.
+/// the inputs have, the signals have the values that the steps leave, `dt` behind the scan before. Only a lack of memory is
+/// refused.
 pub fn pass_signals(
+    alloc: Global,
     gates: &mut Gates,
     steps: &[Step],
     boxes: &[BoundBox],
     slots: &[EncodedSlot],
+    dt: &TimeWord,
     rows: &mut [Signal],
     memories: &mut [Signal],
     links: &mut [Signal],
     results: &mut [EncodedInstance],
-) -> Result<(), EncodeFault>
+) -> Result<(), AllocError>
     requires steps { All
         (λ s. IsStepIn (length rows.old) (length memories.old) (length links.old) (length boxes.now) s) steps.now }
     requires outputs { All (λ e. All (λ o. o.row < length rows.old) e.outputs.items) boxes.now }
     requires results { length results.old ≡ length boxes.now }
-    ensures ok { OnOk result (IsBuilt gates.old gates.new (λ v. (dt : ℕ)
-        → ArePassed boxes.now (slots_at v slots.now) dt steps.now
+    ensures { OnOk result (IsBuilt gates.old gates.new (λ v.
+        ArePassed boxes.now (slots_at v slots.now) (time_at v dt.now) steps.now
         (pass_at v rows.old memories.old links.old results.old)
         (pass_at v rows.new memories.new links.new results.new))) }
-    ensures only { IfErr result (HasNoLatchFault boxes.now) }
 {
     for step in steps {
-        obey(gates, step, boxes, slots, rows, memories, links, results)?;
+        obey(
+            alloc, gates, step, boxes, slots, dt, rows, memories, links, results,
+        )?;
     }
     Ok(())
 }

@@ -2,7 +2,8 @@ ghost use Rattle.std.specs.Prelude.{◌≡◌, ℕ, Bool};
 ghost use Rattle.scan_steps.specs.Steps.Storing.{value_put, block_put, of_same_kind as same_kind};
 ghost use Rattle.scan_gates.specs.Encoded.{slots_at, value_at, instance_at};
 
-use crate::encoded::{EncodedInstance, EncodedSlot, EncodedValue};
+use crate::encoded::{EncodedSlot, EncodedValue};
+use block_gates::EncodedInstance;
 
 /// The first value, or the second if it is of the same kind.
 fn of_same_kind(had: EncodedValue, value: EncodedValue) -> EncodedValue

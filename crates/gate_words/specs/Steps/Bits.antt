@@ -1,5 +1,5 @@
 -- Words bit by bit.
-use Rattle.std.specs.Prelude.{ℕ, zero, suc, ◌+◌, List, Bool, map, if◌then◌else◌}
+use Rattle.std.specs.Prelude.{◌≡◌, ℕ, zero, suc, ◌+◌, ◌<◌, ◌≤◌, ◌⊎◌, List, Bool, map, if◌then◌else◌}
 use Rattle.gates.specs.declared.signal.Signal.{Signal}
 use Rattle.gates.specs.Signals.{bit_of, signal_value}
 
@@ -20,3 +20,7 @@ weight (suc n) = weight n + weight n
 abbrev pub low_value : (ℕ → Bool) → ℕ → ℕ
 low_value b zero = 0
 low_value b (suc n) = low_value b n + (if b n then weight n else 0)
+
+-- the second number has the bit of this weight negated, above which neither has any
+abbrev pub IsFlipped : ℕ → ℕ → ℕ → Type 0
+IsFlipped w a b = ((a < w) × (b ≡ a + w)) ⊎ ((w ≤ a) × (b + w ≡ a))

@@ -14,7 +14,7 @@ encode_circuits-requires-clause-memories c =
     c.requires ∙ ap (sum_by (λ (d : Diagram). length d.elements)) c.circuits.ensures.networks ∙ elements_counted c.circuits.ensures.rails c.circuits.result.now
 
 pub returns : goal.returns
-returns c = on_ok _ _ c.encode_circuits.result c.encode_circuits.ensures.meaning (λ built v agrees.
+returns c = on_ok _ _ c.encode_circuits.result c.encode_circuits.ensures (λ built v agrees.
     let scanned = built v agrees in
     let are = c.circuits.ensures in
-    (scanned.0, λ dt fits. rw are.networks (scanned.1 dt c.args.ladder.now.declarations are.rails are.made fits)))
+    (scanned.0, λ fits. rw are.networks (scanned.1 c.args.ladder.now.declarations are.rails are.made fits)))

@@ -8,16 +8,16 @@ use Rattle.ladder_gates.proofs.steps_encoded.scan_in.Goals as goal
 pub pass_signals-requires-clause-steps : goal.pass_signals-requires-clause-steps
 pass_signals-requires-clause-steps c = rw c.requires.links c.requires.steps
 
-pub returns-clause-ok : goal.returns-clause-ok
-returns-clause-ok c = λ v agrees.
+pub returns : goal.returns
+returns c = λ v agrees.
     let coils = c.in_ok-store_coils.ensures v agrees in
-    let passed = c.in_ok-pass_signals.ensures.ok v coils.0 in
+    let passed = c.in_ok-pass_signals.ensures v coils.0 in
     let stores = bound_stores c.args.coils.now 0 (bits_at v c.pass_signals.new.links) (bits_at v c.pass_signals.new.memories) in (
       passed.0,
-      λ dt. record {
+      record {
         first = pass_at v c.args.rows.now c.args.memories.now c.args.links.now c.args.results.now;
         last = pass_at v c.pass_signals.new.rows c.pass_signals.new.memories c.pass_signals.new.links c.pass_signals.new.results;
-        passed = passed.1 dt;
+        passed = passed.1;
         memories_are = refl;
         rows_long = bits_long v c.args.rows.now;
         links_long = bits_long v c.args.links.now ∙ c.requires.links;

@@ -4,9 +4,9 @@ use Rattle.scan_steps.specs.Steps.Passing.{AreShown}
 use Rattle.scan_gates.specs.Encoded.{bits_at}
 use Rattle.scan_gates.proofs.boxes.obey_box.Goals as goal
 
-pub returns-clause-ok : goal.returns-clause-ok
-returns-clause-ok c = λ v agrees.
+pub returns : goal.returns
+returns c = λ v agrees.
     let shown = c.in_ok-show_outputs.ensures v agrees in
-    let made = c.in_ok-made.ensures.ok v shown.0 in
+    let made = c.in_ok-made.ensures v shown.0 in
     let Shows : Instance → Type 0 = λ i. AreShown c.args.bound.now i (bits_at v c.args.rows.now) (bits_at v c.show_outputs.new.rows) in
-    (made.0, λ dt. (made.1 dt, subst Shows (made.1 dt) (rw c.deref.ensures.value at shown.1)))
+    (made.0, (made.1, subst Shows made.1 (rw c.deref.ensures.value at shown.1)))

@@ -2,6 +2,7 @@ use Rattle.std.proofs.Common.{◌≡◌, ◌+◌, List, ◌∷◌, drop, refl, s
 use Rattle.std.proofs.lemmas.List.{drop_more, drop_all}
 use Rattle.scan_steps.specs.declared.step.Step.{Step}
 use Rattle.scan_steps.specs.Steps.Passing.{ArePassed}
+use Rattle.gate_words.specs.Values.{time_at}
 use Rattle.scan_gates.specs.Encoded.{slots_at, pass_at}
 use Rattle.scan_gates.proofs.stepping.pass_signals.Goals as goal
 
@@ -17,23 +18,22 @@ loop-step-preserved c =
       links = c.obey.auto.links ∙ c.loop-step.invariant.links;
       results = c.obey.auto.results ∙ c.loop-step.invariant.results;
       passed = λ v agrees.
-          let obeyed = c.in_ok-obey.ensures.ok v agrees in
+          let obeyed = c.in_ok-obey.ensures v agrees in
           let was = c.loop-step.invariant.passed v obeyed.0 in
           let a = pass_at v c.loop-step.rows c.loop-step.memories c.loop-step.links c.loop-step.results in
           let b = pass_at v c.obey.new.rows c.obey.new.memories c.obey.new.links c.obey.new.results in (
             was.0,
-            λ dt final rest.
-                let Passed : List Step → Type 0 = λ l. ArePassed c.args.boxes.now (slots_at v c.args.slots.now) dt l a final in
-                was.1 dt final (subst Passed (sym whole) (b, obeyed.1 dt, rest)),
+            λ final rest.
+                let Passed : List Step → Type 0 = λ l. ArePassed c.args.boxes.now (slots_at v c.args.slots.now) (time_at v c.args.dt.now) l a final in
+                was.1 final (subst Passed (sym whole) (b, obeyed.1, rest)),
           );
     }
 
-pub returns-clause-ok : goal.returns-clause-ok
-returns-clause-ok c = λ v agrees.
+pub returns : goal.returns
+returns c = λ v agrees.
     let was = c.loop-step.invariant.passed v agrees in
     let b = pass_at v c.loop-step.rows c.loop-step.memories c.loop-step.links c.loop-step.results in (
       was.0,
-      λ dt.
-          let Passed : List Step → Type 0 = λ steps. ArePassed c.args.boxes.now (slots_at v c.args.slots.now) dt steps b b in
-          was.1 dt b (subst Passed (sym (drop_all c.loop-step.step-index c.args.steps.now c.loop-step-test.false)) refl),
+      let Passed : List Step → Type 0 = λ steps. ArePassed c.args.boxes.now (slots_at v c.args.slots.now) (time_at v c.args.dt.now) steps b b in
+          was.1 b (subst Passed (sym (drop_all c.loop-step.step-index c.args.steps.now c.loop-step-test.false)) refl),
     )

@@ -1,0 +1,4 @@
+pub mod Counts
+pub mod Both
+pub mod Parts
+pub mod Stepped
