@@ -1,10 +1,8 @@
 -- Slots and signals that are pushed, one after the other.
 use Rattle.std.proofs.Common.{◌≡◌, ℕ, ◌+◌, ◌<◌, ◌++◌, List, [], ◌∷◌, Bool, true, false, ◌&&◌, not, if◌then◌else◌, Option, Some, length, get_or, take, drop, replicate, map, slice_get, sym, ap, ◌∙◌, refl, subst}
-use Rattle.std.specs.List.{AllZip}
 use Rattle.std.specs.Option.{option_map}
 use Rattle.std.proofs.Math.Seq.{take-append_seam}
 use Rattle.std.proofs.lemmas.List.Elements.{AllZip-push}
-use Rattle.std.proofs.lemmas.Slice.Zip.{all_zipped_more}
 use Rattle.std.proofs.lemmas.List.{append_assoc, at_drop_more, map_push, replicate_more, take_more}
 use Rattle.lists.proofs.Places.{element_at, some_same}
 use Rattle.std.proofs.lemmas.Option.{get_or_from_slice_get}
@@ -20,7 +18,6 @@ use Rattle.scan_gates.specs.Encoded.{bits_at, slot_at, slots_at}
 use Rattle.scan_gates.specs.States.{AreLike, IsLike, slot_signals, state_signals}
 use Rattle.text_commands.specs.Restarts.{first_slots, restarted}
 use Rattle.text_commands.specs.Series.{set_value}
-use Rattle.ladder_systems.specs.Steps.States.{AreOf, IsDeclaredSlot, IsOf}
 
 -- one more name of the declarations
 pub first_more : (v : ℕ → Bool) (ds : List Declaration) (k : ℕ) (w : Declared) (done : List EncodedSlot) (s : EncodedSlot) → k < length ds
@@ -33,18 +30,6 @@ first_more v ds k w done s lt found was is =
     let here = get_or_from_slice_get ds k e e there.1 in
     map_push (slot_at v) done s ∙ ap (λ l. l ++ slot_at v s ∷ []) was ∙ ap (λ x. first_slots (take k ds) ++ x ∷ []) (is ∙ ap slot_first (same ∙ ap (λ (d : Declaration). d.declared) (sym here)))
     ∙ sym (map_push (λ (d : Declaration). slot_first d.declared) (take k ds) (get_or ds k e)) ∙ ap first_slots (sym (take_more ds k e lt))
-
--- and it is as declared
-pub of_more : (ds : List Declaration) (k : ℕ) (w : Declared) (done : List EncodedSlot) (s : EncodedSlot) → k < length ds
-    → Some w ≡ option_map (λ (d : Declaration). d.declared) (slice_get ds k) → AreOf (take k ds) done → IsOf w s → AreOf (take (k + 1) ds) (done ++ s ∷ [])
-of_more ds k w done s lt found was is =
-    let there = element_at ds k lt in
-    let e = there.0 in
-    let same : w ≡ (get_or ds k e).declared = some_same (found ∙ ap (option_map (λ (d : Declaration). d.declared)) there.1)
-        ∙ ap (λ (d : Declaration). d.declared) (sym (get_or_from_slice_get ds k e e there.1)) in
-    let Of : Declared → Type 0 = λ x. IsOf x s in
-    let Taken : List Declaration → Type 0 = λ l. AreOf l (done ++ s ∷ []) in
-    subst Taken (sym (take_more ds k e lt)) (all_zipped_more IsDeclaredSlot (take k ds) done (get_or ds k e) s was (subst Of same is))
 
 -- one more slot
 pub slot_pushed : (v : ℕ → Bool) (xs ys : List EncodedSlot) (i : ℕ) (d s : EncodedSlot) → i < length xs → slots_at v ys ≡ slots_at v (take i xs) → slot_at v s ≡ slot_at v (get_or xs i d)

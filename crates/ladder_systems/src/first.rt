@@ -3,7 +3,6 @@ ghost use Rattle.gates.specs.Gates.{Agrees};
 ghost use Rattle.scan_steps.specs.First.{slot_first};
 ghost use Rattle.scan_gates.specs.Encoded.{slot_at, slots_at};
 ghost use Rattle.text_commands.specs.Restarts.{first_slots};
-ghost use Rattle.ladder_systems.specs.Steps.States.{AreOf, IsOf};
 
 use declared_names::{Declarations, Declared};
 use gates::Gates;
@@ -12,8 +11,7 @@ use std::alloc::{AllocError, Global};
 
 /// What stands at a name that is declared so before the first scan.
 fn first_slot(gates: &Gates, declared: Declared) -> EncodedSlot
-    ensures first { (v : ℕ → Bool) → Agrees v gates.now → slot_at v result ≡ slot_first declared }
-    ensures of { IsOf declared result }
+    ensures { (v : ℕ → Bool) → Agrees v gates.now → slot_at v result ≡ slot_first declared }
 {
     match declared {
         Declared::Input(kind) | Declared::Output(kind) | Declared::Local(kind) => {
@@ -37,8 +35,7 @@ pub(crate) fn first_slots(
     gates: &Gates,
     declarations: &Declarations,
 ) -> Result<Vec<EncodedSlot>, AllocError>
-    ensures first { IfOk result (λ slots. (v : ℕ → Bool) → Agrees v gates.now → slots_at v slots.items ≡ first_slots declarations.now) }
-    ensures of { IfOk result (λ slots. AreOf declarations.now slots.items) }
+    ensures { IfOk result (λ slots. (v : ℕ → Bool) → Agrees v gates.now → slots_at v slots.items ≡ first_slots declarations.now) }
 {
     let mut slots = Vec::new(alloc);
     for place in 0..declarations.len() {

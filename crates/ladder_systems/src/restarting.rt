@@ -12,7 +12,7 @@ ghost use Rattle.ladder_systems.specs.Steps.States.{AreOf};
 use crate::first::push_slot;
 use crate::variables::put_variable;
 use gates::{Gates, Signal};
-use scan_gates::{EncodedSlot, chosen};
+use scan_gates::{EncodedSlot, chosen, declared_are_like, kinds_are_shapes};
 use std::alloc::{AllocError, Global};
 
 /// What stands there is kept where it is a variable.
@@ -112,6 +112,8 @@ pub(crate) fn restart_where(
         × (bits_at v memories.new.items ≡ (if signal_value v restarts
         then replicate (length memories.old.items) false else bits_at v memories.old.items)))) }
 {
+    declared_are_like();
+    kinds_are_shapes();
     let fresh = restarted_slots(alloc, kept, first, slots)?;
     *slots = choose_slots(alloc, gates, restarts, &fresh, slots)?;
     *memories = cleared_memories(alloc, gates, restarts, memories)?;

@@ -4,14 +4,14 @@ ghost use Rattle.gates.specs.Gates.{Agrees, IsBuilt};
 ghost use Rattle.scan_gates.specs.Encoded.{bits_at, slots_at};
 ghost use Rattle.scan_gates.specs.States.{state_signals};
 ghost use Rattle.text_commands.specs.Restarts.{first_slots};
-ghost use Rattle.ladder_systems.specs.Steps.States.{none, off};
-ghost use Rattle.ladder_systems.specs.Steps.LadderStates.{AreStates, AreStateSignals};
+ghost use Rattle.ladder_systems.specs.Steps.States.{AreOf, none, off};
+ghost use Rattle.ladder_systems.specs.Steps.LadderStates.{AreStateSignals};
 
 use crate::first::first_slots;
 use crate::state_bits::{bits_of, memory_bits, values_at_none, with_bits};
 use gates::{Gates, Signal};
 use power_flow::Ladder;
-use scan_gates::{EncodedSlot, states_are_signals};
+use scan_gates::{EncodedSlot, declared_are_like, kinds_are_shapes, states_are_signals};
 use std::alloc::{AllocError, Global};
 
 /// The signals of a state.
@@ -61,10 +61,12 @@ pub(crate) fn state_signals(
 ) -> Result<StateSignals, AllocError>
     requires { gates.old ≡ Off ∷ [] }
     ensures first { IfOk result (λ s. IsBuilt gates.old gates.new (λ v. slots_at v s.first.items ≡ first_slots ladder.now.declarations)) }
-    ensures restarts { IfOk result (λ s. AreStates ladder.now s.first.items s.memories.items) }
+    ensures of { IfOk result (λ s. AreOf ladder.now.declarations s.first.items) }
     ensures state { IfOk result (λ s. AreStateSignals ladder.now s.slots.items s.memories.items s.bits.items s.at_first.items) }
 {
     states_are_signals();
+    kinds_are_shapes();
+    declared_are_like();
     let first = first_slots(alloc, gates, ladder.declarations())?;
     let mut bits = Vec::new(alloc);
     let slots = with_bits(alloc, gates, &first, &mut bits)?;

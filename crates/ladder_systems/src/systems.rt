@@ -10,7 +10,7 @@ use crate::scanning::scan_signals;
 use crate::state_bits::bits_of;
 use crate::state_signals::state_signals;
 use gates::{Gates, Signal};
-use scan_gates::{EncodedSlot, states_are_signals, variable_on};
+use scan_gates::{EncodedSlot, declared_are_like, states_are_signals, variable_on};
 use std::alloc::{AllocError, Global};
 use transition_systems::TransitionSystem;
 use verifying::Setup;
@@ -58,6 +58,7 @@ pub fn system_of(
 ) -> Result<TransitionSystem, AllocError>
     ensures { IfOk result (IsSystemOf setup.now place) }
 {
+    declared_are_like();
     states_are_signals();
     let mut gates = Gates::new(alloc)?;
     let state = state_signals(alloc, &mut gates, setup.ladder())?;

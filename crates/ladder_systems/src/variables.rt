@@ -5,7 +5,7 @@ ghost use Rattle.gates.specs.Gates.{Agrees};
 ghost use Rattle.scan_steps.specs.declared.slot.Slot.TheVariants.{Variable};
 ghost use Rattle.scan_gates.specs.Encoded.{slots_at, value_at};
 ghost use Rattle.text_commands.specs.Series.{IsVariableAt};
-ghost use Rattle.ladder_systems.specs.Steps.States.{AreOf, kind_of_signals};
+ghost use Rattle.ladder_systems.specs.Steps.States.{AreOf, none};
 
 use gates::Gates;
 use scan_gates::{EncodedSlot, EncodedValue, IntWord, TimeWord};
@@ -19,7 +19,7 @@ pub(crate) fn constant_value(
     value: Value,
 ) -> Result<EncodedValue, AllocError>
     ensures value { IfOk result (λ x. (v : ℕ → Bool) → Agrees v gates.now → value_at v x ≡ value) }
-    ensures kind { IfOk result (λ x. kind_of_signals x ≡ kind_of value) }
+    ensures kind { IfOk result (λ x. kind_of (value_at none x) ≡ kind_of value) }
 {
     match value {
         Value::Bool(on) => Ok(EncodedValue::Bool(gates.constant(on))),
@@ -38,7 +38,7 @@ pub(crate) fn constant_value(
 pub(crate) fn put_variable(place: usize, value: EncodedValue, slots: &mut [EncodedSlot])
     ensures slots { (v : ℕ → Bool) → slots_at v slots.new
         ≡ slice_set (slots_at v slots.old) place (Variable (value_at v value)) }
-    ensures of { (ds : List Declaration) → IsVariableAt ds place (kind_of_signals value) → AreOf ds slots.old → AreOf ds slots.new }
+    ensures of { (ds : List Declaration) → IsVariableAt ds place (kind_of (value_at none value)) → AreOf ds slots.old → AreOf ds slots.new }
 {
     if place < slots.len() {
         slots[place] = EncodedSlot::Variable(value);

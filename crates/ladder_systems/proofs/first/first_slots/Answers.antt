@@ -5,7 +5,7 @@ use Rattle.lists.proofs.Places.{element_at}
 use Rattle.declared_names.specs.declared.declarations.Declaration.{Declaration}
 use Rattle.declared_names.specs.declared.declarations.Declared.{Declared}
 use Rattle.scan_gates.specs.Encoded.{slots_at}
-use Rattle.ladder_systems.proofs.Pushing.{first_more, of_more}
+use Rattle.ladder_systems.proofs.Pushing.{first_more}
 use Rattle.ladder_systems.proofs.first.first_slots.Goals as goal
 use Rattle.ladder_systems.proofs.first.first_slots.Goals.{in-Some+in_ok-push_slot, in_default}
 
@@ -16,17 +16,10 @@ loop-place-preserved c =
     let lt : k < length ds = omega (arith, c.loop-place-test.true, c.len-place-end.ensures) in
     elim c.match-declared_at.branch [
       | in-Some+in_ok-push_slot w ↦
-          rw w.slots-is record {
-            first = λ v agrees.
-                rw w.in_ok-push_slot.ensures (first_more v ds k w.in-Some.declared c.loop-place.slots.items w.first_slot-slot.result lt w.in-Some.ensures
-                (c.loop-place.invariant.first v agrees) (w.first_slot-slot.ensures.first v agrees));
-            of = rw w.in_ok-push_slot.ensures (of_more ds k w.in-Some.declared c.loop-place.slots.items w.first_slot-slot.result lt w.in-Some.ensures
-                c.loop-place.invariant.of w.first_slot-slot.ensures.of);
-          }
+          rw w.slots-is (λ v agrees.
+          rw w.in_ok-push_slot.ensures (first_more v ds k w.in-Some.declared c.loop-place.slots.items w.first_slot-slot.result lt w.in-Some.ensures
+          (c.loop-place.invariant v agrees) (w.first_slot-slot.ensures v agrees)))
       | in_default w ↦
           let there = element_at ds k lt in
           absurd (let none : None ≡ Some there.0.declared = w.in_default.ensures ∙ ap (option_map (λ (d : Declaration). d.declared)) there.1 in cc)
     ]
-
-pub returns-clause-of : goal.returns-clause-of
-returns-clause-of c = rw (take_all c.loop-place.place c.args.declarations.now (omega (arith, c.loop-place-test.false, c.len-place-end.ensures))) at c.loop-place.invariant.of

@@ -7,7 +7,13 @@ use Rattle.ladder_systems.proofs.Results.{on_ok}
 use Rattle.ladder_systems.proofs.opening.open.Goals as goal
 
 pub returns-clause-state : goal.returns-clause-state
-returns-clause-state c = ?
+returns-clause-state c = on_ok _ _ c.set_inputs.result c.set_inputs.ensures.of (λ of.
+    let before = c.restart_if.new.slots in
+    let long : length c.set_inputs.new.slots ≡ before.len = omega (arith, c.set_inputs.auto.slots, ap length c.deref_mut.ensures.value, before.ok.0) in
+    record {
+      of = rw (written before.len c.set_inputs.new.slots before.items long) (of (rw c.deref_mut.ensures.value c.in_ok-restart_if.ensures.state.of));
+      many = c.in_ok-restart_if.ensures.state.many;
+    })
 
 pub returns-clause-found : goal.returns-clause-found
 returns-clause-found c = on_ok _ _ c.set_inputs.result c.set_inputs.ensures.slots (λ set v agrees.

@@ -5,4 +5,5 @@ use Rattle.ladder_systems.specs.Steps.States.{none}
 use Rattle.ladder_systems.proofs.state_signals.first_bits.Goals as goal
 
 pub returns : goal.returns
-returns c = ?
+returns c =
+    rw (c.deref.ensures.value, c.from_elem.ensures.items) at c.in_ok-signals.ensures

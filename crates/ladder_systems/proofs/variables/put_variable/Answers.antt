@@ -1,12 +1,11 @@
-use Rattle.std.proofs.Common.{ℕ, Bool}
 use Rattle.std.proofs.lemmas.List.{map-set}
 use Rattle.scan_gates.specs.Encoded.{slot_at}
 use Rattle.scan_gates.specs.declared.encoded.EncodedSlot.TheVariants.{Variable}
-use Rattle.ladder_systems.proofs.Shapes.{is_variable, of_set}
+use Rattle.ladder_systems.proofs.Shapes.{of_set}
 use Rattle.ladder_systems.proofs.variables.put_variable.Goals as goal
 
 pub returns-then-clause-slots : goal.returns-then-clause-slots
 returns-then-clause-slots c = λ v. map-set (slot_at v) c.args.slots.now c.args.place (Variable c.args.value)
 
 pub returns-then-clause-of : goal.returns-then-clause-of
-returns-then-clause-of c = λ ds there of. of_set ds c.args.slots.now c.args.place there.0 (Variable c.args.value) of there.1 (is_variable there.0.declared c.args.value there.2)
+returns-then-clause-of c = λ ds there of. of_set ds c.args.slots.now c.args.place c.args.value of there
