@@ -1,7 +1,8 @@
 -- What is told of a claim that is looked at by induction.
-use Rattle.std.specs.Prelude.{◌≡◌, ℕ, List, Bool, Some, length, slice_get}
+use Rattle.std.specs.Prelude.{ℕ, List, Bool, length}
+use Rattle.std.specs.List.{AllZip}
 use Rattle.transition_systems.specs.declared.system.TransitionSystem.{TransitionSystem}
-use Rattle.transition_systems.specs.Certificates.{IsInductive}
+use Rattle.transition_systems.specs.Certificates.{AreInductive}
 use Rattle.ladder_systems.specs.LadderSystems.{IsSystemOf}
 use Rattle.power_flow.specs.Meaning.{Moment}
 use Rattle.verifying.specs.Runs.{SetupValue, IsOn, Runs}
@@ -21,7 +22,7 @@ pub record Sets (u : SetupValue) (place : ℕ) (rows : List (List Bool)) : Type 
 pub record IsShown (u : SetupValue) (place : ℕ) (c : Certified) : Type 0 where
   pub system : TransitionSystem
   pub is : IsSystemOf u place system
-  pub inductive : IsInductive system c.clauses.items
+  pub inductive : AreInductive system c.clauses.items
   pub size : IsSizeOf c.clauses.items (length system.state.items) c.size
 
 -- What a verdict says of the variable at a place, where a setup is looked at in the place of the whole: no run whatsoever of
@@ -32,7 +33,5 @@ IsCertified whole searched place (Fails rows) = Sets whole place rows.items
 IsCertified whole searched place Undecided = Unit {0}
 
 -- a verdict for each place
-pub record AreCertified (whole searched : SetupValue) (places : List ℕ) (verdicts : List CertifiedVerdict) : Type 0 where
-  pub long : length verdicts ≡ length places
-  pub each : (k place : ℕ) (verdict : CertifiedVerdict) → slice_get places k ≡ Some place → slice_get verdicts k ≡ Some verdict
-      → IsCertified whole searched place verdict
+abbrev pub AreCertified : SetupValue → SetupValue → List ℕ → List CertifiedVerdict → Type 0
+AreCertified whole searched places verdicts = AllZip (IsCertified whole searched) places verdicts

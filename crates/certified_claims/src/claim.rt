@@ -1,5 +1,5 @@
 ghost use Rattle.std.specs.Prelude.{◌≡◌, ℕ, List, IfOk, Some, slice_get};
-ghost use Rattle.transition_systems.specs.Certificates.{IsInductive};
+ghost use Rattle.transition_systems.specs.Certificates.{AreInductive};
 ghost use Rattle.transition_systems.specs.Systems.{IsWhole, NeverBad};
 ghost use Rattle.ladder_systems.specs.LadderSystems.{IsSystemOf};
 ghost use Rattle.verifying.specs.Needed.{IsSearched};
@@ -9,42 +9,36 @@ ghost use Rattle.certified_claims.specs.Certified.{IsCertified};
 use crate::certificate_size::size_of;
 use crate::replay::{rows_of, sets};
 use crate::verdict::{Certified, CertifiedVerdict};
+use clauses::Literal;
 use invariant_search::{Found, find};
 use ladder_systems::{never_bad_is_never, system_of};
 use std::alloc::{AllocError, Global};
-use transition_systems::{Certificate, CertificateFault, TransitionSystem, check_certificate};
+use transition_systems::TransitionSystem;
 use verifying::{Prepared, never_of_whole, whole_rows};
 
-/// What a certificate shows, if it is one: whoever made it isn't believed.
+/// What a certificate shows that was checked.
 fn holds(
-    alloc: Global,
     prepared: &Prepared,
     place: usize,
     system: &TransitionSystem,
-    certificate: Certificate,
-) -> Result<CertifiedVerdict, AllocError>
+    clauses: Vec<Vec<Literal>>,
+) -> CertifiedVerdict
     requires searched { (claims : List ℕ) × (number : ℕ) × IsSearched prepared.now.whole claims prepared.now.idle.items
         (searched_of prepared.now.slice prepared.now.whole) × (slice_get claims number ≡ Some place) }
     requires system { IsSystemOf (searched_of prepared.now.slice prepared.now.whole) place system.now }
-    ensures { IfOk result (IsCertified prepared.now.whole (searched_of prepared.now.slice prepared.now.whole) place) }
+    requires whole { IsWhole system.now }
+    requires inductive { AreInductive system.now clauses.items }
+    requires never { NeverBad system.now }
+    ensures { IsCertified prepared.now.whole (searched_of prepared.now.slice prepared.now.whole) place result }
 {
     let _wide = prepared.searched().ladder().declarations();
     never_bad_is_never();
     never_of_whole();
-    match check_certificate(alloc, system, &certificate) {
-        Ok(()) => {
-            let size = size_of(&certificate.clauses, system.state.len());
-            Ok(CertifiedVerdict::Holds(Certified {
-                clauses: certificate.clauses,
-                size,
-            }))
-        }
-        Err(CertificateFault::Memory) => Err(AllocError),
-        Err(_) => Ok(CertifiedVerdict::Undecided),
-    }
+    let size = size_of(&clauses, system.state.len());
+    CertifiedVerdict::Holds(Certified { clauses, size })
 }
 
-/// What a run shows, once it was done: whoever found it isn't believed.
+/// What a run shows, once it was done in the ladder: whoever found it isn't believed.
 fn fails(
     alloc: Global,
     prepared: &Prepared,
@@ -76,8 +70,10 @@ pub fn certify_claim(
 {
     let system = system_of(alloc, prepared.searched(), place)?;
     match find(alloc, &system, effort)? {
-        Found::Certificate(certificate) => holds(alloc, prepared, place, &system, certificate),
-        Found::Run(rows) => fails(alloc, prepared, place, rows),
+        Found::Certificate(certificate) => {
+            Ok(holds(prepared, place, &system, certificate.clauses))
+        }
+        Found::Run(run) => fails(alloc, prepared, place, run.rows),
         Found::Ended => Ok(CertifiedVerdict::Undecided),
     }
 }
