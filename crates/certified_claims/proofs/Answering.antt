@@ -12,7 +12,7 @@ use Rattle.verifying.specs.Preparing.{RefusesPreparing}
 use Rattle.verifying.specs.Questions.{QuestionValue}
 use Rattle.verifying.specs.declared.verify_fault.VerifyFault.{VerifyFault}
 use Rattle.verifying.specs.declared.verify_fault.VerifyFault.TheVariants.{Command, Claim, Given, Held, TooManyInputs, NoTime}
-use Rattle.std.proofs.lemmas.Io.KnownBytes.{Keeps-refl}
+use Rattle.std.proofs.KnownBytes.{Keeps-refl}
 use Rattle.std.proofs.Common.{Option}
 use Rattle.certified_claims.specs.Certified.{AreCertified, IsCertified}
 use Rattle.certified_claims.specs.CertifiedAnswers.{ExplainsCertified}
