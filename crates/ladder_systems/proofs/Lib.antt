@@ -1,11 +1,12 @@
+pub mod Results
 pub mod Parts
 pub mod Shapes
+pub mod Quiet
 pub mod Pushing
 pub mod FirstState
 pub mod Made
 pub mod Opened
 pub mod Scanned
-pub mod Results
 pub mod Truths
 pub mod NotOn
 pub mod Never

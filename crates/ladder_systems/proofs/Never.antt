@@ -13,7 +13,7 @@ Leads M Steps Given s (row ∷ rows) t = (between : M) × (Steps row s between) 
 
 -- these bits stand for the state: whatever the variables are, if the state's signals have them
 abbrev pub StandFor : (M : Type 0) → TransitionSystem → ((ℕ → Bool) → M) → List Bool → M → Type 0
-StandFor M t before bits s = (v : ℕ → Bool) → bits_at v t.state.items ≡ bits → before v ≡ s
+StandFor M t before bits s = (v : ℕ → Bool) → Agrees v t.gates → bits_at v t.state.items ≡ bits → before v ≡ s
 
 -- after the last of some rows nothing is bad
 pub off_after : (M : Type 0) (Steps : List Bool → M → M → Type 0) (Given Bad : M → Type 0) (t : TransitionSystem) (before after : (ℕ → Bool) → M)
@@ -31,7 +31,7 @@ off_after M Steps Given Bad t before after one wide step goes given claim whole 
     let agrees = w.1.agree in
     let Made : List Bool → Type 0 = λ r. Steps r (before v) (after v) in
     let From : M → Type 0 = λ m. Steps row m (after v) in
-    let is : between ≡ after v = one row s between (after v) made (subst From (stand v w.1.state_is) (subst Made w.1.row_is (step v agrees))) in
+    let is : between ≡ after v = one row s between (after v) made (subst From (stand v agrees w.1.state_is) (subst Made w.1.row_is (step v agrees))) in
     let off : signal_value v t.bad ≡ false = (never v w.1 (given v agrees (subst Given is meets))).0 in
     let on : signal_value v t.bad ≡ true = claim v agrees (subst Bad (sym same ∙ is) bad) in
     absurd (let no = sym off ∙ on in cc)
@@ -41,7 +41,7 @@ off_after M Steps Given Bad t before after one wide step goes given claim whole 
     let agrees = w.1.agree in
     let Made : List Bool → Type 0 = λ r. Steps r (before v) (after v) in
     let From : M → Type 0 = λ m. Steps row m (after v) in
-    let is : between ≡ after v = one row s between (after v) made (subst From (stand v w.1.state_is) (subst Made w.1.row_is (step v agrees))) in
+    let is : between ≡ after v = one row s between (after v) made (subst From (stand v agrees w.1.state_is) (subst Made w.1.row_is (step v agrees))) in
     let rest = (never v w.1 (given v agrees (subst Given is meets))).1 in
     let Stand : M → Type 0 = λ m. StandFor M t before (bits_at v t.next.items) m in
     off_after M Steps Given Bad t before after one wide step goes given claim whole rows next (bits_at v t.next.items) between last

@@ -1,9 +1,16 @@
 -- Slots and signals that are pushed, one after the other.
-use Rattle.std.proofs.Common.{◌≡◌, ℕ, ◌+◌, ◌<◌, ◌++◌, List, [], ◌∷◌, Bool, true, false, ◌&&◌, not, if◌then◌else◌, Option, Some, length, get_or, take, drop, replicate, map, slice_get, sym, ap, ◌∙◌, refl, subst}
+use Rattle.std.proofs.Common.{◌≡◌, ℕ, ◌+◌, ◌<◌, ◌++◌, List, [], ◌∷◌, Bool, true, false, ◌&&◌, not, if◌then◌else◌, Option, Some, length, get_or, take, drop, replicate, map, slice_get, sym, ap, ◌∙◌, refl, subst, arith}
 use Rattle.std.specs.Option.{option_map}
 use Rattle.std.proofs.Math.Seq.{take-append_seam}
 use Rattle.std.proofs.lemmas.List.Elements.{AllZip-push}
-use Rattle.std.proofs.lemmas.List.{append_assoc, at_drop_more, map_push, replicate_more, take_more}
+use Rattle.std.specs.List.{flat_map}
+use Rattle.std.proofs.lemmas.List.{append_assoc, at_drop_more, length-take, map-append, map_push, replicate_more, take_more}
+use Rattle.drawings.specs.declared.place.Place.{Place}
+use Rattle.power_flow.specs.declared.steps.circuit.Circuit.{Circuit}
+use Rattle.power_flow.specs.Steps.Circuit.{circuit_diagram}
+use Rattle.ladder_systems.specs.Remembering.{marked, memory_marks, remembers}
+use Rattle.ladder_systems.specs.Steps.States.{AreQuiet}
+use Rattle.ladder_systems.proofs.Quiet.{quiet_append}
 use Rattle.lists.proofs.Places.{element_at, some_same}
 use Rattle.std.proofs.lemmas.Option.{get_or_from_slice_get}
 use Rattle.declared_names.specs.declared.declarations.Declaration.{Declaration}
@@ -114,3 +121,32 @@ like_pushed xs made later i d y lt was like is = rw (is, take_more xs i d lt) (A
 -- all of a vector is written
 pub written : {X : Type 0} (n : ℕ) (new items : List X) → length new ≡ n → take n (new ++ drop (length new) items) ≡ new
 written n new items long = ap (λ k. take k (new ++ drop (length new) items)) (sym long) ∙ take-append_seam new (drop (length new) items)
+
+-- one more mark
+marked-push : {A : Type 0} (marks : List Bool) (mark : Bool) (xs : List A) (x : A) → length xs ≡ length marks → marked (marks ++ mark ∷ []) (xs ++ x ∷ []) ≡ marked marks xs ++ marked (mark ∷ []) (x ∷ [])
+marked-push [] mark [] x long = refl
+marked-push [] mark (y ∷ xs) x long = absurd cc
+marked-push (m ∷ marks) mark [] x long = absurd cc
+marked-push (true ∷ marks) mark (y ∷ xs) x long = ap (λ l. y ∷ l) (marked-push marks mark xs x (omega arith))
+marked-push (false ∷ marks) mark (y ∷ xs) x long = marked-push marks mark xs x (omega arith)
+
+pub marked_more : {A : Type 0} (marks : List Bool) (i : ℕ) (d : Bool) (before bits later xs next : List A) (x : A) → i < length marks → length xs ≡ i
+    → bits ≡ before ++ marked (take i marks) xs → later ≡ bits ++ marked (get_or marks i d ∷ []) (x ∷ []) → next ≡ xs ++ x ∷ []
+    → later ≡ before ++ marked (take (i + 1) marks) next
+marked_more marks i d before bits later xs next x lt long was is pushed =
+    let many : length xs ≡ length (take i marks) = simp length-take (omega (arith, long)) in
+    is ∙ ap (λ l. l ++ marked (get_or marks i d ∷ []) (x ∷ [])) was ∙ append_assoc before (marked (take i marks) xs) (marked (get_or marks i d ∷ []) (x ∷ []))
+    ∙ ap (λ l. before ++ l) (sym (marked-push (take i marks) (get_or marks i d) xs x many) ∙ ap (λ m. marked m (xs ++ x ∷ [])) (sym (take_more marks i d lt)) ∙ ap (marked (take (i + 1) marks)) (sym pushed))
+
+pub quiet_more : (v : ℕ → Bool) (marks : List Bool) (i : ℕ) (d : Bool) (xs next : List Signal) (x : Signal) → i < length marks → AreQuiet (take i marks) (bits_at v xs)
+    → AreQuiet (get_or marks i d ∷ []) (bits_at v (x ∷ [])) → next ≡ xs ++ x ∷ [] → AreQuiet (take (i + 1) marks) (bits_at v next)
+quiet_more v marks i d xs next x lt was here pushed =
+    let Marks : List Bool → Type 0 = λ m. AreQuiet m (bits_at v next) in
+    let Bits : List Bool → Type 0 = λ b. AreQuiet (take i marks ++ get_or marks i d ∷ []) b in
+    subst Marks (sym (take_more marks i d lt))
+    (subst Bits (sym (ap (bits_at v) pushed ∙ map-append (signal_value v) xs (x ∷ []))) (quiet_append (take i marks) (get_or marks i d ∷ []) (bits_at v xs) (bits_at v (x ∷ [])) was here))
+
+-- the marks of circuits are those of their networks
+pub marks_of : (rails : List Place) (circuits : List Circuit) → memory_marks (map (circuit_diagram rails) circuits) ≡ flat_map (λ (c : Circuit). map remembers c.elements.items) circuits
+marks_of rails [] = refl
+marks_of rails (c ∷ circuits) = ap (λ l. map remembers c.elements.items ++ l) (marks_of rails circuits)

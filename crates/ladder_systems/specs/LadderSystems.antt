@@ -7,9 +7,9 @@ use Rattle.verifying.specs.Runs.{SetupValue, IsOn, Meets, ScansWith, first as fi
 use Rattle.transition_systems.specs.declared.system.TransitionSystem.{TransitionSystem}
 use Rattle.transition_systems.specs.Systems.{bits_at}
 
--- these bits stand for the moment: it is what stands there, whatever the variables are, if the state's signals have them
+-- these bits stand for the moment: it is what stands there wherever the state's signals have them
 abbrev pub StandFor : TransitionSystem → ((ℕ → Bool) → Moment) → List Bool → Moment → Type 0
-StandFor t before bits s = (v : ℕ → Bool) → bits_at v t.state.items ≡ bits → before v ≡ s
+StandFor t before bits s = (v : ℕ → Bool) → Agrees v t.gates → bits_at v t.state.items ≡ bits → before v ≡ s
 
 -- What the system says of the ladder: its first state stands for what is before the first scan, a row has a bit for each
 -- digit, and a step makes the scan with that row; the constraint is TRUE where what is given is TRUE behind it, and the

@@ -1,2 +1,3 @@
 pub mod LadderSystems
+pub mod Remembering
 pub mod Steps

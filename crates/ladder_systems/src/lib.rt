@@ -1,10 +1,11 @@
 //! The system of state bits that a ladder is under a setup, for certificates that a variable is never TRUE. In this order:
-//! what stands at names before the first scan, state bits, restarts, what a scan finds, a scan, systems, and what they show.
+//! what stands at names before the first scan, which elements remember anything, state bits, restarts, what a scan finds, a scan, systems, and what they show.
 #![tactic(auto)]
 
 mod first;
 mod laws;
 mod opening;
+mod remembering;
 mod restarting;
 mod scanning;
 mod state_bits;
@@ -13,4 +14,5 @@ mod systems;
 mod variables;
 
 pub use laws::never_bad_is_never;
+pub use remembering::remembers;
 pub use systems::system_of;

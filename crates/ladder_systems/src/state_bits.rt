@@ -1,13 +1,12 @@
-ghost use Rattle.std.specs.Prelude.{◌≡◌, ◌++◌, ◌∷◌, [], IfOk, OnOk, length, sum_by};
+ghost use Rattle.std.specs.Prelude.{◌≡◌, ◌++◌, ◌∷◌, [], IfOk, OnOk, length};
 ghost use Rattle.gates.specs.Gates.{IsBuilt};
-ghost use Rattle.power_flow.specs.declared.steps.circuit.Circuit.{Circuit as CircuitRecord};
 ghost use Rattle.scan_gates.specs.Encoded.{bits_at};
 ghost use Rattle.scan_gates.specs.States.{AreLike, state_signals};
-ghost use Rattle.ladder_systems.specs.Steps.States.{HasMore, none};
+ghost use Rattle.ladder_systems.specs.Remembering.{marked};
+ghost use Rattle.ladder_systems.specs.Steps.States.{AreQuiet, none};
 
 use crate::first::push_slot;
 use gates::{Gates, Signal};
-use power_flow::Circuit;
 use scan_gates::{EncodedSlot, push_signals, with_inputs};
 use std::alloc::{AllocError, Global};
 
@@ -30,6 +29,14 @@ pub(crate) fn with_bits(
     Ok(made)
 }
 
+/// Puts a signal behind the others.
+fn push_signal(signal: Signal, signals: &mut Vec<Signal>) -> Result<(), AllocError>
+    ensures { OnOk result (signals.new.items ≡ signals.old.items ++ signal ∷ []) }
+{
+    signals.push(signal)?;
+    Ok(())
+}
+
 /// The signal of the next state bit.
 fn next_bit(gates: &mut Gates, bits: &mut Vec<Signal>) -> Result<Signal, AllocError>
     ensures built { OnOk result (IsBuilt gates.old gates.new (λ _. Unit {0})) }
@@ -40,29 +47,50 @@ fn next_bit(gates: &mut Gates, bits: &mut Vec<Signal>) -> Result<Signal, AllocEr
     Ok(bit)
 }
 
-/// So many more state bits.
-fn more_bits(gates: &mut Gates, count: usize, bits: &mut Vec<Signal>) -> Result<(), AllocError>
-    ensures built { OnOk result (IsBuilt gates.old gates.new (λ _. Unit {0})) }
-    ensures bits { OnOk result (HasMore bits.old.items bits.new.items count) }
+/// The signal of a memory: the next state bit, if it is marked, and else one that is never TRUE.
+fn memory_signal(gates: &mut Gates, mark: bool, bits: &mut Vec<Signal>) -> Result<Signal, AllocError>
+    ensures quiet { IfOk result (λ s. IsBuilt gates.old gates.new (λ v. AreQuiet (mark ∷ []) (bits_at v (s ∷ [])))) }
+    ensures bits { IfOk result (λ s. bits.new.items ≡ bits.old.items ++ marked (mark ∷ []) (s ∷ [])) }
 {
-    for _bit in 0..count {
-        next_bit(gates, bits)?;
+    if mark {
+        next_bit(gates, bits)
+    } else {
+        Ok(gates.constant(false))
     }
-    Ok(())
 }
 
-/// A state bit for each element of the circuits: its memory.
-pub(crate) fn memory_bits(
+/// The signals of memories: a state bit for each that is marked, and else one that is never TRUE.
+pub(crate) fn memory_signals(
+    alloc: Global,
     gates: &mut Gates,
-    circuits: &[Circuit],
+    marks: &[bool],
+    bits: &mut Vec<Signal>,
+) -> Result<Vec<Signal>, AllocError>
+    ensures quiet { IfOk result (λ memories. IsBuilt gates.old gates.new (λ v. AreQuiet marks.now (bits_at v memories.items))) }
+    ensures bits { IfOk result (λ memories. bits.new.items ≡ bits.old.items ++ marked marks.now memories.items) }
+    ensures long { IfOk result (λ memories. length memories.items ≡ length marks.now) }
+{
+    let mut memories = Vec::new(alloc);
+    for mark in marks {
+        let signal = memory_signal(gates, *mark, bits)?;
+        push_signal(signal, &mut memories)?;
+    }
+    Ok(memories)
+}
+
+/// Adds those of the signals that are marked.
+pub(crate) fn push_marked(
+    marks: &[bool],
+    signals: &[Signal],
     bits: &mut Vec<Signal>,
 ) -> Result<(), AllocError>
-    ensures built { OnOk result (IsBuilt gates.old gates.new (λ _. Unit {0})) }
-    ensures bits { OnOk result (HasMore bits.old.items bits.new.items
-        (sum_by (λ (c : CircuitRecord). length c.elements.items) circuits.now)) }
+    requires { length signals.now ≡ length marks.now }
+    ensures { OnOk result (bits.new.items ≡ bits.old.items ++ marked marks.now signals.now) }
 {
-    for circuit in circuits {
-        more_bits(gates, circuit.elements.len(), bits)?;
+    for (k, mark) in marks.iter().enumerate() {
+        if *mark {
+            push_signal(signals[k], bits)?;
+        }
     }
     Ok(())
 }
@@ -71,15 +99,17 @@ pub(crate) fn memory_bits(
 pub(crate) fn bits_of(
     alloc: Global,
     slots: &[EncodedSlot],
+    marks: &[bool],
     memories: &[Signal],
 ) -> Result<Vec<Signal>, AllocError>
-    ensures { IfOk result (λ bits. bits.items ≡ state_signals slots.now memories.now) }
+    requires { length memories.now ≡ length marks.now }
+    ensures { IfOk result (λ bits. bits.items ≡ state_signals slots.now (marked marks.now memories.now)) }
 {
     let mut bits = Vec::new(alloc);
     for slot in slots {
         push_signals(slot, &mut bits)?;
     }
-    bits.extend_from_slice(memories)?;
+    push_marked(marks, memories, &mut bits)?;
     Ok(bits)
 }
 

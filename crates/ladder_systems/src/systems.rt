@@ -6,6 +6,7 @@ ghost use Rattle.scan_steps.specs.Slots.{variable_at};
 ghost use Rattle.scan_gates.specs.Encoded.{slots_at};
 ghost use Rattle.ladder_systems.specs.LadderSystems.{IsSystemOf};
 
+use crate::remembering::memory_marks;
 use crate::scanning::scan_signals;
 use crate::state_bits::bits_of;
 use crate::state_signals::state_signals;
@@ -61,12 +62,13 @@ pub fn system_of(
     declared_are_like();
     states_are_signals();
     let mut gates = Gates::new(alloc)?;
-    let state = state_signals(alloc, &mut gates, setup.ladder())?;
+    let marks = memory_marks(alloc, setup.ladder())?;
+    let state = state_signals(alloc, &mut gates, setup.ladder(), &marks)?;
     let row = row_signals(alloc, &mut gates, &state.bits, setup.width())?;
     let mut slots = Vec::from_slice(alloc, &state.slots)?;
     let mut memories = Vec::from_slice(alloc, &state.memories)?;
     scan_signals(alloc, &mut gates, setup, &row, &state.first, &mut slots, &mut memories)?;
-    let next = bits_of(alloc, &slots, &memories)?;
+    let next = bits_of(alloc, &slots, &marks, &memories)?;
     let constraint = all_on(&mut gates, &slots, setup.given())?;
     let bad = variable_on(&gates, &slots, place);
     Ok(TransitionSystem {

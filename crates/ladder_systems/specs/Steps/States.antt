@@ -1,5 +1,5 @@
 -- What stands at names as signals.
-use Rattle.std.specs.Prelude.{◌≡◌, ℕ, ◌++◌, List, Bool, false, length}
+use Rattle.std.specs.Prelude.{◌≡◌, ℕ, List, [], ◌∷◌, Bool, true, false}
 use Rattle.declared_names.specs.declared.declarations.Declaration.{Declaration}
 use Rattle.gates.specs.declared.signal.Signal.{Signal}
 use Rattle.scan_steps.specs.Slots.{AreSlotsOf}
@@ -15,11 +15,13 @@ none k = false
 abbrev pub AreOf : List Declaration → List EncodedSlot → Type 0
 AreOf ds slots = AreSlotsOf ds (slots_at none slots)
 
--- so many more came behind the others
-pub record HasMore (old new : List Signal) (count : ℕ) : Type 0 where
-  pub more : List Signal
-  pub is : new ≡ old ++ more
-  pub many : length more ≡ count
+-- a memory for each mark, OFF where its element remembers nothing
+abbrev pub AreQuiet : List Bool → List Bool → Type 0
+AreQuiet [] [] = Unit {0}
+AreQuiet [] (b ∷ memories) = ⊥
+AreQuiet (mark ∷ marks) [] = ⊥
+AreQuiet (true ∷ marks) (b ∷ memories) = AreQuiet marks memories
+AreQuiet (false ∷ marks) (b ∷ memories) = (b ≡ false) × AreQuiet marks memories
 
 -- the variable that is never TRUE
 abbrev pub off : Signal
