@@ -1,7 +1,7 @@
 -- Memories of elements that remember nothing stay OFF.
 use Rattle.std.proofs.Common.{◌≡◌, ℕ, zero, suc, ◌+◌, ◌++◌, List, [], ◌∷◌, Bool, true, false, Option, Some, None, length, map, take, drop, replicate, sum_by, get_or, refl, sym, ap, ◌∙◌, subst, arith}
 use Rattle.std.specs.List.{enumerate_from}
-use Rattle.std.proofs.lemmas.List.{length-append, length-map, take_append_drop}
+use Rattle.std.proofs.lemmas.List.{length-append, length-map, take-append-drop}
 use Rattle.std.proofs.lemmas.List.Sums.{sum_by-cons}
 use Rattle.drawings.specs.declared.coil.CoilKind.{CoilKind}
 use Rattle.drawings.specs.declared.coil.CoilKind.TheVariants as coil
@@ -124,7 +124,7 @@ scan_quiet ds dt (d ∷ networks) slots slots' ms ms' (mid, means, rest) quiet =
     let here = network_quiet ds d dt (moment slots (take n ms)) (moment mid (take n ms')) means (subst Here long parts.0) in
     let there = scan_quiet ds dt networks mid slots' (drop n ms) (drop n ms') rest (subst There long parts.1) in
     let Quiet : List Bool → Type 0 = λ l. AreQuiet (marks ++ memory_marks networks) l in
-    subst Quiet (take_append_drop n ms') (quiet_append marks (memory_marks networks) (take n ms') (drop n ms') here there)
+    subst Quiet (take-append-drop n ms') (quiet_append marks (memory_marks networks) (take n ms') (drop n ms') here there)
 
 -- a mark for each memory
 pub marks_long : (networks : List Diagram) → length (memory_marks networks) ≡ sum_by (λ (d : Diagram). length d.elements) networks
