@@ -36,7 +36,7 @@ use keepers::{
 use node::{ClockGate, FreeGate, Gate, PacedGate};
 use node_loop::{ReaderEnds, read_field, read_input};
 use node_reports::RunFault;
-use plant::{Plant, TaskRef};
+use plant::{Plant, TaskCode, TaskRef};
 use run_command::{Ran, obey_run};
 use running_alone::Inputs;
 use standard_files::hold_standard;
@@ -48,7 +48,6 @@ use std::rt::{Clock, Env, Files};
 use std::sync::{Arc, Mutex, Wait};
 use std::thread::Threads;
 use std::{env, fs, io, thread};
-use task_codes::TaskCode;
 use text_commands::plan_of;
 use text_lines::{OnTerminal, resource_name};
 use told_run::{ToldGate, UntoldWriter};
