@@ -147,8 +147,7 @@ pub(crate) fn print_unknown_name<R: Eprint + AllocGlobal>(
 /// The form of a word of a command.
 fn form_of_words(form: WordForm) -> &'static str {
     match form {
-        WordForm::Series =>
-            "a word is NAME=VALUES, or NAME==VALUES for what a variable is to be",
+        WordForm::Series => "a word is NAME=VALUES, or NAME==VALUES for what a variable is to be",
         WordForm::Held => "a word is NAME=VALUE, for an input that is held at it",
     }
 }
@@ -163,12 +162,7 @@ fn print_form<R: Eprint>(rt: &R, word: &str, form: WordForm) -> io::Result<u8>
 }
 
 /// Tells the form of the values of a variable, and a word as an example; the status.
-fn print_values<R: Eprint>(
-    rt: &R,
-    word: &str,
-    form: &str,
-    example: &str,
-) -> io::Result<u8>
+fn print_values<R: Eprint>(rt: &R, word: &str, form: &str, example: &str) -> io::Result<u8>
     ensures { IfOk result (λ status. status ≡ 2) }
 {
     let shown = Shown(word);
@@ -220,14 +214,20 @@ fn print_refused_word<R: Eprint + AllocGlobal>(
             rt,
             word,
             source.form,
-            ("an INT: numbers from -32768 to 32767, parted by commas", "3,4,4"),
+            (
+                "an INT: numbers from -32768 to 32767, parted by commas",
+                "3,4,4",
+            ),
             ("an INT: a number from -32768 to 32767", "3"),
         ),
         WordFaultKind::BadDurations => print_bad_values(
             rt,
             word,
             source.form,
-            ("a TIME: durations up to T#2147483647ms, parted by commas", "T#5s,T#7s"),
+            (
+                "a TIME: durations up to T#2147483647ms, parted by commas",
+                "T#5s,T#7s",
+            ),
             ("a TIME: a duration up to T#2147483647ms", "T#5s"),
         ),
         WordFaultKind::NoVariable => {

@@ -191,9 +191,7 @@ fn print_verify_fault<R: Eprint + AllocGlobal>(
         }
         VerifyFault::Claim(fault) => print_claim_fault(rt, source, &request.claims, fault),
         VerifyFault::Given(fault) => print_claim_fault(rt, source, &request.given, fault),
-        VerifyFault::Held(fault) => {
-            print_fault_of_word(rt, &request.words, fault.number, fault)
-        }
+        VerifyFault::Held(fault) => { print_fault_of_word(rt, &request.words, fault.number, fault) }
         VerifyFault::TooManyInputs(_) | VerifyFault::NoTime => {
             eprintln!(rt; "plc: {fault}")?;
             Ok(WORD_REFUSED)

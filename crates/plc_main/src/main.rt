@@ -203,7 +203,9 @@ fn first_bytes(host: &HostRuntime, path: &str) -> io::Result<Vec<u8>> {
 /// What is told of the end of a line, where it isn't a line feed alone; lines count from 1. Nothing is where the text has no such
 /// line, or goes on behind the bytes that are looked at.
 fn told_end(text: &[u8], line: usize) -> &'static str {
-    let mut rows = text.split(|byte| *byte == b'\n').skip(line.saturating_sub(1));
+    let mut rows = text
+        .split(|byte| *byte == b'\n')
+        .skip(line.saturating_sub(1));
     let Some(row) = rows.next() else {
         return "";
     };
