@@ -161,33 +161,54 @@ fn print_form<R: Eprint>(rt: &R, word: &str, form: WordForm) -> io::Result<u8>
     Ok(WORD_REFUSED)
 }
 
-/// Tells the form of the values of a variable, and a word as an example; the status.
-fn print_values<R: Eprint>(rt: &R, word: &str, form: &str, example: &str) -> io::Result<u8>
-    ensures { IfOk result (λ status. status ≡ 2) }
-{
-    let shown = Shown(word);
-    let name = Shown(word.split('=').next().unwrap_or(word));
-    let sign = if word.contains("==") { "==" } else { "=" };
-    eprintln!(rt; "plc: {shown}: {name} is {form}, as {name}{sign}{example}")?;
-    Ok(WORD_REFUSED)
+/// How the values of variables of a kind are written in a word, and an example.
+#[derive(Clone, Copy)]
+struct ValueForm {
+    text: &'static str,
+    example: &'static str,
 }
 
-/// Tells why the values in a word aren't those of a variable, by what a word gives it; the status.
+impl ValueForm {
+    /// What is wrong with the values in a word of this form; none where it isn't one of these kinds.
+    fn of(fault: WordFaultKind, form: WordForm) -> Option<ValueForm> {
+        let (text, example) = match (fault, form) {
+            (WordFaultKind::BadDigits, WordForm::Series) =>
+                ("a BOOL: 1 to 1,000 digits 0 or 1, a value each", "0110"),
+            (WordFaultKind::BadDigits, WordForm::Held) => ("a BOOL: 0 or 1", "1"),
+            (WordFaultKind::BadNumbers, WordForm::Series) =>
+                ("an INT: numbers from -32768 to 32767, parted by commas", "3,4,4"),
+            (WordFaultKind::BadNumbers, WordForm::Held) =>
+                ("an INT: a number from -32768 to 32767", "3"),
+            (WordFaultKind::BadDurations, WordForm::Series) =>
+                ("a TIME: durations up to T#2147483647ms, parted by commas", "T#5s,T#7s"),
+            (WordFaultKind::BadDurations, WordForm::Held) =>
+                ("a TIME: a duration up to T#2147483647ms", "T#5s"),
+            _ => return None,
+        };
+        Some(ValueForm { text, example })
+    }
+}
+
+/// Tells how the values of the variable in a word are written, or, where the word expects what its command holds, the form of
+/// its words; the status.
 fn print_bad_values<R: Eprint>(
     rt: &R,
     word: &str,
     form: WordForm,
-    (values, values_example): (&str, &str),
-    (value, value_example): (&str, &str),
+    values: ValueForm,
 ) -> io::Result<u8>
     ensures { IfOk result (λ status. status ≡ 2) }
 {
-    match form {
-        WordForm::Series => print_values(rt, word, values, values_example),
-        // Nothing is expected of what is held.
-        WordForm::Held if word.contains("==") => print_form(rt, word, form),
-        WordForm::Held => print_values(rt, word, value, value_example),
+    let is_expectation = word.contains("==");
+    if is_expectation && form == WordForm::Held {
+        return print_form(rt, word, form);
     }
+    let shown = Shown(word);
+    let name = Shown(word.split('=').next().unwrap_or(word));
+    let sign = if is_expectation { "==" } else { "=" };
+    let ValueForm { text, example } = values;
+    eprintln!(rt; "plc: {shown}: {name} is {text}, as {name}{sign}{example}")?;
+    Ok(WORD_REFUSED)
 }
 
 /// Tells why a word NAME=VALUES or NAME==VALUES is refused, or the name of a program type: how values of its kind are written
@@ -201,40 +222,16 @@ fn print_refused_word<R: Eprint + AllocGlobal>(
     ensures { IfOk result (λ status. status ≡ 2) }
 {
     let word = words.get(fault.number).copied().unwrap_or("");
+    if let Some(values) = ValueForm::of(fault.kind, source.form) {
+        return print_bad_values(rt, word, source.form, values);
+    }
     match fault.kind {
         WordFaultKind::NoEquals => print_form(rt, word, source.form),
-        WordFaultKind::BadDigits => print_bad_values(
-            rt,
-            word,
-            source.form,
-            ("a BOOL: 1 to 1,000 digits 0 or 1, a value each", "0110"),
-            ("a BOOL: 0 or 1", "1"),
-        ),
-        WordFaultKind::BadNumbers => print_bad_values(
-            rt,
-            word,
-            source.form,
-            (
-                "an INT: numbers from -32768 to 32767, parted by commas",
-                "3,4,4",
-            ),
-            ("an INT: a number from -32768 to 32767", "3"),
-        ),
-        WordFaultKind::BadDurations => print_bad_values(
-            rt,
-            word,
-            source.form,
-            (
-                "a TIME: durations up to T#2147483647ms, parted by commas",
-                "T#5s,T#7s",
-            ),
-            ("a TIME: a duration up to T#2147483647ms", "T#5s"),
-        ),
         WordFaultKind::NoVariable => {
             print_unknown_name(rt, source, words, fault.number, Meant::Variables)
         }
-        WordFaultKind::Twice => print_fault_of_word(rt, words, fault.number, fault),
         WordFaultKind::NoProgram => print_no_program(rt, source),
+        _ => print_fault_of_word(rt, words, fault.number, fault),
     }
 }
 

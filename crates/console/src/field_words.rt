@@ -30,7 +30,7 @@ const HALVES: usize = 64;
 /// The first word that gives an address a value which one before it gives already: with the words before it alone no address
 /// has two.
 pub(crate) fn doubled_word<'a>(alloc: Global, words: &[&'a str]) -> &'a str {
-    let mut single = 0;
+    let mut single: usize = 0;
     let mut doubled = words.len();
     for _half in 0..HALVES {
         let middle = single.saturating_add(doubled.saturating_sub(single) / 2);
