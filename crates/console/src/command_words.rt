@@ -6,7 +6,7 @@ ghost use Rattle.clap.specs.Takes.{takes};
 ghost use Rattle.text_commands.specs.Restarts.{AreRestarts};
 ghost use Rattle.console.specs.CommandLine.{plc_app, IsNumber, GivesNumber, GivesOption, AsksFiles, AsksFor, AsksSecond, OnlyMemoryRefuses, given_word, words_given, claims_given, premises_given, restart_words, journals_given, is_given, GivesOneOf, GivesView, GivesColor, GivesStrictness, GivesRestarts, GivesPace, GivesEnd, GivesFull, GivesJournalFull, GivesJournalSize, plan_form};
 
-use crate::commands::commands;
+use crate::commands::{command_of, commands};
 use crate::request::{
     AuditRequest, Color, JournalFull, NodeRequest, Pace, Request, Restarts, RunRequest, SimRequest,
     Strictness, TextRequest, TraceFiles, VerifyRequest, View,
@@ -555,7 +555,7 @@ fn audit_request<'a>(alloc: Global, inner: &ArgMatches<'a>) -> Result<Request<'a
     }))
 }
 
-/// What a command of that name asks for, by what was found for it.
+/// What this command of that name asks for, by what was found for it.
 fn request_of<'a>(
     alloc: Global,
     command: &mut Command<'a>,
@@ -590,7 +590,10 @@ pub fn read_words<'a>(alloc: Global, words: &'a [String]) -> Result<Request<'a>,
     let mut command = commands(alloc)?;
     let matches = command.try_get_matches_from_mut(words)?;
     match matches.subcommand() {
-        Some((name, inner)) => request_of(alloc, &mut command, name, inner),
+        Some((name, inner)) => {
+            let mut own = command_of(alloc, name)?;
+            request_of(alloc, &mut own, name, inner)
+        }
         None => Err(command.error(ErrorKind::MissingSubcommand, "a command is missing")?),
     }
 }

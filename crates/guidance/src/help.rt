@@ -204,9 +204,7 @@ pub fn help_with_a_word(
         return near_program(alloc, text, program, meant, name);
     }
     match names_of_a_drawing(alloc, text) {
-        Some(declarations) => {
-            near_variables(alloc, &declarations, meant, "the drawing", name)
-        }
+        Some(declarations) => { near_variables(alloc, &declarations, meant, "the drawing", name) }
         None => Ok(String::new(alloc)),
     }
 }

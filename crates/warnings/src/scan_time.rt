@@ -20,14 +20,8 @@ impl ScanTime<'_> {
         ensures { result ≡ time_in self.entry name.now }
     {
         match self.program {
-            None => self.dt,
-            Some(program) => {
-                if is_named(program, name) {
-                    self.dt
-                } else {
-                    0
-                }
-            }
+            Some(program) if !is_named(program, name) => 0,
+            _ => self.dt,
         }
     }
 }
