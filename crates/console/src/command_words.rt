@@ -555,24 +555,20 @@ fn audit_request<'a>(alloc: Global, inner: &ArgMatches<'a>) -> Result<Request<'a
     }))
 }
 
-/// What this command of that name asks for, by what was found for it.
-fn request_of<'a>(
-    alloc: Global,
-    command: &mut Command<'a>,
-    name: &str,
-    inner: &ArgMatches<'a>,
-) -> Result<Request<'a>, Error>
+/// What a command of that name asks for, by what was found for it. A refusal tells the use of this command.
+fn request_of<'a>(alloc: Global, name: &str, inner: &ArgMatches<'a>) -> Result<Request<'a>, Error>
     ensures ok { IfOk result (AsksFor (Some (name.now, rows_of (found_of inner.now)))) }
     ensures refused { IfErr result (OnlyMemoryRefuses (AsksFor (Some (name.now, rows_of (found_of inner.now))))) }
 {
+    let mut command = command_of(alloc, name)?;
     match name {
-        "eval" => eval_request(alloc, command, inner),
-        "verify" => verify_request(alloc, command, inner),
-        "check" => check_request(command, inner),
-        "plan" => plan_request(command, inner),
-        "sim" => sim_request(command, inner),
-        "run" => run_request(alloc, command, inner),
-        "node" => node_request(command, inner),
+        "eval" => eval_request(alloc, &mut command, inner),
+        "verify" => verify_request(alloc, &mut command, inner),
+        "check" => check_request(&mut command, inner),
+        "plan" => plan_request(&mut command, inner),
+        "sim" => sim_request(&mut command, inner),
+        "run" => run_request(alloc, &mut command, inner),
+        "node" => node_request(&mut command, inner),
         "audit" => audit_request(alloc, inner),
         "page" => Ok(Request::Page(given_word(inner, "FILE"))),
         "explain" => Ok(Request::Explain(word_of(inner, "KIND"))),
@@ -590,10 +586,7 @@ pub fn read_words<'a>(alloc: Global, words: &'a [String]) -> Result<Request<'a>,
     let mut command = commands(alloc)?;
     let matches = command.try_get_matches_from_mut(words)?;
     match matches.subcommand() {
-        Some((name, inner)) => {
-            let mut own = command_of(alloc, name)?;
-            request_of(alloc, &mut own, name, inner)
-        }
+        Some((name, inner)) => request_of(alloc, name, inner),
         None => Err(command.error(ErrorKind::MissingSubcommand, "a command is missing")?),
     }
 }

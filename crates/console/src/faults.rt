@@ -172,17 +172,27 @@ impl ValueForm {
     /// What is wrong with the values in a word of this form; none where it isn't one of these kinds.
     fn of(fault: WordFaultKind, form: WordForm) -> Option<ValueForm> {
         let (text, example) = match (fault, form) {
-            (WordFaultKind::BadDigits, WordForm::Series) =>
-                ("a BOOL: 1 to 1,000 digits 0 or 1, a value each", "0110"),
+            (WordFaultKind::BadDigits, WordForm::Series) => (
+                "a BOOL: 1 to 1,000 digits 0 or 1, a value each",
+                "0110",
+            ),
             (WordFaultKind::BadDigits, WordForm::Held) => ("a BOOL: 0 or 1", "1"),
-            (WordFaultKind::BadNumbers, WordForm::Series) =>
-                ("an INT: numbers from -32768 to 32767, parted by commas", "3,4,4"),
-            (WordFaultKind::BadNumbers, WordForm::Held) =>
-                ("an INT: a number from -32768 to 32767", "3"),
-            (WordFaultKind::BadDurations, WordForm::Series) =>
-                ("a TIME: durations up to T#2147483647ms, parted by commas", "T#5s,T#7s"),
-            (WordFaultKind::BadDurations, WordForm::Held) =>
-                ("a TIME: a duration up to T#2147483647ms", "T#5s"),
+            (WordFaultKind::BadNumbers, WordForm::Series) => (
+                "an INT: numbers from -32768 to 32767, parted by commas",
+                "3,4,4",
+            ),
+            (WordFaultKind::BadNumbers, WordForm::Held) => (
+                "an INT: a number from -32768 to 32767",
+                "3",
+            ),
+            (WordFaultKind::BadDurations, WordForm::Series) => (
+                "a TIME: durations up to T#2147483647ms, parted by commas",
+                "T#5s,T#7s",
+            ),
+            (WordFaultKind::BadDurations, WordForm::Held) => (
+                "a TIME: a duration up to T#2147483647ms",
+                "T#5s",
+            ),
             _ => return None,
         };
         Some(ValueForm { text, example })

@@ -154,13 +154,6 @@ fn tell_drawing<R: Eprint + AllocGlobal>(
     }
 }
 
-/// So many milliseconds from each evaluation to the next, of all programs; with 0 none is judged.
-fn time_of_all(dt: u32) -> ScanTime<'static>
-    ensures { result ≡ time_of_all dt }
-{
-    ScanTime { dt, program: None }
-}
-
 /// Whether nothing is warned of in a plant.
 fn is_plant_quiet(warnings: &PlantWarnings) -> bool
     ensures { result ≡ is_plant_quiet warnings.now }
@@ -277,7 +270,8 @@ pub fn warn_of_a_plant<R: Eprint + AllocGlobal>(
     match strictness {
         Strictness::Silent => Ok(status),
         Strictness::Told | Strictness::Strict => {
-            let told = tell_plant(rt, file, time_of_all(dt), text)?;
+            let time = ScanTime { dt, program: None };
+            let told = tell_plant(rt, file, time, text)?;
             status_behind(rt, told, strictness, status)
         }
     }
@@ -293,7 +287,13 @@ fn tell_request<R: Eprint + AllocGlobal>(
 {
     match request {
         TextRequest::Eval { program, .. } => tell_ladder(rt, request.file(), *program, 0, text),
-        TextRequest::Check { .. } => tell_plant(rt, request.file(), time_of_all(0), text),
+        TextRequest::Check { .. } => {
+            let time = ScanTime {
+                dt: 0,
+                program: None,
+            };
+            tell_plant(rt, request.file(), time, text)
+        }
         TextRequest::Plan { .. } => Ok(Ok(true)),
     }
 }

@@ -31,15 +31,6 @@ fn bears_state_name(name: &str) -> bool
         || ends_in(name, ".tmp")
 }
 
-impl FileUse<'_> {
-    /// Whether it is written, or is the folder of state, and is named by `-`, which names none.
-    fn is_nameless(&self) -> bool
-        ensures { result ≡ is_nameless self.now }
-    {
-        self.option.is_some() && self.path == "-"
-    }
-}
-
 impl Identity<'_> {
     fn is_same(&self, other: &Identity<'_>) -> bool
         ensures { result ≡ is_same self.now other.now }
@@ -70,6 +61,15 @@ pub struct FileUse<'a> {
     pub identity: Option<Identity<'a>>,
     /// Where it is written: its folder, and its name there. None: the system doesn't know them, or it isn't written.
     pub place: Option<Identity<'a>>,
+}
+
+impl FileUse<'_> {
+    /// Whether it is written, or is the folder of state, and is named by `-`, which names none.
+    fn is_nameless(&self) -> bool
+        ensures { result ≡ is_nameless self.now }
+    {
+        self.option.is_some() && self.path == "-"
+    }
 }
 
 /// Whether two paths are known to be of one file.
