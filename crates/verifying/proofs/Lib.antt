@@ -5,14 +5,14 @@ mod Clipping
 pub mod RowNumbers
 pub mod SetInputs
 pub mod Leading
-pub pub mod Tracing
-pub pub mod Rows
+pub mod Tracing
+pub mod Rows
 pub mod Slicing
 pub mod Beginning
 pub mod Exploring
 pub mod Counting
 mod Searching
-pub pub mod Marking
+pub mod Marking
 pub mod Premising
 pub mod Reading
 pub mod Wording

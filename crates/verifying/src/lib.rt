@@ -2,6 +2,7 @@
 //! it of a drawing, `verify`.
 #![tactic(auto)]
 
+mod all_inputs;
 mod asked;
 mod claims;
 mod fault_from;
@@ -27,15 +28,17 @@ mod verdict_lines;
 mod verdict_words;
 mod verify_command;
 mod verify_fault;
-mod whole_rows;
 
+pub use all_inputs::whole_rows;
 pub use laws::never_of_whole;
+pub use premises::push_premise_line;
 pub use prepared::Prepared;
 pub use question::Question;
 pub use row::Row;
 pub use search::verify;
-pub use setup::{Setting, Setup};
+pub use setup::{Setting, Setup, is_on};
 pub use summary::Summary;
 pub use verdict::{Found, Tally, Verdict};
+pub use verdict_lines::{push_counted, push_needed_of, push_run};
 pub use verify_command::{prepare, verify_text};
 pub use verify_fault::{ClaimFault, ClaimFaultKind, HeldFault, HeldFaultKind, VerifyFault};
