@@ -63,8 +63,7 @@ impl Cone {
     }
 }
 
-/// The variables of the state, of the constraint and of a goal, and all that these are made of. Values of them go on to all
-/// others.
+/// The variables of the constraint and of a goal, and all that these are made of.
 pub(crate) fn cone_of(
     alloc: Global,
     system: &TransitionSystem,
@@ -72,7 +71,6 @@ pub(crate) fn cone_of(
 ) -> Result<Cone, AllocError> {
     let gates = system.gates.gates();
     let mut cone = Cone::new(alloc, gates)?;
-    cone.put_all(&system.state)?;
     cone.put(system.constraint.variable)?;
     cone.put_all(goal)?;
     cone.fill(gates)?;

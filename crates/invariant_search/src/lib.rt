@@ -1,17 +1,17 @@
 //! The search for why a system is never bad, or for a run on which it is: property-directed reachability. Nothing is believed
-//! of it but what `transition_systems` checks of a certificate. In this order: cubes, what signals depend on, frames, solvers over
-//! them, queries, certificates, the search; and beside it a search depth by depth for a shortest run.
+//! of it: a certificate is checked, and a run done, before it is handed out. In this order: cubes, what signals depend on,
+//! frames, solvers over them, queries, obligations, the search; certificates; and what is found.
 #![tactic(auto)]
 
 mod certifying;
 mod cones;
 mod cubes;
+mod finding;
 mod frame_solver;
 mod frames;
+mod obligations;
 mod queries;
 mod search;
-mod unrolling;
 
 pub use certifying::certify;
-pub use search::{Found, find};
-pub use unrolling::{Shortest, shortest_run};
+pub use finding::{BadRun, Found, find};

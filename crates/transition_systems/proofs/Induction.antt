@@ -1,20 +1,20 @@
--- A certificate holds for ever.
-use Rattle.std.proofs.Common.{Bool, List, [], ◌∷◌, subst, sym}
+-- What is shown of a step, step by step.
+use Rattle.std.proofs.Common.{◌≡◌, ℕ, ◌+◌, ◌<◌, ◌≤◌, Bool, List, [], ◌∷◌, length, subst, sym, arith}
 use Rattle.std.specs.Global.{Vec}
 use Rattle.clauses.specs.declared.literal.Literal.{Literal}
 use Rattle.clauses.specs.declared.step.Step.{Step}
 use Rattle.clauses.specs.Clauses.{AreFollowing}
+use Rattle.transition_systems.specs.declared.certificate.Certificate.{Certificate}
 use Rattle.transition_systems.specs.declared.system.TransitionSystem.{TransitionSystem}
 use Rattle.transition_systems.specs.Systems.{NeverBad, NeverBadFrom, bits_at}
-use Rattle.transition_systems.specs.Certificates.{HoldOf, IsInductive}
+use Rattle.transition_systems.specs.Certificates.{AreInductive, HoldOf, LeadTo}
+use Rattle.transition_systems.specs.Steps.Frames.{clauses_or}
 use Rattle.transition_systems.specs.Steps.Inductive.{AreShown, IsFormula, IsShownFalse}
 
--- what steps that follow show is that the clauses are inductive
-pub inductive : (t : TransitionSystem) (clauses formula : List (Vec Literal)) (steps : List Step) → HoldOf clauses t.first.items
-    → IsFormula t clauses formula → AreFollowing formula steps → AreShown steps clauses t.next.items → IsShownFalse steps t.bad
-    → IsInductive t clauses
-inductive t clauses formula steps first is following kept safe = record {
-  at_first = first;
+-- what steps that follow show of a step of the system
+pub lead_to : (t : TransitionSystem) (clauses next formula : List (Vec Literal)) (steps : List Step) → IsFormula t clauses formula
+    → AreFollowing formula steps → AreShown steps next t.next.items → IsShownFalse steps t.bad → LeadTo t clauses next
+lead_to t clauses next formula steps is following kept safe = record {
   safe = λ state row v holds at given.
       safe formula following v (is v at.agree given (subst (HoldOf clauses) (sym at.state_is) holds));
   kept = λ state row v holds at given.
@@ -22,14 +22,26 @@ inductive t clauses formula steps first is following kept safe = record {
 }
 
 -- from a state of which inductive clauses hold, none is bad
-never_from : (t : TransitionSystem) (clauses : List (Vec Literal)) → IsInductive t clauses
+never_from : (t : TransitionSystem) (clauses : List (Vec Literal)) → LeadTo t clauses clauses
     → (rows : List (List Bool)) (state : List Bool) → HoldOf clauses state → NeverBadFrom t state rows
-never_from t clauses is [] state holds = tt
-never_from t clauses is (row ∷ rows) state holds = λ v at given. (
-  is.safe state row v holds at given,
-  never_from t clauses is rows (bits_at v t.next.items) (is.kept state row v holds at given),
+never_from t clauses ever [] state holds = tt
+never_from t clauses ever (row ∷ rows) state holds = λ v at given. (
+  ever.safe state row v holds at given,
+  never_from t clauses ever rows (bits_at v t.next.items) (ever.kept state row v holds at given),
 )
 
 -- a system with inductive clauses is never bad
-pub never_bad : (t : TransitionSystem) (clauses : List (Vec Literal)) → IsInductive t clauses → NeverBad t
-never_bad t clauses is = λ rows. never_from t clauses is rows t.first.items is.at_first
+pub never_bad : (t : TransitionSystem) (clauses : List (Vec Literal)) → AreInductive t clauses → NeverBad t
+never_bad t clauses are = λ rows. never_from t clauses are.ever rows t.first.items are.at_first
+
+-- from a state of which the clauses of a frame hold, none is bad under as many rows as there are frames from it on
+pub never_within : (t : TransitionSystem) (frames : List Certificate) (none : List (Vec Literal))
+    → ((k : ℕ) → k < length frames → LeadTo t (clauses_or frames k none) (clauses_or frames (k + 1) none))
+    → (rows : List (List Bool)) (k : ℕ) (state : List Bool) → k + length rows ≤ length frames → HoldOf (clauses_or frames k none) state
+    → NeverBadFrom t state rows
+never_within t frames none lead [] k state le holds = tt
+never_within t frames none lead (row ∷ rows) k state le holds = λ v at given.
+    let step = lead k (omega arith) in (
+      step.safe state row v holds at given,
+      never_within t frames none lead rows (k + 1) (bits_at v t.next.items) (omega arith) (step.kept state row v holds at given),
+    )

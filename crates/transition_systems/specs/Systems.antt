@@ -1,5 +1,5 @@
 -- What a transition system does.
-use Rattle.std.specs.Prelude.{◌≡◌, ℕ, ⊤, List, [], ◌∷◌, Bool, true, false, length, map}
+use Rattle.std.specs.Prelude.{◌≡◌, ◌≤◌, ℕ, ⊤, List, [], ◌∷◌, Bool, true, false, length, map}
 use Rattle.gates.specs.declared.signal.Signal.{Signal}
 use Rattle.gates.specs.Signals.{signal_value}
 use Rattle.gates.specs.Gates.{Agrees}
@@ -24,6 +24,10 @@ NeverBadFrom t state (row ∷ rows) = (v : ℕ → Bool) → AreValuesAt t state
 -- so it is from the first state on, whatever the rows are
 abbrev pub NeverBad : TransitionSystem → Type 0
 NeverBad t = (rows : List (List Bool)) → NeverBadFrom t t.first.items rows
+
+-- so it is for so many rows or fewer
+abbrev pub NeverBadWithin : TransitionSystem → ℕ → Type 0
+NeverBadWithin t count = (rows : List (List Bool)) → length rows ≤ count → NeverBadFrom t t.first.items rows
 
 -- the system goes on from each state under each row
 pub record IsWhole (t : TransitionSystem) : Type 0 where

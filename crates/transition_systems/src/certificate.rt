@@ -6,7 +6,7 @@ pub struct Certificate {
     pub clauses: Vec<Vec<Literal>>,
     /// Steps from the formula of a step of the system.
     pub steps: Vec<Step>,
-    /// For each clause, the number of the step that shows it of the next state.
+    /// For each clause of the next state, the number of the step that shows it.
     pub kept: Vec<usize>,
     /// The number of the step that shows that this one isn't bad.
     pub safe: usize,

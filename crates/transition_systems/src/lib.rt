@@ -1,5 +1,6 @@
-//! Systems of state bits that step under rows of inputs, and certificates that none is ever bad: whoever made one isn't
-//! believed, since it is checked. In this order: systems, whether one fits together, runs, certificates, their check.
+//! Systems of state bits that step under rows of inputs, and certificates that none is ever bad, or not under so many rows:
+//! whoever made one isn't believed, since it is checked. In this order: systems, whether one fits together, runs,
+//! certificates, their check, frames.
 #![tactic(auto)]
 
 mod certificate;
@@ -7,6 +8,7 @@ mod certificate_fault;
 mod checking;
 mod first_state;
 mod formula;
+mod frames;
 mod obligations;
 mod over_signals;
 mod runs;
@@ -17,6 +19,7 @@ pub use certificate::Certificate;
 pub use certificate_fault::CertificateFault;
 pub use checking::check_certificate;
 pub use formula::formula_of;
+pub use frames::check_frames;
 pub use over_signals::clause_over;
 pub use runs::reaches_bad;
 pub use shape::is_whole;
