@@ -1,5 +1,5 @@
 -- Blocks by their signals.
-use Rattle.std.proofs.Common.{◌≡◌, ℕ, ◌+◌, ◌≤◌, List, [], ◌∷◌, Bool, length, get_or, drop, map, refl, ap, ◌∙◌, arith}
+use Rattle.std.proofs.Common.{◌≡◌, ℕ, ◌≤◌, List, [], ◌∷◌, Bool, length, get_or, drop, map, refl, ap, arith}
 use Rattle.gates.specs.declared.signal.Signal.{Signal}
 use Rattle.gates.specs.Signals.{signal_value}
 use Rattle.block_gates.specs.declared.instance.EncodedInstance.{EncodedInstance}
@@ -38,6 +38,11 @@ outputs_read v (block.TON t) = refl
 outputs_read v (block.TOF t) = refl
 
 -- a list by its first items and the others
+pub only_one : (xs : List Signal) (a : Signal) → length xs ≡ 1 → (get_or xs 0 a ∷ []) ≡ xs
+only_one [] a long = absurd (omega arith)
+only_one (x ∷ []) a long = refl
+only_one (x ∷ y ∷ xs) a long = absurd (omega arith)
+
 pub first_two : (xs rest : List Signal) (a b : Signal) → 2 ≤ length xs → rest ≡ drop 2 xs → (get_or xs 0 a ∷ get_or xs 1 b ∷ rest) ≡ xs
 first_two [] rest a b le e = absurd (omega (arith, le))
 first_two (x ∷ []) rest a b le e = absurd (omega (arith, le))

@@ -1,6 +1,5 @@
 -- What blocks are and read, once each variable has a value.
-use Rattle.std.specs.Prelude.{◌≡◌, ℕ, List, [], ◌∷◌, Bool, false, ℤ, pos}
-use Rattle.gates.specs.declared.signal.Signal.{Signal}
+use Rattle.std.specs.Prelude.{◌≡◌, ℕ, [], ◌∷◌, Bool, false, ℤ, pos}
 use Rattle.gates.specs.Signals.{signal_value}
 use Rattle.gate_words.specs.Values.{int_at, time_at}
 use Rattle.std_blocks.specs.declared.block_state.BlockState.{BlockState}

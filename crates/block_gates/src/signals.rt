@@ -1,4 +1,4 @@
-ghost use Rattle.std.specs.Prelude.{◌≡◌, ◌∷◌, ℕ, Bool, length, map};
+ghost use Rattle.std.specs.Prelude.{◌≡◌, [], ◌∷◌, ℕ, Bool, length, map};
 ghost use Rattle.gates.specs.Signals.{signal_value};
 ghost use Rattle.block_gates.specs.declared.instance.EncodedInstance.{EncodedInstance as InstanceValue};
 ghost use Rattle.block_gates.specs.Blocks.{outputs_at, state_at, type_of};
@@ -37,6 +37,13 @@ pub fn time_word(signals: &[Signal]) -> TimeWord
     let mut bits = [signals[0]; 32];
     bits.copy_from_slice(signals);
     TimeWord { bits }
+}
+
+fn only(signals: &[Signal]) -> Signal
+    requires { length signals.now ≡ 1 }
+    ensures { (result ∷ []) ≡ signals.now }
+{
+    signals[0]
 }
 
 fn counter(signals: &[Signal]) -> EncodedCounter
@@ -104,8 +111,8 @@ impl EncodedInstance {
         ensures signals { instance_signals result ≡ signals.now }
     {
         match block {
-            BlockType::SR => EncodedInstance::SR(signals[0]),
-            BlockType::RS => EncodedInstance::RS(signals[0]),
+            BlockType::SR => EncodedInstance::SR(only(signals)),
+            BlockType::RS => EncodedInstance::RS(only(signals)),
             BlockType::CTU => EncodedInstance::CTU(counter(signals)),
             BlockType::CTD => EncodedInstance::CTD(counter(signals)),
             BlockType::CTUD => EncodedInstance::CTUD(up_down(signals)),

@@ -10,7 +10,7 @@ use borrow.Author.Differences.{up, down, same_out, sum_is_lem, true_is_le, false
 use mir.Val.{sel}
 use Rattle.gates.specs.declared.signal.Signal.{Signal}
 use Rattle.gates.specs.Signals.{signal_value}
-use Rattle.gate_words.specs.Words.{number_of, word_value}
+use Rattle.gate_words.specs.Words.{word_value}
 use Rattle.gate_words.specs.Values.{IsRaised}
 use Rattle.gate_words.specs.Steps.Bits.{bit_at, low_value, weight, IsFlipped}
 use Rattle.gate_words.proofs.LowValues.{low_lt, low_more, weight_is, weight_more}

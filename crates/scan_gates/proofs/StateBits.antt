@@ -1,6 +1,5 @@
 -- States by the values of their signals.
-use Rattle.std.proofs.Common.{◌≡◌, ℕ, ◌+◌, ◌<◌, ◌++◌, List, [], ◌∷◌, Bool, true, false, cond, length, map, get_or, take, drop, refl, sym, ap, ◌∙◌}
-use Rattle.std.specs.List.{AllZip}
+use Rattle.std.proofs.Common.{◌≡◌, ℕ, ◌+◌, ◌<◌, ◌++◌, List, [], ◌∷◌, Bool, true, false, cond, length, get_or, take, drop, refl, sym, ap, ◌∙◌, arith}
 use Rattle.std.proofs.Math.Seq.{take-append_seam, drop-append_seam}
 use Rattle.std.proofs.lemmas.List.{append_assoc, length-append, length-map, map-append, map_push, take_more}
 use Rattle.gates.specs.declared.signal.Signal.{Signal}
@@ -9,7 +8,6 @@ use Rattle.block_gates.specs.declared.instance.EncodedInstance.TheVariants as bl
 use Rattle.scan_gates.specs.declared.encoded.EncodedSlot.{EncodedSlot}
 use Rattle.scan_gates.specs.declared.encoded.EncodedSlot.TheVariants.{Variable, Block}
 use Rattle.scan_gates.specs.declared.encoded.EncodedValue.TheVariants as encoded
-use Rattle.scan_gates.specs.declared.shape.Shape.{Shape}
 use Rattle.scan_gates.specs.Encoded.{bits_at, slot_at, slots_at}
 use Rattle.scan_gates.specs.States.{AreLike, IsLike, shape_of, slot_of, slot_signals, state_signals, width_of}
 use Rattle.scan_gates.specs.Steps.Pushing.{HasMore}
@@ -35,12 +33,12 @@ so_many (Variable (encoded.Int word)) = word.many
 so_many (Variable (encoded.Time word)) = word.many
 so_many (Block (block.SR q1)) = refl
 so_many (Block (block.RS q1)) = refl
-so_many (Block (block.CTU c)) = ap (λ n. n + 1 + 1) c.count.many
-so_many (Block (block.CTD c)) = ap (λ n. n + 1 + 1) c.count.many
-so_many (Block (block.CTUD c)) = ap (λ n. n + 1 + 1 + 1 + 1) c.count.many
-so_many (Block (block.TP t)) = ap (λ n. n + 1 + 1) t.elapsed.many
-so_many (Block (block.TON t)) = ap (λ n. n + 1 + 1) t.elapsed.many
-so_many (Block (block.TOF t)) = ap (λ n. n + 1 + 1) t.elapsed.many
+so_many (Block (block.CTU c)) = let e = c.count.many in omega (arith, e)
+so_many (Block (block.CTD c)) = let e = c.count.many in omega (arith, e)
+so_many (Block (block.CTUD c)) = let e = c.count.many in omega (arith, e)
+so_many (Block (block.TP t)) = let e = t.elapsed.many in omega (arith, e)
+so_many (Block (block.TON t)) = let e = t.elapsed.many in omega (arith, e)
+so_many (Block (block.TOF t)) = let e = t.elapsed.many in omega (arith, e)
 
 pub like_many : (a b : EncodedSlot) → IsLike a b → length (slot_signals a) ≡ length (slot_signals b)
 like_many a b like = so_many a ∙ ap width_of like ∙ sym (so_many b)

@@ -1,4 +1,4 @@
-use Rattle.std.proofs.Common.{◌&&◌, ◌||◌, true, cond, ltb, ap, ◌∙◌}
+use Rattle.std.proofs.Common.{◌&&◌, true, cond, ltb, ap, ◌∙◌}
 use Rattle.gates.specs.Signals.{signal_value}
 use Rattle.gate_words.specs.Values.{time_at}
 use Rattle.block_gates.proofs.Both.{or_is}

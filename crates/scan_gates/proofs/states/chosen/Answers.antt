@@ -1,4 +1,4 @@
-use Rattle.std.proofs.Common.{◌≡◌, length, ap, sym, ◌∙◌}
+use Rattle.std.proofs.Common.{length, ap, sym, ◌∙◌}
 use Rattle.gates.specs.Signals.{signal_value}
 use Rattle.scan_gates.specs.Encoded.{bits_at}
 use Rattle.scan_gates.proofs.StateBits.{like_many, slot_chosen, so_many}

@@ -1,4 +1,4 @@
-use Rattle.std.proofs.Common.{◌≡◌, cond, ap, ◌∙◌}
+use Rattle.std.proofs.Common.{cond, ap, ◌∙◌}
 use Rattle.std.specs.Int.{cast_signed, w16}
 use Rattle.gates.specs.Signals.{signal_value}
 use Rattle.gate_words.specs.Words.{word_value}

@@ -14,5 +14,6 @@ returns c = λ v agrees.
     let same : word_value v bits ≡ n = ap (word_value v) c.as_slice-bits.ensures.value ∙ c.in_ok-word.ensures v agrees ∙ wide in
     let fits : n < 2 ^ 16 = search rules in
     let small : FitsSigned w16 c.args.number = search rules in
+    let whole = to_z-of_z w16 c.args.number small in
     ap (cast_signed w16) (c.in_ok-new.ensures v agrees (same_lt (word_value v bits) n (2 ^ 16) same fits) ∙ same)
-    ∙ ap (cast_signed w16) c.cast_unsigned-unsigned.ensures ∙ to_z-of_z w16 c.args.number small
+    ∙ ap (cast_signed w16) c.cast_unsigned-unsigned.ensures ∙ ap (λ z. cast_signed w16 (cast_unsigned w16 z)) whole ∙ whole

@@ -1,4 +1,4 @@
-use Rattle.std.proofs.Common.{◌<◌, subst, ℕ}
+use Rattle.std.proofs.Common.{subst, ℕ}
 use Rattle.std.specs.Int.{cast_signed, w16}
 use Rattle.gate_words.specs.Words.{word_value}
 use Rattle.gate_words.specs.Values.{IsRaised}

@@ -1,4 +1,4 @@
-use Rattle.std.proofs.Common.{◌≡◌, ◌+◌, ◌^◌, min, ap, ◌∙◌}
+use Rattle.std.proofs.Common.{◌+◌, ◌^◌, min, ap, ◌∙◌}
 use Rattle.gate_words.specs.Words.{word_value}
 use Rattle.gate_words.proofs.Fixed.{min_lt, same_lt, word_lt}
 use Rattle.gate_words.proofs.time_word.TimeWord.bounded_sum.Goals as goal
