@@ -6,7 +6,7 @@ use Rattle.network.specs.Links.{Diagram}
 use Rattle.drawings.specs.declared.place.Place.{Place}
 use Rattle.power_flow.specs.declared.steps.circuit.Circuit.{Circuit}
 use Rattle.power_flow.specs.Steps.Circuit.{circuit_diagram}
-use Rattle.certified_claims.specs.BitNames.{memory_name}
+use Rattle.certified_claims.specs.BitNames.{memory_bits}
 
 -- one more
 pub pushed : {A B : Type 0} (f : A → B) (old new : List A) (x : A) (y : B) → new ≡ old ++ x ∷ [] → f x ≡ y → map f new ≡ map f old ++ y ∷ []
@@ -55,8 +55,8 @@ flat_more f xs a b c i d lt one two =
     two_more a b c (flat_map f (take i xs)) (f (get_or xs i d)) one two
     ∙ ap (λ l. a ++ l) (sym (flat-push f (take i xs) (get_or xs i d)) ∙ ap (flat_map f) (sym (take_more xs i d lt)))
 
--- the elements of circuits are those of their networks
+-- the memories of circuits are those of their networks
 pub memories_of : (rails : List Place) (circuits : List Circuit)
-    → flat_map (λ (n : Diagram). map memory_name n.elements) (map (circuit_diagram rails) circuits) ≡ flat_map (λ (c : Circuit). map memory_name c.elements.items) circuits
+    → flat_map (λ (n : Diagram). flat_map memory_bits n.elements) (map (circuit_diagram rails) circuits) ≡ flat_map (λ (c : Circuit). flat_map memory_bits c.elements.items) circuits
 memories_of rails [] = refl
-memories_of rails (c ∷ circuits) = ap (λ l. map memory_name c.elements.items ++ l) (memories_of rails circuits)
+memories_of rails (c ∷ circuits) = ap (λ l. flat_map memory_bits c.elements.items ++ l) (memories_of rails circuits)

@@ -1,14 +1,14 @@
 -- What the state bits of a ladder are called.
-use Rattle.std.specs.Prelude.{ℕ, ◌++◌, List, [], ◌∷◌, codes, map}
+use Rattle.std.specs.Prelude.{ℕ, ◌++◌, if◌then◌else◌, List, [], ◌∷◌, codes, map}
 use Rattle.std.specs.Fmt.{decimal}
 use Rattle.std.specs.List.{flat_map, range_with_len}
 use Rattle.std_blocks.specs.declared.block_type.BlockType.{BlockType}
 use Rattle.std_blocks.specs.declared.block_type.BlockType.TheVariants.{SR, RS, CTU, CTD, CTUD, TP, TON, TOF}
 use Rattle.drawings.specs.declared.place.Place.{Place}
-use Rattle.network.specs.Apart.{first_place}
-use Rattle.network.specs.Links.{Diagram}
+use Rattle.network.specs.Links.{Diagram, place}
 use Rattle.network.specs.declared.element.Element.{Element}
 use Rattle.network.specs.declared.element.Element.TheVariants.{Wire, Join, Upright, Contact, Coil, Box}
+use Rattle.ladder_systems.specs.Remembering.{is_edge_coil, is_edge_contact}
 use Rattle.declared_names.specs.declared.declarations.Declaration.{Declaration}
 use Rattle.declared_names.specs.declared.declarations.Declared.{Declared}
 use Rattle.declared_names.specs.declared.declarations.Declared.TheVariants.{Input, Output, Local, Instance}
@@ -52,16 +52,20 @@ declared_bits name (Instance b) = block_bits name b
 abbrev pub place_text : Place → List ℕ
 place_text p = decimal p.row ++ codes ":" ++ decimal p.column
 
--- the memory of an element, by its variable and its place
-abbrev pub memory_name : Element → List ℕ
-memory_name (Wire at) = place_text at
-memory_name (Join at) = place_text at
-memory_name (Upright at) = place_text at
-memory_name (Contact c) = c.name ++ codes " at " ++ place_text (first_place (Contact c))
-memory_name (Coil c) = c.name ++ codes " at " ++ place_text (first_place (Coil c))
-memory_name (Box b) = place_text (first_place (Box b))
+-- what a symbol is called, by its variable and its place
+abbrev pub name_at : List ℕ → Place → List ℕ
+name_at name at = name ++ codes " at " ++ place_text at
+
+-- the memory of a contact or a coil of an edge
+abbrev pub memory_bits : Element → List (List ℕ)
+memory_bits (Wire at) = []
+memory_bits (Join at) = []
+memory_bits (Upright at) = []
+memory_bits (Contact c) = if is_edge_contact c.kind then name_at c.name (place c.row c.column) ∷ [] else []
+memory_bits (Coil c) = if is_edge_coil c.kind then name_at c.name (place c.row c.column) ∷ [] else []
+memory_bits (Box b) = []
 
 -- those of all declared names in their order, and behind them those of the memories
 abbrev pub bit_names : List Declaration → List Diagram → List (List ℕ)
 bit_names ds networks = flat_map (λ (d : Declaration). declared_bits d.name d.declared) ds
-    ++ flat_map (λ (n : Diagram). map memory_name n.elements) networks
+    ++ flat_map (λ (n : Diagram). flat_map memory_bits n.elements) networks

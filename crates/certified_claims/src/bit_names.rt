@@ -2,12 +2,13 @@
 
 ghost use Rattle.std.specs.Prelude.{◌≡◌, ◌++◌, ◌∷◌, [], IfOk, OnOk, codes, length, map, string_bytes};
 ghost use Rattle.std.specs.List.{flat_map};
-ghost use Rattle.network.specs.Links.{Diagram};
+ghost use Rattle.network.specs.Links.{place};
 ghost use Rattle.power_flow.specs.declared.steps.circuit.Circuit.{Circuit as CircuitRecord};
-ghost use Rattle.certified_claims.specs.BitNames.{bit_names, block_bits, declared_bits, digits, memory_name, part, place_text, variable_bits};
+ghost use Rattle.certified_claims.specs.BitNames.{bit_names, block_bits, declared_bits, digits, memory_bits, name_at, part, place_text, variable_bits};
 
 use declared_names::{Declared, Kind};
 use drawings::Place;
+use ladder_systems::{is_edge_coil, is_edge_contact};
 use network::Element;
 use power_flow::{Circuit, Ladder};
 use std::alloc::{AllocError, Global};
@@ -127,35 +128,48 @@ fn place_text(alloc: Global, at: Place) -> Result<String, AllocError>
     format!(in alloc; "{}:{}", at.row, at.column)
 }
 
+/// The place in a row and a column.
+fn place(row: usize, column: usize) -> Place
+    ensures { result ≡ place row column }
+{
+    Place { row, column }
+}
+
 /// A name at a place.
 fn named_at(alloc: Global, name: &str, at: Place) -> Result<String, AllocError>
-    ensures { IfOk result (λ text. string_bytes text ≡ name.now ++ codes " at " ++ place_text at) }
+    ensures { IfOk result (λ text. string_bytes text ≡ name_at name.now at) }
 {
     let place = place_text(alloc, at)?;
     format!(in alloc; "{name} at {place}")
 }
 
-/// The name of the memory of an element.
-fn memory_name(alloc: Global, element: &Element) -> Result<String, AllocError>
-    ensures { IfOk result (λ name. string_bytes name ≡ memory_name element.now) }
+/// Adds the name of the memory of an element, if it remembers anything.
+fn push_memory(alloc: Global, element: &Element, names: &mut Vec<String>) -> Result<(), AllocError>
+    ensures { OnOk result (map (λ n. string_bytes n) names.new.items ≡ map (λ n. string_bytes n) names.old.items ++ memory_bits element.now) }
 {
-    let at = element.first_place();
     match element {
-        Element::Contact(contact) => named_at(alloc, contact.name.as_str(), at),
-        Element::Coil(coil) => named_at(alloc, coil.name.as_str(), at),
-        Element::Wire(_) | Element::Join(_) | Element::Upright(_) | Element::Box(_) => {
-            place_text(alloc, at)
+        Element::Contact(contact) if is_edge_contact(contact.kind) => {
+            let at = place(contact.row, contact.column);
+            let made = named_at(alloc, contact.name.as_str(), at)?;
+            push_name(made, names)
         }
+        Element::Coil(coil) if is_edge_coil(coil.kind) => {
+            let at = place(coil.row, coil.column);
+            let made = named_at(alloc, coil.name.as_str(), at)?;
+            push_name(made, names)
+        }
+        Element::Contact(_) | Element::Coil(_) => Ok(()),
+        Element::Wire(_) | Element::Join(_) | Element::Upright(_) | Element::Box(_) => Ok(()),
     }
 }
 
 /// Adds the names of the memories of a network.
 fn push_memories(alloc: Global, elements: &[Element], names: &mut Vec<String>) -> Result<(), AllocError>
-    ensures { OnOk result (map (λ n. string_bytes n) names.new.items ≡ map (λ n. string_bytes n) names.old.items ++ map memory_name elements.now) }
+    ensures { OnOk result (map (λ n. string_bytes n) names.new.items
+        ≡ map (λ n. string_bytes n) names.old.items ++ flat_map memory_bits elements.now) }
 {
     for element in elements {
-        let made = memory_name(alloc, element)?;
-        push_name(made, names)?;
+        push_memory(alloc, element, names)?;
     }
     Ok(())
 }
@@ -163,7 +177,7 @@ fn push_memories(alloc: Global, elements: &[Element], names: &mut Vec<String>) -
 /// Adds the names of the memories of all networks.
 fn push_circuits(alloc: Global, circuits: &[Circuit], names: &mut Vec<String>) -> Result<(), AllocError>
     ensures { OnOk result (map (λ n. string_bytes n) names.new.items ≡ map (λ n. string_bytes n) names.old.items
-        ++ flat_map (λ (c : CircuitRecord). map memory_name c.elements.items) circuits.now) }
+        ++ flat_map (λ (c : CircuitRecord). flat_map memory_bits c.elements.items) circuits.now) }
 {
     for circuit in circuits {
         push_memories(alloc, &circuit.elements, names)?;

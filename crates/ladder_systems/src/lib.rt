@@ -14,5 +14,5 @@ mod systems;
 mod variables;
 
 pub use laws::never_bad_is_never;
-pub use remembering::remembers;
+pub use remembering::{is_edge_coil, is_edge_contact};
 pub use systems::system_of;

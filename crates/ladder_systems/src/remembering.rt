@@ -12,7 +12,7 @@ use power_flow::{Circuit, Ladder};
 use std::alloc::{AllocError, Global};
 
 /// Whether a contact of this kind does.
-fn is_edge_contact(kind: ContactKind) -> bool
+pub fn is_edge_contact(kind: ContactKind) -> bool
     ensures { result ≡ is_edge_contact kind }
 {
     match kind {
@@ -22,7 +22,7 @@ fn is_edge_contact(kind: ContactKind) -> bool
 }
 
 /// Whether a coil of this kind does.
-fn is_edge_coil(kind: CoilKind) -> bool
+pub fn is_edge_coil(kind: CoilKind) -> bool
     ensures { result ≡ is_edge_coil kind }
 {
     match kind {
@@ -32,7 +32,7 @@ fn is_edge_coil(kind: CoilKind) -> bool
 }
 
 /// Whether an element does: the contacts and coils of edges.
-pub fn remembers(element: &Element) -> bool
+fn remembers(element: &Element) -> bool
     ensures { result ≡ remembers element.now }
 {
     match element {
