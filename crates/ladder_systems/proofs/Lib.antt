@@ -10,3 +10,4 @@ pub mod Scanned
 pub mod Truths
 pub mod NotOn
 pub mod Never
+pub mod Leading

@@ -1,10 +1,13 @@
 -- The system of state bits that a ladder is under a setup.
 use Rattle.std.specs.Prelude.{◌≡◌, ◌↔◌, ℕ, List, Bool, true, length}
+use Rattle.std.specs.Global.{Vec}
+use Rattle.clauses.specs.declared.literal.Literal.{Literal}
 use Rattle.gates.specs.Signals.{signal_value}
 use Rattle.gates.specs.Gates.{Agrees}
 use Rattle.power_flow.specs.Meaning.{Moment}
 use Rattle.verifying.specs.Runs.{SetupValue, IsOn, Meets, ScansWith, first as first_moment, width}
 use Rattle.transition_systems.specs.declared.system.TransitionSystem.{TransitionSystem}
+use Rattle.transition_systems.specs.Certificates.{HoldOf}
 use Rattle.transition_systems.specs.Systems.{bits_at}
 
 -- these bits stand for the moment: it is what stands there wherever the state's signals have them
@@ -23,3 +26,9 @@ pub record IsSystemOf (u : SetupValue) (place : ℕ) (t : TransitionSystem) : Ty
   pub goes_on : (v : ℕ → Bool) → Agrees v t.gates → StandFor t before (bits_at v t.next.items) (after v)
   pub given : (v : ℕ → Bool) → Agrees v t.gates → (signal_value v t.constraint ≡ true) ↔ Meets u (after v)
   pub claim : (v : ℕ → Bool) → Agrees v t.gates → (signal_value v t.bad ≡ true) ↔ IsOn (after v) place
+
+-- clauses hold of bits that stand for the moment
+pub record HoldOfMoment (t : TransitionSystem) (before : (ℕ → Bool) → Moment) (clauses : List (Vec Literal)) (s : Moment) : Type 0 where
+  pub bits : List Bool
+  pub stand : StandFor t before bits s
+  pub hold : HoldOf clauses bits

@@ -1,14 +1,10 @@
 use Rattle.std.proofs.Common.{◌≡◌, ℕ, List, [], ◌∷◌, Bool, length, sym, ap, ◌∙◌}
 use Rattle.power_flow.specs.Meaning.{Moment, moment}
 use Rattle.verifying.specs.Runs.{SetupValue, IsOn, Meets, ScansWith, Leads as LeadsOf, before_scan, opened, first}
-use Rattle.ladder_systems.proofs.Never.{Leads, never_bad}
+use Rattle.ladder_systems.proofs.Leading.{led}
+use Rattle.ladder_systems.proofs.Never.{never_bad}
 use Rattle.ladder_systems.proofs.NotOn.{first_not_on}
 use Rattle.ladder_systems.proofs.laws.never_bad_is_never.Goals as goal
-
--- runs of a setup, said with the parts of a step apart
-led : (u : SetupValue) (rows : List (List Bool)) (s t : Moment) → LeadsOf u s rows t → Leads Moment (ScansWith u) (Meets u) s rows t
-led u [] s t same = same
-led u (row ∷ rows) s t (between, step, rest) = (between, step.scan, step.meets, led u rows between t rest)
 
 pub returns : goal.returns
 returns c = λ u place t wide system whole never rows last run on.

@@ -7,11 +7,6 @@ use Rattle.scan_gates.specs.States.{IsLike}
 use Rattle.ladder_systems.proofs.Pushing.{chosen_more, like_pushed}
 use Rattle.ladder_systems.proofs.restarting.choose_slots.Goals as goal
 
-pub index-requires : goal.index-requires
-index-requires c =
-    let long = length_all_zip IsLike c.args.fresh.now c.args.slots.now c.requires in
-    omega (arith, long)
-
 pub chosen-requires : goal.chosen-requires
 chosen-requires c =
     let long = length_all_zip IsLike c.args.fresh.now c.args.slots.now c.requires in
