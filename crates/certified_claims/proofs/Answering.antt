@@ -1,10 +1,11 @@
 -- Verdicts on claims, one after the other.
 use Rattle.std.proofs.Common.{◌≡◌, ◌<◌, ◌+◌, ◌++◌, ℕ, zero, suc, List, [], ◌∷◌, Bool, All, Some, length, get_or, slice_get, take, refl, sym, ap, ◌∙◌, subst}
-use Rattle.std.specs.List.{AllZip}
+use Rattle.std.specs.List.{AllByRecursion, AllZip}
+use Rattle.std.proofs.lemmas.List.Elements.{All-from_recursion}
 use Rattle.std.proofs.lemmas.List.{take_more}
 use Rattle.std.proofs.lemmas.Option.{get_or_from_slice_get}
 use Rattle.std.proofs.lemmas.Slice.Zip.{AllZip-long, all_zipped_more}
-use Rattle.lists.proofs.Places.{element_at, some_same}
+use Rattle.lists.proofs.Places.{element_at}
 use Rattle.verifying.specs.Runs.{SetupValue, first}
 use Rattle.text_commands.specs.Sources.{SourceValue}
 use Rattle.text_commands.specs.declared.text_command_fault.TextCommandFault.TheVariants.{Text, Word, Write, Memory}
@@ -37,11 +38,13 @@ fits_one u v place (Holds certified) is = tt
 fits_one u v place (Fails rows) is = rows_whole u rows.items (first u) is.last is.run
 fits_one u v place Undecided is = tt
 
+each_fits : (u v : SetupValue) (places : List ℕ) (verdicts : List CertifiedVerdict) → AreCertified u v places verdicts → AllByRecursion (FitsSetup u) verdicts
+each_fits u v places [] are = tt
+each_fits u v [] (x ∷ verdicts) are = absurd are
+each_fits u v (p ∷ places) (x ∷ verdicts) are = (fits_one u v p x are.0, each_fits u v places verdicts are.1)
+
 pub verdicts_fit : (u v : SetupValue) (places : List ℕ) (verdicts : List CertifiedVerdict) → AreCertified u v places verdicts → All (FitsSetup u) verdicts
-verdicts_fit u v places [] are k verdict at = absurd cc
-verdicts_fit u v [] (x ∷ verdicts) are k verdict at = absurd are
-verdicts_fit u v (p ∷ places) (x ∷ verdicts) are zero verdict at = subst (FitsSetup u) (some_same at) (fits_one u v p x are.0)
-verdicts_fit u v (p ∷ places) (x ∷ verdicts) are (suc k) verdict at = verdicts_fit u v places verdicts are.1 k verdict at
+verdicts_fit u v places verdicts are = All-from_recursion (FitsSetup u) verdicts (each_fits u v places verdicts are)
 
 -- there are as many verdicts as names
 pub names_long : {A B : Type 0} (C : A → ℕ → Type 0) (R : ℕ → B → Type 0) (names : List A) (places : List ℕ) (verdicts : List B) → AllZip C names places → AllZip R places verdicts

@@ -1,7 +1,8 @@
 -- Runs that are done scan by scan.
 use Rattle.std.proofs.Common.{◌≡◌, ◌<◌, ◌+◌, ◌++◌, ℕ, zero, suc, List, [], ◌∷◌, Bool, All, Some, length, get_or, slice_get, take, refl, sym, ap, ◌∙◌, subst}
 use Rattle.std.proofs.lemmas.List.{take_more}
-use Rattle.lists.proofs.Places.{some_same}
+use Rattle.std.specs.List.{AllByRecursion}
+use Rattle.std.proofs.lemmas.List.Elements.{All-from_recursion}
 use Rattle.power_flow.specs.Meaning.{Moment}
 use Rattle.verifying.specs.Runs.{Leads, SetupValue, StepsWith, first, width}
 use Rattle.verifying.specs.Steps.Adding.{AreWholeRows}
@@ -17,7 +18,9 @@ leads_next u rows i d s between t lt leads step =
     subst (λ rs. Leads u s rs t) (sym (take_more rows i d lt)) (leads_more u (take i rows) (get_or rows i d) s between t leads step)
 
 -- each row of a run has all its digits
+rows_long : (u : SetupValue) (rows : List (List Bool)) (s t : Moment) → Leads u s rows t → AllByRecursion (λ (row : List Bool). length row ≡ width u) rows
+rows_long u [] s t leads = tt
+rows_long u (r ∷ rows) s t (between, step, leads) = (step.scan.whole, rows_long u rows between t leads)
+
 pub rows_whole : (u : SetupValue) (rows : List (List Bool)) (s t : Moment) → Leads u s rows t → AreWholeRows u rows
-rows_whole u [] s t leads k row at = absurd cc
-rows_whole u (r ∷ rows) s t (between, step, leads) zero row at = subst (λ (x : List Bool). length x ≡ width u) (some_same at) step.scan.whole
-rows_whole u (r ∷ rows) s t (between, step, leads) (suc k) row at = rows_whole u rows between t leads k row at
+rows_whole u rows s t leads = All-from_recursion (λ (row : List Bool). length row ≡ width u) rows (rows_long u rows s t leads)

@@ -122,6 +122,10 @@ like_pushed xs made later i d y lt was like is = rw (is, take_more xs i d lt) (A
 pub written : {X : Type 0} (n : ℕ) (new items : List X) → length new ≡ n → take n (new ++ drop (length new) items) ≡ new
 written n new items long = ap (λ k. take k (new ++ drop (length new) items)) (sym long) ∙ take-append_seam new (drop (length new) items)
 
+pub append_nil : {A : Type 0} (l : List A) → l ++ [] ≡ l
+append_nil [] = refl
+append_nil (x ∷ l) = ap (λ m. x ∷ m) (append_nil l)
+
 -- one more mark
 marked-push : {A : Type 0} (marks : List Bool) (mark : Bool) (xs : List A) (x : A) → length xs ≡ length marks → marked (marks ++ mark ∷ []) (xs ++ x ∷ []) ≡ marked marks xs ++ marked (mark ∷ []) (x ∷ [])
 marked-push [] mark [] x long = refl
@@ -137,6 +141,14 @@ marked_more marks i d before bits later xs next x lt long was is pushed =
     let many : length xs ≡ length (take i marks) = simp length-take (omega (arith, long)) in
     is ∙ ap (λ l. l ++ marked (get_or marks i d ∷ []) (x ∷ [])) was ∙ append_assoc before (marked (take i marks) xs) (marked (get_or marks i d ∷ []) (x ∷ []))
     ∙ ap (λ l. before ++ l) (sym (marked-push (take i marks) (get_or marks i d) xs x many) ∙ ap (λ m. marked m (xs ++ x ∷ [])) (sym (take_more marks i d lt)) ∙ ap (marked (take (i + 1) marks)) (sym pushed))
+
+-- so it is where both are taken from lists
+pub marked_next : {A : Type 0} (marks : List Bool) (xs before bits later : List A) (i : ℕ) (d : Bool) (e : A) → i < length marks → length xs ≡ length marks
+    → bits ≡ before ++ marked (take i marks) (take i xs) → later ≡ bits ++ marked (get_or marks i d ∷ []) (get_or xs i e ∷ [])
+    → later ≡ before ++ marked (take (i + 1) marks) (take (i + 1) xs)
+marked_next marks xs before bits later i d e lt long was is =
+    let also : i < length xs = omega (arith, long) in
+    marked_more marks i d before bits later (take i xs) (take (i + 1) xs) (get_or xs i e) lt (simp length-take (omega (arith, long))) was is (take_more xs i e also)
 
 pub quiet_more : (v : ℕ → Bool) (marks : List Bool) (i : ℕ) (d : Bool) (xs next : List Signal) (x : Signal) → i < length marks → AreQuiet (take i marks) (bits_at v xs)
     → AreQuiet (get_or marks i d ∷ []) (bits_at v (x ∷ [])) → next ≡ xs ++ x ∷ [] → AreQuiet (take (i + 1) marks) (bits_at v next)

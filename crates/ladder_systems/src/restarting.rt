@@ -1,8 +1,11 @@
-ghost use Rattle.std.specs.Prelude.{◌≡◌, ℕ, Bool, List, false, IfOk, OnOk, length, replicate, if◌then◌else◌};
+ghost use Rattle.std.specs.Prelude.{◌≡◌, ℕ, Bool, List, false, Some, IfOk, OnOk, length, replicate, slice_get, if◌then◌else◌};
+ghost use Rattle.std.specs.Option.{option_map};
+ghost use Rattle.scan_gates.specs.declared.encoded.EncodedValue.{EncodedValue as Value};
+ghost use Rattle.scan_gates.specs.declared.encoded.EncodedSlot.TheVariants.{Variable};
 ghost use Rattle.gates.specs.Gates.{IsBuilt};
 ghost use Rattle.gates.specs.Signals.{signal_value};
 ghost use Rattle.declared_names.specs.declared.declarations.Declaration.{Declaration};
-ghost use Rattle.scan_gates.specs.Encoded.{bits_at, slots_at};
+ghost use Rattle.scan_gates.specs.Encoded.{bits_at, slots_at, value_at};
 ghost use Rattle.scan_gates.specs.States.{AreLike};
 ghost use Rattle.scan_steps.specs.Slots.{variable_at};
 ghost use Rattle.text_commands.specs.Restarts.{restarted};
@@ -12,8 +15,19 @@ ghost use Rattle.ladder_systems.specs.Steps.States.{AreOf};
 use crate::first::push_slot;
 use crate::variables::put_variable;
 use gates::{Gates, Signal};
-use scan_gates::{EncodedSlot, chosen, declared_are_like, kinds_are_shapes};
+use scan_gates::{EncodedSlot, EncodedValue, chosen, declared_are_like, kinds_are_shapes};
 use std::alloc::{AllocError, Global};
+
+/// The variable at a place, if one stands there.
+fn variable_in(slots: &[EncodedSlot], place: usize) -> Option<EncodedValue>
+    ensures value { (v : ℕ → Bool) → variable_at (slots_at v slots.now) place ≡ option_map (value_at v) result }
+    ensures there { (x : Value) → result ≡ Some x → slice_get slots.now place ≡ Some (Variable x) }
+{
+    match slots.get(place) {
+        Some(EncodedSlot::Variable(value)) => Some(*value),
+        Some(EncodedSlot::Block(_)) | None => None,
+    }
+}
 
 /// What stands there is kept where it is a variable.
 fn keep_variable(place: usize, slots: &[EncodedSlot], fresh: &mut [EncodedSlot])
@@ -21,8 +35,8 @@ fn keep_variable(place: usize, slots: &[EncodedSlot], fresh: &mut [EncodedSlot])
         ≡ set_value (slots_at v fresh.old) place (variable_at (slots_at v slots.now) place) }
     ensures of { (ds : List Declaration) → AreOf ds slots.now → AreOf ds fresh.old → AreOf ds fresh.new }
 {
-    if let Some(EncodedSlot::Variable(value)) = slots.get(place) {
-        put_variable(place, *value, fresh);
+    if let Some(value) = variable_in(slots, place) {
+        put_variable(place, value, fresh);
     }
 }
 

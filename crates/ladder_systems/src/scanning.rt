@@ -30,6 +30,7 @@ pub(crate) fn scan_signals(
     requires first { (v : ℕ → Bool) → Agrees v gates.old → slots_at v first.now ≡ first_slots setup.now.ladder.declarations }
     requires of { AreOf setup.now.ladder.declarations first.now }
     requires state { AreStates setup.now.ladder slots.old.items memories.old.items }
+    ensures memories { OnOk result (length memories.new.items ≡ length memories.old.items) }
     ensures scan { OnOk result (IsBuilt gates.old gates.new (λ v. AreSlotsOf setup.now.ladder.declarations (slots_at v slots.new.items)
         × ScansWith setup.now (bits_at v row.now) (moment (slots_at v slots.old.items) (bits_at v memories.old.items))
         (moment (slots_at v slots.new.items) (bits_at v memories.new.items)))) }

@@ -78,6 +78,17 @@ pub(crate) fn memory_signals(
     Ok(memories)
 }
 
+/// Adds a signal, if it is marked.
+fn push_if(mark: bool, signal: Signal, bits: &mut Vec<Signal>) -> Result<(), AllocError>
+    ensures { OnOk result (bits.new.items ≡ bits.old.items ++ marked (mark ∷ []) (signal ∷ [])) }
+{
+    if mark {
+        push_signal(signal, bits)
+    } else {
+        Ok(())
+    }
+}
+
 /// Adds those of the signals that are marked.
 pub(crate) fn push_marked(
     marks: &[bool],
@@ -88,9 +99,7 @@ pub(crate) fn push_marked(
     ensures { OnOk result (bits.new.items ≡ bits.old.items ++ marked marks.now signals.now) }
 {
     for (k, mark) in marks.iter().enumerate() {
-        if *mark {
-            push_signal(signals[k], bits)?;
-        }
+        push_if(*mark, signals[k], bits)?;
     }
     Ok(())
 }

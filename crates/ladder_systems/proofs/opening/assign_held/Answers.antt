@@ -9,7 +9,7 @@ loop-setting-preserved c = record {
       held_next_of c.args.held.now c.loop-setting.setting-index _ (slots_at v c.loop-setting.slots) (slots_at v c.assign.new.slots) c.loop-setting-test.true
       (c.in_ok-assign.ensures.slots v agrees)
       ∙ c.loop-setting.invariant.slots v agrees;
-  of = λ ds holds of. c.in_ok-assign.ensures.of ds (holds c.loop-setting.setting-index _ c.setting.ensures) (c.loop-setting.invariant.of ds holds of);
+  of = λ ds holds of. c.in_ok-assign.ensures.of ds (holds c.loop-setting.setting-index _ c.loop-setting-test.true) (c.loop-setting.invariant.of ds holds of);
 }
 
 pub returns-clause-slots : goal.returns-clause-slots

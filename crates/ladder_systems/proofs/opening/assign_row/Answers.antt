@@ -13,7 +13,7 @@ loop-digit-preserved c =
           row_next_of v c.args.free.now c.args.row.now i _ _ (slots_at v c.loop-digit.slots) (slots_at v c.put_variable.new.slots) c.loop-digit-test.true c.requires
           (c.put_variable.ensures.slots v)
           ∙ c.loop-digit.invariant.slots v;
-      of = λ ds bools of. c.put_variable.ensures.of ds (bool_there ds _ (bools i _ c.index.ensures)) (c.loop-digit.invariant.of ds bools of);
+      of = λ ds bools of. c.put_variable.ensures.of ds (bool_there ds _ (bools i _ c.loop-digit-test.true)) (c.loop-digit.invariant.of ds bools of);
     }
 
 pub returns-clause-slots : goal.returns-clause-slots

@@ -13,7 +13,7 @@ choose_slots-requires c =
 
 pub returns-clause-of : goal.returns-clause-of
 returns-clause-of c = λ ds first slots.
-    c.kinds_are_shapes.ensures none none ds c.in_ok-fresh.fresh.items c.in_ok-slots.value.items
+    c.kinds_are_shapes.ensures none none ds c.in_ok-fresh.fresh.items c.in_ok-slots.field-0.items
     (rw c.deref-2.ensures.value at c.in_ok-slots.ensures.like) ((rw c.deref.ensures.value at c.in_ok-fresh.ensures.of) ds slots first)
 
 pub returns-clause-state : goal.returns-clause-state

@@ -1,4 +1,4 @@
-use Rattle.std.proofs.Common.{◌≡◌, length, sum_by, ap, ◌∙◌, arith}
+use Rattle.std.proofs.Common.{◌≡◌, length, sum_by, sym, ap, ◌∙◌, arith}
 use Rattle.std.proofs.lemmas.List.{length-replicate}
 use Rattle.network.specs.Links.{Diagram}
 use Rattle.power_flow.specs.Meaning.{moment}
@@ -35,3 +35,10 @@ returns-clause-scan c = on_ok _ _ c.encode_scan.result (rw (c.deref_mut.ensures.
           scan_made v u _ c.args.row.now (moment (slots_at v c.args.slots.now.items) (bits_at v c.args.memories.now.items)) found.items kept.items
           (moment (slots_at v c.encode_scan.new.slots) (bits_at v c.encode_scan.new.memories)) (c.in_ok-dt.ensures v scan.0 ∙ c.dt.ensures) c.requires.row opened.1.0 opened.1.1 meant),
     ))
+
+pub returns-clause-memories : goal.returns-clause-memories
+returns-clause-memories c =
+    let kept = c.open.new.memories in
+    let memories_long : length c.encode_scan.new.memories ≡ kept.len = omega (arith, c.encode_scan.auto.memories, ap length c.deref_mut-2.ensures.value, kept.ok.0) in
+    on_ok _ _ c.encode_scan.result c.encode_scan.ensures (λ built.
+    rw (written kept.len c.encode_scan.new.memories kept.items memories_long) (memories_long ∙ sym kept.ok.0 ∙ c.in_ok-open.ensures.state.many ∙ sym c.requires.state.many))

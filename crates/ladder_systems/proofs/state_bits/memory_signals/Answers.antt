@@ -1,10 +1,14 @@
-use Rattle.std.proofs.Common.{◌≡◌, ◌+◌, ℕ, Bool, length, ap, ◌∙◌, arith}
+use Rattle.std.proofs.Common.{◌≡◌, ◌+◌, ℕ, Bool, length, sym, ap, ◌∙◌}
 use Rattle.std.proofs.lemmas.List.{length_push, take_all}
-use Rattle.ladder_systems.proofs.Pushing.{marked_more, quiet_more}
+use Rattle.ladder_systems.proofs.Pushing.{append_nil, marked_more, quiet_more}
 use Rattle.ladder_systems.proofs.state_bits.memory_signals.Goals as goal
 
 pub loop-mark-init : goal.loop-mark-init
-loop-mark-init c = ?
+loop-mark-init c = record {
+  quiet = λ v agrees. (agrees, rw c.new-memories.ensures.items tt);
+  bits = sym (append_nil c.args.bits.now.items);
+  long = ap length c.new-memories.ensures.items;
+}
 
 pub loop-mark-preserved : goal.loop-mark-preserved
 loop-mark-preserved c =

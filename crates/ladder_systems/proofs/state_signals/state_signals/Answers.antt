@@ -14,8 +14,8 @@ returns-clause-of c =
 
 pub returns-clause-state : goal.returns-clause-state
 returns-clause-state c =
-    state_made c.states_are_signals.ensures.states c.kinds_are_shapes.ensures c.declared_are_like.ensures c.args.ladder.now c.args.gates.now c.memory_signals-memories.new.gates
-    c.in_ok-first.first.items c.in_ok-slots.slots.items c.in_ok-memories.memories.items c.with_bits-slots.new.bits.items c.memory_signals-memories.new.bits.items c.in_ok-at_first.at_first.items
+    state_made c.states_are_signals.ensures.states c.kinds_are_shapes.ensures c.declared_are_like.ensures c.args.ladder.now c.args.gates.now c.memory_signals.new.gates
+    c.in_ok-first.first.items c.in_ok-slots.slots.items c.in_ok-memories.memories.items c.with_bits.new.bits.items c.memory_signals.new.bits.items c.in_ok-at_first.at_first.items
     c.requires.gates (rw c.declarations.ensures.list at c.in_ok-first.ensures)
     (rw c.deref.ensures.value at c.in_ok-slots.ensures.like)
     (c.in_ok-slots.ensures.bits ∙ ap (λ l. l ++ state_signals c.in_ok-slots.slots.items []) c.new-bits.ensures.items)

@@ -1,8 +1,10 @@
-use Rattle.std.proofs.Common.{ℕ, Bool, true, ap, sym, ◌∙◌}
+use Rattle.std.proofs.Common.{ℕ, Bool, true, false, length, sum_by, ap, sym, ◌∙◌}
+use Rattle.std.proofs.lemmas.List.{length-replicate}
+use Rattle.network.specs.Links.{Diagram}
 use Rattle.gates.specs.Gates.{Agrees}
 use Rattle.ladder_systems.specs.Remembering.{marked, memory_marks}
 use Rattle.ladder_systems.proofs.Made.{memories_same}
-use Rattle.ladder_systems.proofs.Quiet.{quiet_after}
+use Rattle.ladder_systems.proofs.Quiet.{marks_long, quiet_after}
 use Rattle.power_flow.specs.Meaning.{moment}
 use Rattle.scan_steps.specs.Values.{is_true}
 use Rattle.scan_gates.specs.Encoded.{bits_at, slots_at}
@@ -10,6 +12,19 @@ use Rattle.ladder_systems.specs.Steps.States.{none}
 use Rattle.ladder_systems.proofs.Parts.{moment_same}
 use Rattle.ladder_systems.proofs.Truths.{true_is}
 use Rattle.ladder_systems.proofs.systems.system_of.Goals as goal
+
+pub scan_signals-requires-clause-first : goal.scan_signals-requires-clause-first
+scan_signals-requires-clause-first c =
+    rw c.deref-6.ensures.value (λ v agrees. ((rw c.ladder-2.ensures at c.in_ok-state.ensures.first) v (c.in_ok-row.ensures.built v agrees).0).1)
+
+pub bits_of-requires : goal.bits_of-requires
+bits_of-requires c =
+    let u = c.args.setup.now in
+    let are = rw c.ladder-2.ensures at c.in_ok-state.ensures.state in
+    let count = sum_by (λ (d : Diagram). length d.elements) u.ladder.networks in
+    rw (c.deref-8.ensures.value, c.deref-9.ensures.value, c.in_ok-marks.ensures, c.ladder.ensures)
+        (c.in_ok-scan_signals.ensures.memories ∙ ap length c.in_ok-memories.ensures.items ∙ ap length c.deref-4.ensures.value ∙ are.states.many ∙ length-replicate count false
+        ∙ sym (marks_long u.ladder.networks))
 
 pub returns : goal.returns
 returns c =
@@ -19,7 +34,7 @@ returns c =
     let marks = memory_marks u.ladder.networks in
     let slots = c.scan_signals.new.slots.items in
     let memories = c.scan_signals.new.memories.items in
-    let next = rw (c.deref.ensures.value, c.deref-2.ensures.value) at c.in_ok-next.ensures in
+    let next = rw (c.deref-7.ensures.value, c.deref-8.ensures.value, c.deref-9.ensures.value, c.in_ok-marks.ensures, c.ladder.ensures) at c.in_ok-next.ensures in
     let before_last = λ (v : ℕ → Bool) (agrees : Agrees v _).
     (c.in_ok-row.ensures.built v (c.in_ok-scan_signals.ensures.scan v (c.in_ok-constraint.ensures v agrees).0).0).0 in
     record {
