@@ -6,10 +6,11 @@ ghost use Rattle.text_lines.specs.Growing.{GrowsBy};
 ghost use Rattle.text_commands.specs.Rows.{texts};
 ghost use Rattle.verifying.specs.VerdictLines.{counted};
 ghost use Rattle.certified_claims.specs.BitNames.{bit_names};
+ghost use Rattle.certified_claims.specs.declared.verdict.CertifiedVerdict.TheVariants.{Holds};
 ghost use Rattle.certified_claims.specs.CertificateLines.{certificate_text, certificates_text, clause_line, opposite_text};
 
 use crate::bit_names::bit_names;
-use crate::verdict::CertifiedVerdict;
+use crate::verdict::{Certified, CertifiedVerdict};
 use clauses::Literal;
 use power_flow::Ladder;
 use std::alloc::{AllocError, Global};
@@ -64,6 +65,23 @@ fn push_clauses(text: &mut String, names: &[String], clauses: &[Vec<Literal>]) -
     Ok(())
 }
 
+/// The certificate of a claim that holds.
+fn push_certified(
+    text: &mut String,
+    names: &[String],
+    claim: &str,
+    certified: &Certified,
+) -> Result<(), AllocError>
+    ensures { OnOk result (GrowsBy text.old text.new (certificate_text (map (λ n. string_bytes n) names.now) claim.now (Holds certified.now))) }
+{
+    text.push_str(claim)?;
+    text.push_str(" is never on: ")?;
+    push_counted(text, certified.size.clauses, "clause")?;
+    text.push_str("\n")?;
+    push_clauses(text, names, &certified.clauses)?;
+    Ok(())
+}
+
 /// The certificate of a claim that holds; nothing of another one.
 fn push_certificate(
     text: &mut String,
@@ -73,14 +91,10 @@ fn push_certificate(
 ) -> Result<(), AllocError>
     ensures { OnOk result (GrowsBy text.old text.new (certificate_text (map (λ n. string_bytes n) names.now) claim.now verdict.now)) }
 {
-    let CertifiedVerdict::Holds(certified) = verdict else {
-        return Ok(());
-    };
-    text.push_str(claim)?;
-    text.push_str(" is never on: ")?;
-    push_counted(text, certified.size.clauses, "clause")?;
-    text.push_str("\n")?;
-    push_clauses(text, names, &certified.clauses)
+    match verdict {
+        CertifiedVerdict::Holds(certified) => push_certified(text, names, claim, certified),
+        CertifiedVerdict::Fails(_) | CertifiedVerdict::Undecided => Ok(()),
+    }
 }
 
 /// The certificates of claims of these names about a ladder.

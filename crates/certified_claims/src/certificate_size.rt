@@ -1,17 +1,23 @@
-ghost use Rattle.std.specs.Prelude.{◌≡◌, count_by};
-ghost use Rattle.std.specs.List.{range_with_len};
+ghost use Rattle.std.specs.Prelude.{◌≡◌, ◌==◌, count_by};
+ghost use Rattle.std.specs.List.{list_any, range_with_len};
+ghost use Rattle.clauses.specs.declared.literal.Literal.{Literal as LiteralRecord};
 ghost use Rattle.certified_claims.specs.Certificates.{IsSizeOf, is_named};
 
 use crate::verdict::CertificateSize;
 use clauses::Literal;
 
 /// Whether a clause names a state bit.
+fn is_in(clause: &[Literal], bit: usize) -> bool
+    ensures { result ≡ list_any (λ (l : LiteralRecord). l.variable == bit) clause.now }
+{
+    clause.iter().any(|literal| literal.variable == bit)
+}
+
+/// Whether any of these clauses names a state bit.
 fn is_named(clauses: &[Vec<Literal>], bit: usize) -> bool
     ensures { result ≡ is_named clauses.now bit }
 {
-    clauses
-        .iter()
-        .any(|clause| clause.iter().any(|literal| literal.variable == bit))
+    clauses.iter().any(|clause| is_in(clause, bit))
 }
 
 /// How many of so many state bits are named.

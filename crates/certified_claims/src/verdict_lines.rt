@@ -17,7 +17,8 @@ fn push_size(text: &mut String, size: CertificateSize) -> Result<(), AllocError>
 {
     push_counted(text, size.clauses, "clause")?;
     write!(text, " over {} of ", size.named)?;
-    push_counted(text, size.bits, "bit")
+    push_counted(text, size.bits, "bit")?;
+    Ok(())
 }
 
 /// Where the texts of the verdicts go, and what they tell of beside the verdict itself.
@@ -37,7 +38,8 @@ fn push_holds(text: &mut String, told: &Told<'_>, name: &str, size: CertificateS
     text.push_str(" is never on: by induction, ")?;
     push_size(text, size)?;
     push_needed_of(text, told.needed, told.networks)?;
-    text.push_str("\n")
+    text.push_str("\n")?;
+    Ok(())
 }
 
 fn push_undecided(text: &mut String, name: &str) -> Result<(), AllocError>
@@ -45,7 +47,8 @@ fn push_undecided(text: &mut String, name: &str) -> Result<(), AllocError>
 {
     text.push_str("UNDECIDED ")?;
     text.push_str(name)?;
-    text.push_str(": by induction, no certificate and no run was found\n")
+    text.push_str(": by induction, no certificate and no run was found\n")?;
+    Ok(())
 }
 
 fn push_verdict(

@@ -29,6 +29,20 @@ pub(crate) struct StateSignals {
     pub(crate) at_first: Vec<bool>,
 }
 
+/// So many signals that are never TRUE.
+fn off_signals(alloc: Global, count: usize) -> Result<Vec<Signal>, AllocError>
+    ensures { IfOk result (λ signals. signals.items ≡ replicate count off) }
+{
+    let mut signals = Vec::new(alloc);
+    for _place in 0..count {
+        signals.push(Signal {
+            variable: 0,
+            is_negated: false,
+        })?;
+    }
+    Ok(signals)
+}
+
 /// The values of state bits where these stand at names, by signals that are constant, and each memory is OFF.
 fn first_bits(
     alloc: Global,
@@ -38,11 +52,7 @@ fn first_bits(
     ensures { IfOk result (λ values. values.items
         ≡ bits_at none (state_signals first.now (marked marks.now (replicate (length marks.now) off)))) }
 {
-    let off = Signal {
-        variable: 0,
-        is_negated: false,
-    };
-    let memories = vec![in alloc; off; marks.len()]?;
+    let memories = off_signals(alloc, marks.len())?;
     let signals = bits_of(alloc, first, marks, &memories)?;
     values_at_none(alloc, &signals)
 }

@@ -15,7 +15,7 @@ loop-row-preserved c =
       fits = c.in_ok-step.ensures.fits;
       run = leads_next u c.args.rows.now c.loop-row.row-index _ (first u) (moment_of c.loop-row.state) (moment_of c.step.new.state) c.loop-row-test.true c.loop-row.invariant.run record {
         scan = subst (λ (row : List Bool). ScansWith u row (moment_of c.loop-row.state) (moment_of c.step.new.state)) c.row-item.is c.in_ok-step.ensures.scans;
-        meets = c.meets.ensures.0 c.if-meets.true;
+        meets = c.meets.ensures.0 c.if-not-meets.false;
       };
     }
 

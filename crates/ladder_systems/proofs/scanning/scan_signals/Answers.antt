@@ -25,10 +25,10 @@ returns-clause-scan c = on_ok _ _ c.encode_scan.result (rw (c.deref_mut.ensures.
     let opened = c.in_ok-open.ensures.found v scan.0 in
     let of = of_any c.kinds_are_shapes.ensures c.declared_are_like.ensures none v ds found.items c.in_ok-open.ensures.state.of in
     let meant = scan.1 of in
-    let circuits = rw c.ladder.ensures at c.circuits.ensures in
+    let circuits = rw c.ladder.ensures at c.circuits-circuits.ensures in
     let slots_long : length c.encode_scan.new.slots ≡ found.len = omega (arith, c.encode_scan.auto.slots, ap length c.deref_mut.ensures.value, found.ok.0) in
     let memories_long : length c.encode_scan.new.memories ≡ kept.len = omega (arith, c.encode_scan.auto.memories, ap length c.deref_mut-2.ensures.value, kept.ok.0) in
-    let left = scan_declared c.kinds_are_kept.ensures ds _ circuits.rails c.circuits.result.now (slots_at v found.items) (slots_at v c.encode_scan.new.slots)
+    let left = scan_declared c.kinds_are_kept.ensures ds _ circuits.rails c.circuits-circuits.result.now (slots_at v found.items) (slots_at v c.encode_scan.new.slots)
     (bits_at v kept.items) (bits_at v c.encode_scan.new.memories) circuits.made (rw circuits.networks at meant) of in (
       opened.0,
       rw (written found.len c.encode_scan.new.slots found.items slots_long, written kept.len c.encode_scan.new.memories kept.items memories_long) (left,
@@ -40,5 +40,5 @@ pub returns-clause-memories : goal.returns-clause-memories
 returns-clause-memories c =
     let kept = c.open.new.memories in
     let memories_long : length c.encode_scan.new.memories ≡ kept.len = omega (arith, c.encode_scan.auto.memories, ap length c.deref_mut-2.ensures.value, kept.ok.0) in
-    on_ok _ _ c.encode_scan.result c.encode_scan.ensures (λ built.
-    rw (written kept.len c.encode_scan.new.memories kept.items memories_long) (memories_long ∙ sym kept.ok.0 ∙ c.in_ok-open.ensures.state.many ∙ sym c.requires.state.many))
+    let same : length c.encode_scan.new.memories ≡ length c.args.memories.now.items = omega (arith, memories_long, kept.ok.0, c.in_ok-open.ensures.state.many, c.requires.state.many) in
+    on_ok _ _ c.encode_scan.result c.encode_scan.ensures (λ built. rw (written kept.len c.encode_scan.new.memories kept.items memories_long) same)

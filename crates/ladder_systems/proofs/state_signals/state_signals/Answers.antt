@@ -20,6 +20,6 @@ returns-clause-state c =
     (rw c.deref.ensures.value at c.in_ok-slots.ensures.like)
     (c.in_ok-slots.ensures.bits ∙ ap (λ l. l ++ state_signals c.in_ok-slots.slots.items []) c.new-bits.ensures.items)
     (c.in_ok-memories.ensures.long ∙ ap length c.requires.marks)
-    (λ v agrees. (rw c.requires.marks at c.in_ok-memories.ensures.quiet) v agrees).1
+    (λ v agrees. ((rw c.requires.marks at c.in_ok-memories.ensures.quiet) v agrees).1)
     (rw c.requires.marks at c.in_ok-memories.ensures.bits)
     (rw (c.deref-2.ensures.value, c.requires.marks) at c.in_ok-at_first.ensures)
