@@ -12,7 +12,7 @@ from rules.scan import stored_names
 from rules.verify import MOST_INPUTS, Search, key_of, only, verdict_lines
 
 from .drawings import Drawer, Names, cased, drawing
-from .pieces import in_a_row, symbol
+from .pieces import Side, box, in_a_row, symbol
 from .test_words import refused_word
 
 # With more free inputs the model takes long.
@@ -53,11 +53,27 @@ def groups(chance):
         if chance.random() < 0.15:
             one.names.stores["BOOL"] = [*one.names.stores["BOOL"], chance.choice(other.names.stores["BOOL"])]
     rungs = [it.any_rung(True) for it in drawers for _ in range(chance.randint(1, 4))]
+    rungs += [counting_rung(it) for it in drawers if chance.random() < 0.2]
     if chance.random() < 0.1:
         rungs.append(wide_rung(chance.choice("AEZ")))
     chance.shuffle(rungs)
     rungs += [claim_rung(it, f"NEVER{k}") for k, it in enumerate(drawers)]
     return "".join(f"{row}\n" for rung in rungs for row in [*rung, "|"])
+
+
+def counting_rung(drawer):
+    """A rung of a counter of which mostly Q alone is seen."""
+    chance, bits = drawer.chance, drawer.names.reads["BOOL"]
+    block, counted, other = chance.choice([("CTU", "CU", "R"), ("CTU", "CU", "R"), ("CTD", "CD", "LD")])
+    shown = ("CV", f"--{drawer.names.stores['INT'][0]}") if chance.random() < 0.15 else ("", "")
+    preset = drawer.literal("INT") if chance.random() < 0.2 else chance.choice("0123")
+    sides = [
+        Side(counted, "Q", is_entry=True, is_exit=True),
+        Side(other, shown[0], left=f"{chance.choice(bits)}--", right=shown[1]),
+        Side(cased(chance, "PV"), left=f"{preset}--"),
+    ]
+    piece = in_a_row([drawer.contact(), box(block, f"V{bits[0]}", 0, sides), drawer.coil()])
+    return ["|+"[k == piece.entry] + row for k, row in enumerate(piece.rows)]
 
 
 def claim_rung(drawer, name):
