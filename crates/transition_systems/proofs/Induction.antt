@@ -1,5 +1,7 @@
 -- What is shown of a step, step by step.
-use Rattle.std.proofs.Common.{◌≡◌, ℕ, ◌+◌, ◌<◌, ◌≤◌, Bool, List, [], ◌∷◌, length, subst, sym, arith}
+use Rattle.std.proofs.Common.{◌≡◌, ℕ, ◌+◌, ◌<◌, ◌≤◌, Bool, List, [], ◌∷◌, length, get_or, ap, subst, sym, ◌∙◌, ⊎_elim, arith}
+use Rattle.std.proofs.lemmas.List.{get_or-map}
+use Rattle.std.proofs.lemmas.Bool.{cases_lt}
 use Rattle.std.specs.Global.{Vec}
 use Rattle.clauses.specs.declared.literal.Literal.{Literal}
 use Rattle.clauses.specs.declared.step.Step.{Step}
@@ -8,7 +10,7 @@ use Rattle.transition_systems.specs.declared.certificate.Certificate.{Certificat
 use Rattle.transition_systems.specs.declared.system.TransitionSystem.{TransitionSystem}
 use Rattle.transition_systems.specs.Systems.{NeverBad, NeverBadFrom, bits_at}
 use Rattle.transition_systems.specs.Certificates.{AreInductive, HoldOf, LeadTo}
-use Rattle.transition_systems.specs.Steps.Frames.{clauses_or}
+use Rattle.transition_systems.specs.Steps.Frames.{clauses_or, its_clauses}
 use Rattle.transition_systems.specs.Steps.Inductive.{AreShown, IsFormula, IsShownFalse}
 
 -- what steps that follow show of a step of the system
@@ -45,3 +47,20 @@ never_within t frames none lead (row ∷ rows) k state le holds = λ v at given.
       step.safe state row v holds at given,
       never_within t frames none lead rows (k + 1) (bits_at v t.next.items) (omega arith) (step.kept state row v holds at given),
     )
+
+-- a frame more leads to the next one
+pub frames_more : (t : TransitionSystem) (frames : List Certificate) (none next : List (Vec Literal)) (number : ℕ) (frame : Certificate)
+    → number < length frames → frame ≡ get_or frames number frame → next ≡ clauses_or frames (number + 1) none
+    → LeadTo t frame.clauses.items next
+    → ((k : ℕ) → k < number → LeadTo t (clauses_or frames k none) (clauses_or frames (k + 1) none))
+    → (k : ℕ) → k < number + 1 → LeadTo t (clauses_or frames k none) (clauses_or frames (k + 1) none)
+frames_more t frames none next number frame lt is e here before k less =
+    ⊎_elim
+    (λ below. before k below)
+    (λ le.
+    let same : number ≡ k = omega arith in
+    let own : frame.clauses.items ≡ clauses_or frames number none = ap its_clauses is ∙ sym (get_or-map its_clauses frames number frame none lt) in
+    subst (λ (n : ℕ). LeadTo t (clauses_or frames n none) (clauses_or frames (n + 1) none)) same
+    (subst (λ (clauses : List (Vec Literal)). LeadTo t clauses (clauses_or frames (number + 1) none)) own
+    (subst (λ (clauses : List (Vec Literal)). LeadTo t frame.clauses.items clauses) e here)))
+    (cases_lt k number)

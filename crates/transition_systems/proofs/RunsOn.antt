@@ -16,3 +16,9 @@ bad_from t rows i row state v lt is at given rest =
     subst (λ (rs : List (Vec Bool)). IsBadAlong t state rs)
     (ap (λ r. r ∷ drop (i + 1) rows) is ∙ sym (drop_more rows i row lt))
     (v, (at, (given, rest)))
+
+-- values in a state under a row, where these are the same
+pub values_where : (t : TransitionSystem) (state other row its : List Bool) (v : ℕ → Bool) → other ≡ state → its ≡ row
+    → AreValuesAt t other its v → AreValuesAt t state row v
+values_where t state other row its v e f are =
+    subst (λ (r : List Bool). AreValuesAt t state r v) f (subst (λ (s : List Bool). AreValuesAt t s its v) e are)

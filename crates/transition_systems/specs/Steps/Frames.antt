@@ -1,5 +1,5 @@
 -- Clauses for each number of steps.
-use Rattle.std.specs.Prelude.{ℕ, List, [], map, slice_index_or}
+use Rattle.std.specs.Prelude.{ℕ, List, map, slice_index_or}
 use Rattle.std.specs.Global.{Vec}
 use Rattle.clauses.specs.declared.literal.Literal.{Literal}
 use Rattle.transition_systems.specs.declared.certificate.Certificate.{Certificate}

@@ -3,7 +3,6 @@ use Rattle.std.specs.Global.{Vec}
 use Rattle.clauses.specs.declared.literal.Literal.{Literal}
 use Rattle.clauses.specs.Clauses.{AreFollowing}
 use Rattle.gates.specs.declared.signal.Signal.{Signal}
-use Rattle.transition_systems.specs.Certificates.{LeadTo}
 use Rattle.transition_systems.specs.Steps.Inductive.{AreShown, IsFormula}
 use Rattle.transition_systems.proofs.Induction.{lead_to}
 use Rattle.transition_systems.proofs.checking.check_step.Goals as goal

@@ -1,4 +1,4 @@
-use Rattle.std.proofs.Common.{ℕ, ◌+◌, ◌<◌, [], length}
+use Rattle.std.proofs.Common.{ℕ, ◌+◌, ◌<◌, []}
 use Rattle.transition_systems.specs.Certificates.{LeadTo}
 use Rattle.transition_systems.specs.Steps.Frames.{clauses_or}
 use Rattle.transition_systems.proofs.frames.check_frames.Given as goal
