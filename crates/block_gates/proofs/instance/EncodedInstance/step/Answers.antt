@@ -1,16 +1,16 @@
 use Rattle.gate_words.specs.Values.{time_at}
 use Rattle.block_gates.proofs.Stepped.{reset_stepped, set_stepped}
-use Rattle.block_gates.proofs.stepping.EncodedInstance.step.Goals as goal
+use Rattle.block_gates.proofs.instance.EncodedInstance.step.Goals as goal
 
 pub returns-in_ok-on-in-SR-clause-stepped : goal.returns-in_ok-on-in-SR-clause-stepped
 returns-in_ok-on-in-SR-clause-stepped c = rw c.in-SR.is (λ v agrees.
     let on = c.in_ok-on-in-SR.ensures v agrees in
-    (on.0, set_stepped v c.in_ok-on-in-SR.on c.in-SR.q1.now c.args.pins.now (time_at v c.args.dt.now) on.1))
+    (on.0, set_stepped v c.in_ok-on-in-SR.on c.in-SR.q1 c.args.pins.now (time_at v c.args.dt.now) on.1))
 
 pub returns-in_ok-on-in-RS-clause-stepped : goal.returns-in_ok-on-in-RS-clause-stepped
 returns-in_ok-on-in-RS-clause-stepped c = rw c.in-RS.is (λ v agrees.
     let on = c.in_ok-on-in-RS.ensures v agrees in
-    (on.0, reset_stepped v c.in_ok-on-in-RS.on c.in-RS.q1.now c.args.pins.now (time_at v c.args.dt.now) on.1))
+    (on.0, reset_stepped v c.in_ok-on-in-RS.on c.in-RS.q1 c.args.pins.now (time_at v c.args.dt.now) on.1))
 
 pub returns-in_ok-new-in-CTU-clause-stepped : goal.returns-in_ok-new-in-CTU-clause-stepped
 returns-in_ok-new-in-CTU-clause-stepped c = rw c.in-CTU.is c.in_ok-new-in-CTU.ensures
