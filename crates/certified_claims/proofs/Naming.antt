@@ -1,12 +1,15 @@
 -- Names that are put behind others.
-use Rattle.std.proofs.Common.{◌≡◌, ℕ, zero, suc, ◌+◌, ◌<◌, ◌++◌, List, [], ◌∷◌, Option, Some, length, map, take, get_or, slice_get, refl, sym, ap, ◌∙◌, append_assoc, arith}
-use Rattle.std.specs.List.{flat_map, range_with_len}
-use Rattle.std.proofs.lemmas.List.{map-append, map_push, take_more}
+use Rattle.std.proofs.Common.{◌≡◌, ℕ, zero, suc, ◌+◌, ◌<◌, ◌++◌, List, [], ◌∷◌, Some, length, map, take, get_or, refl, sym, ap, ◌∙◌, append_assoc, inl, inr, arith}
+use Rattle.std.specs.List.{flat_map, range_with_len, slice_get}
+use Rattle.std.proofs.lemmas.List.{map_push, take_more}
+use Rattle.std.proofs.lemmas.Option.{slice_get_cases}
+use Rattle.std.proofs.Math.Option.{some-injective}
+use Rattle.declared_names.specs.declared.declarations.Declaration.{Declaration}
 use Rattle.network.specs.Links.{Diagram}
 use Rattle.drawings.specs.declared.place.Place.{Place}
 use Rattle.power_flow.specs.declared.steps.circuit.Circuit.{Circuit}
 use Rattle.power_flow.specs.Steps.Circuit.{circuit_diagram}
-use Rattle.certified_claims.specs.BitNames.{memory_bits}
+use Rattle.certified_claims.specs.BitNames.{declared_bits, memory_bits}
 
 -- one more
 pub pushed : {A B : Type 0} (f : A → B) (old new : List A) (x : A) (y : B) → new ≡ old ++ x ∷ [] → f x ≡ y → map f new ≡ map f old ++ y ∷ []
@@ -60,3 +63,17 @@ pub memories_of : (rails : List Place) (circuits : List Circuit)
     → flat_map (λ (n : Diagram). flat_map memory_bits n.elements) (map (circuit_diagram rails) circuits) ≡ flat_map (λ (c : Circuit). flat_map memory_bits c.elements.items) circuits
 memories_of rails [] = refl
 memories_of rails (c ∷ circuits) = ap (λ l. flat_map memory_bits c.elements.items ++ l) (memories_of rails circuits)
+
+-- what is there is one
+pub same_some : {A : Type 0} {x y : A} → Some x ≡ Some y → x ≡ y
+same_some is = some-injective _ _ is
+
+-- those of one more name that is declared
+pub declared_more : (ds : List Declaration) (b c : List (List ℕ)) (i : ℕ) → i < length ds → b ≡ flat_map (λ (d : Declaration). declared_bits d.name d.declared) (take i ds)
+    → ((d : Declaration) → slice_get ds i ≡ Some d → c ≡ b ++ declared_bits d.name d.declared) → c ≡ flat_map (λ (d : Declaration). declared_bits d.name d.declared) (take (i + 1) ds)
+declared_more ds b c i lt one two =
+    let names = λ (d : Declaration). declared_bits d.name d.declared in
+    elim ((slice_get_cases ds i).1) [
+      | inl w ↦ flat_more names ds [] b c i w.0 lt one (two w.0 w.2 ∙ ap (λ (d : Declaration). b ++ names d) (sym w.3))
+      | inr w ↦ absurd (let out = w.0 in omega (arith, lt, out))
+    ]

@@ -1,12 +1,14 @@
 //! What the state bits of a ladder are called.
 
-ghost use Rattle.std.specs.Prelude.{◌≡◌, ◌++◌, ◌∷◌, [], IfOk, OnOk, codes, length, map, string_bytes};
+ghost use Rattle.std.specs.Prelude.{◌≡◌, ◌++◌, ◌∷◌, [], IfOk, OnOk, Some, codes, length, map, slice_get, string_bytes};
+ghost use Rattle.std.specs.Fmt.{decimal};
 ghost use Rattle.std.specs.List.{flat_map};
+ghost use Rattle.declared_names.specs.declared.declarations.Declaration.{Declaration};
 ghost use Rattle.network.specs.Links.{place};
 ghost use Rattle.power_flow.specs.declared.steps.circuit.Circuit.{Circuit as CircuitRecord};
 ghost use Rattle.certified_claims.specs.BitNames.{bit_names, block_bits, declared_bits, digits, memory_bits, name_at, part, place_text, variable_bits};
 
-use declared_names::{Declared, Kind};
+use declared_names::{Declarations, Declared, Kind};
 use drawings::Place;
 use ladder_systems::{is_edge_coil, is_edge_contact};
 use network::Element;
@@ -22,12 +24,26 @@ fn push_name(name: String, names: &mut Vec<String>) -> Result<(), AllocError>
     Ok(())
 }
 
+/// The name of a part of what has a name.
+fn part_name(alloc: Global, name: &str, of: &str) -> Result<String, AllocError>
+    ensures { IfOk result (λ made. string_bytes made ≡ part name.now of.now) }
+{
+    format!(in alloc; "{name}.{of}")
+}
+
 /// Adds a part of what has a name.
 fn push_part(alloc: Global, name: &str, of: &str, names: &mut Vec<String>) -> Result<(), AllocError>
     ensures { OnOk result (map (λ n. string_bytes n) names.new.items ≡ map (λ n. string_bytes n) names.old.items ++ part name.now of.now ∷ []) }
 {
-    let made = format!(in alloc; "{name}.{of}")?;
+    let made = part_name(alloc, name, of)?;
     push_name(made, names)
+}
+
+/// The name of a bit of a number.
+fn digit_name(alloc: Global, name: &str, digit: usize) -> Result<String, AllocError>
+    ensures { IfOk result (λ made. string_bytes made ≡ part name.now (decimal digit)) }
+{
+    format!(in alloc; "{name}.{digit}")
 }
 
 /// Adds so many bits of a number.
@@ -35,7 +51,7 @@ fn push_digits(alloc: Global, name: &str, count: usize, names: &mut Vec<String>)
     ensures { OnOk result (map (λ n. string_bytes n) names.new.items ≡ map (λ n. string_bytes n) names.old.items ++ digits name.now count) }
 {
     for digit in 0..count {
-        let made = format!(in alloc; "{name}.{digit}")?;
+        let made = digit_name(alloc, name, digit)?;
         push_name(made, names)?;
     }
     Ok(())
@@ -46,7 +62,7 @@ fn push_count(alloc: Global, name: &str, names: &mut Vec<String>) -> Result<(), 
     ensures { OnOk result (map (λ n. string_bytes n) names.new.items
         ≡ map (λ n. string_bytes n) names.old.items ++ digits (part name.now (codes "CV")) 16) }
 {
-    let count = format!(in alloc; "{name}.CV")?;
+    let count = part_name(alloc, name, "CV")?;
     push_digits(alloc, count.as_str(), 16, names)
 }
 
@@ -57,7 +73,7 @@ fn push_timer(alloc: Global, name: &str, names: &mut Vec<String>) -> Result<(), 
 {
     push_part(alloc, name, "IN", names)?;
     push_part(alloc, name, "Q", names)?;
-    let elapsed = format!(in alloc; "{name}.ET")?;
+    let elapsed = part_name(alloc, name, "ET")?;
     push_digits(alloc, elapsed.as_str(), 32, names)
 }
 
@@ -125,7 +141,9 @@ fn push_declared(alloc: Global, name: &str, declared: Declared, names: &mut Vec<
 fn place_text(alloc: Global, at: Place) -> Result<String, AllocError>
     ensures { IfOk result (λ text. string_bytes text ≡ place_text at) }
 {
-    format!(in alloc; "{}:{}", at.row, at.column)
+    let row = at.row;
+    let column = at.column;
+    format!(in alloc; "{row}:{column}")
 }
 
 /// The place in a row and a column.
@@ -185,6 +203,25 @@ fn push_circuits(alloc: Global, circuits: &[Circuit], names: &mut Vec<String>) -
     Ok(())
 }
 
+/// Adds the bits of what is declared at a place.
+fn push_at(
+    alloc: Global,
+    declarations: &Declarations,
+    place: usize,
+    names: &mut Vec<String>,
+) -> Result<(), AllocError>
+    ensures { OnOk result ((d : Declaration) → slice_get declarations.now place ≡ Some d
+        → map (λ n. string_bytes n) names.new.items ≡ map (λ n. string_bytes n) names.old.items ++ declared_bits d.name d.declared) }
+{
+    match declarations.entry(place) {
+        Some((name, declared)) => {
+            push_declared(alloc, name, declared, names)?;
+            Ok(())
+        }
+        None => Ok(()),
+    }
+}
+
 /// What the state bits of a ladder are called, in their order.
 pub(crate) fn bit_names(alloc: Global, ladder: &Ladder) -> Result<Vec<String>, AllocError>
     ensures { IfOk result (λ names. map (λ n. string_bytes n) names.items ≡ bit_names ladder.now.declarations ladder.now.networks) }
@@ -192,9 +229,7 @@ pub(crate) fn bit_names(alloc: Global, ladder: &Ladder) -> Result<Vec<String>, A
     let declarations = ladder.declarations();
     let mut names = Vec::new(alloc);
     for place in 0..declarations.len() {
-        if let Some((name, declared)) = declarations.entry(place) {
-            push_declared(alloc, name, declared, &mut names)?;
-        }
+        push_at(alloc, declarations, place, &mut names)?;
     }
     push_circuits(alloc, ladder.circuits(), &mut names)?;
     Ok(names)

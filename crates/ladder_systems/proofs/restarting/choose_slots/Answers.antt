@@ -10,7 +10,7 @@ use Rattle.ladder_systems.proofs.restarting.choose_slots.Goals as goal
 pub chosen-requires : goal.chosen-requires
 chosen-requires c =
     let long = length_all_zip IsLike c.args.fresh.now c.args.slots.now c.requires in
-    AllZip-get_or IsLike c.args.fresh.now c.args.slots.now c.loop-place.place _ _ c.requires (omega (arith, long))
+    rw (c.index-fresh-place.is, c.index-slots-place.is) (AllZip-get_or IsLike c.args.fresh.now c.args.slots.now c.loop-place.place _ _ c.requires (omega (arith, long)))
 
 pub loop-place-preserved : goal.loop-place-preserved
 loop-place-preserved c =
@@ -20,13 +20,13 @@ loop-place-preserved c =
     let less : k < length c.args.fresh.now = omega (arith, long) in
     record {
       built = λ v agrees.
-          let chosen = c.in_ok-slot.ensures.built v agrees in
+          let chosen = (rw (c.index-fresh-place.is, c.index-slots-place.is) at c.in_ok-slot.ensures.built) v agrees in
           let was = c.loop-place.invariant.built v chosen.0 in (
             was.0,
             ap (slots_at v) c.in_ok-push_slot.ensures
                 ∙ chosen_more v (signal_value v c.args.condition) c.args.fresh.now c.args.slots.now c.loop-place.made.items k _ _ c.in_ok-slot.slot less lt was.1 chosen.1,
           );
-      like = like_pushed c.args.fresh.now c.loop-place.made.items _ k _ c.in_ok-slot.slot less c.loop-place.invariant.like c.in_ok-slot.ensures.like c.in_ok-push_slot.ensures;
+      like = like_pushed c.args.fresh.now c.loop-place.made.items _ k _ c.in_ok-slot.slot less c.loop-place.invariant.like (rw c.index-fresh-place.is at c.in_ok-slot.ensures.like) c.in_ok-push_slot.ensures;
     }
 
 pub returns-clause-slots : goal.returns-clause-slots

@@ -7,7 +7,7 @@ use Rattle.ladder_systems.proofs.state_bits.bits_of.Goals as goal
 
 pub loop-slot-preserved : goal.loop-slot-preserved
 loop-slot-preserved c =
-    listed_more c.args.slots.now c.loop-slot.bits.items c.push_signals.new.signals.items c.loop-slot.slot-index _ _ c.loop-slot-test.true refl c.loop-slot.invariant c.in_ok-push_signals.ensures
+    listed_more c.args.slots.now c.loop-slot.bits.items c.push_signals.new.signals.items c.loop-slot.slot-index _ _ c.loop-slot-test.true refl c.loop-slot.invariant (rw c.slot-item.is at c.in_ok-push_signals.ensures)
 
 pub returns : goal.returns
 returns c =
