@@ -47,7 +47,12 @@ fn digit_name(alloc: Global, name: &str, digit: usize) -> Result<String, AllocEr
 }
 
 /// Adds so many bits of a number.
-fn push_digits(alloc: Global, name: &str, count: usize, names: &mut Vec<String>) -> Result<(), AllocError>
+fn push_digits(
+    alloc: Global,
+    name: &str,
+    count: usize,
+    names: &mut Vec<String>,
+) -> Result<(), AllocError>
     ensures { OnOk result (map (λ n. string_bytes n) names.new.items ≡ map (λ n. string_bytes n) names.old.items ++ digits name.now count) }
 {
     for digit in 0..count {
@@ -78,7 +83,12 @@ fn push_timer(alloc: Global, name: &str, names: &mut Vec<String>) -> Result<(), 
 }
 
 /// Adds the bits of a counter that counts one way.
-fn push_counter(alloc: Global, name: &str, input: &str, names: &mut Vec<String>) -> Result<(), AllocError>
+fn push_counter(
+    alloc: Global,
+    name: &str,
+    input: &str,
+    names: &mut Vec<String>,
+) -> Result<(), AllocError>
     ensures { OnOk result (map (λ n. string_bytes n) names.new.items ≡ map (λ n. string_bytes n) names.old.items
         ++ (part name.now input.now ∷ part name.now (codes "Q") ∷ digits (part name.now (codes "CV")) 16)) }
 {
@@ -99,7 +109,12 @@ fn push_up_down(alloc: Global, name: &str, names: &mut Vec<String>) -> Result<()
 }
 
 /// Adds the bits of a block.
-fn push_block(alloc: Global, name: &str, block: BlockType, names: &mut Vec<String>) -> Result<(), AllocError>
+fn push_block(
+    alloc: Global,
+    name: &str,
+    block: BlockType,
+    names: &mut Vec<String>,
+) -> Result<(), AllocError>
     ensures { OnOk result (map (λ n. string_bytes n) names.new.items ≡ map (λ n. string_bytes n) names.old.items ++ block_bits name.now block) }
 {
     match block {
@@ -112,7 +127,12 @@ fn push_block(alloc: Global, name: &str, block: BlockType, names: &mut Vec<Strin
 }
 
 /// Adds the bits of a variable.
-fn push_variable(alloc: Global, name: &str, kind: Kind, names: &mut Vec<String>) -> Result<(), AllocError>
+fn push_variable(
+    alloc: Global,
+    name: &str,
+    kind: Kind,
+    names: &mut Vec<String>,
+) -> Result<(), AllocError>
     ensures { OnOk result (map (λ n. string_bytes n) names.new.items ≡ map (λ n. string_bytes n) names.old.items ++ variable_bits name.now kind) }
 {
     match kind {
@@ -126,7 +146,12 @@ fn push_variable(alloc: Global, name: &str, kind: Kind, names: &mut Vec<String>)
 }
 
 /// Adds the bits of what is declared.
-fn push_declared(alloc: Global, name: &str, declared: Declared, names: &mut Vec<String>) -> Result<(), AllocError>
+fn push_declared(
+    alloc: Global,
+    name: &str,
+    declared: Declared,
+    names: &mut Vec<String>,
+) -> Result<(), AllocError>
     ensures { OnOk result (map (λ n. string_bytes n) names.new.items ≡ map (λ n. string_bytes n) names.old.items ++ declared_bits name.now declared) }
 {
     match declared {
@@ -182,7 +207,11 @@ fn push_memory(alloc: Global, element: &Element, names: &mut Vec<String>) -> Res
 }
 
 /// Adds the names of the memories of a network.
-fn push_memories(alloc: Global, elements: &[Element], names: &mut Vec<String>) -> Result<(), AllocError>
+fn push_memories(
+    alloc: Global,
+    elements: &[Element],
+    names: &mut Vec<String>,
+) -> Result<(), AllocError>
     ensures { OnOk result (map (λ n. string_bytes n) names.new.items
         ≡ map (λ n. string_bytes n) names.old.items ++ flat_map memory_bits elements.now) }
 {
@@ -193,7 +222,11 @@ fn push_memories(alloc: Global, elements: &[Element], names: &mut Vec<String>) -
 }
 
 /// Adds the names of the memories of all networks.
-fn push_circuits(alloc: Global, circuits: &[Circuit], names: &mut Vec<String>) -> Result<(), AllocError>
+fn push_circuits(
+    alloc: Global,
+    circuits: &[Circuit],
+    names: &mut Vec<String>,
+) -> Result<(), AllocError>
     ensures { OnOk result (map (λ n. string_bytes n) names.new.items ≡ map (λ n. string_bytes n) names.old.items
         ++ flat_map (λ (c : CircuitRecord). flat_map memory_bits c.elements.items) circuits.now) }
 {

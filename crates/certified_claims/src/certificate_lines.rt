@@ -56,7 +56,11 @@ fn push_clause(text: &mut String, names: &[String], clause: &Vec<Literal>) -> Re
 }
 
 /// The lines of clauses.
-fn push_clauses(text: &mut String, names: &[String], clauses: &[Vec<Literal>]) -> Result<(), AllocError>
+fn push_clauses(
+    text: &mut String,
+    names: &[String],
+    clauses: &[Vec<Literal>],
+) -> Result<(), AllocError>
     ensures { OnOk result (GrowsBy text.old text.new (flat_map (clause_line (map (λ n. string_bytes n) names.now)) clauses.now)) }
 {
     for clause in clauses {

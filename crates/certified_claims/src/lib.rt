@@ -15,5 +15,5 @@ mod verify_command;
 
 pub use claim::certify_claim;
 pub use claims::certify_claims;
-pub use verdict::{Certified, CertifiedVerdict, CertificateSize};
+pub use verdict::{CertificateSize, Certified, CertifiedVerdict};
 pub use verify_command::{CertifiedAnswer, certify_text};

@@ -30,7 +30,12 @@ pub(crate) struct Told<'a> {
     pub(crate) networks: usize,
 }
 
-fn push_holds(text: &mut String, told: &Told<'_>, name: &str, size: CertificateSize) -> Result<(), AllocError>
+fn push_holds(
+    text: &mut String,
+    told: &Told<'_>,
+    name: &str,
+    size: CertificateSize,
+) -> Result<(), AllocError>
     ensures { OnOk result (GrowsBy text.old text.new (holds_line told.now.needed told.now.networks name.now size)) }
 {
     text.push_str("HOLDS ")?;
