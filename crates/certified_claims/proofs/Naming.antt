@@ -3,7 +3,7 @@ use Rattle.std.proofs.Common.{◌≡◌, ℕ, zero, suc, ◌+◌, ◌<◌, ◌++
 use Rattle.std.specs.List.{flat_map, range_with_len, slice_get}
 use Rattle.std.proofs.lemmas.List.{map_push, take_more}
 use Rattle.std.proofs.lemmas.Option.{slice_get_cases}
-use Rattle.std.proofs.Math.Option.{some-injective}
+use Rattle.std.specs.Option.{unwrap_or}
 use Rattle.declared_names.specs.declared.declarations.Declaration.{Declaration}
 use Rattle.network.specs.Links.{Diagram}
 use Rattle.drawings.specs.declared.place.Place.{Place}
@@ -65,8 +65,8 @@ memories_of rails [] = refl
 memories_of rails (c ∷ circuits) = ap (λ l. flat_map memory_bits c.elements.items ++ l) (memories_of rails circuits)
 
 -- what is there is one
-pub same_some : {A : Type 0} {x y : A} → Some x ≡ Some y → x ≡ y
-same_some is = some-injective _ _ is
+pub same_some : {A : Type 0} (x y : A) → Some x ≡ Some y → x ≡ y
+same_some x y is = ap (λ o. unwrap_or o x) is
 
 -- those of one more name that is declared
 pub declared_more : (ds : List Declaration) (b c : List (List ℕ)) (i : ℕ) → i < length ds → b ≡ flat_map (λ (d : Declaration). declared_bits d.name d.declared) (take i ds)

@@ -28,7 +28,8 @@ fn push_name(name: String, names: &mut Vec<String>) -> Result<(), AllocError>
 fn part_name(alloc: Global, name: &str, of: &str) -> Result<String, AllocError>
     ensures { IfOk result (λ made. string_bytes made ≡ part name.now of.now) }
 {
-    format!(in alloc; "{name}.{of}")
+    let made = format!(in alloc; "{name}.{of}")?;
+    Ok(made)
 }
 
 /// Adds a part of what has a name.
@@ -43,7 +44,8 @@ fn push_part(alloc: Global, name: &str, of: &str, names: &mut Vec<String>) -> Re
 fn digit_name(alloc: Global, name: &str, digit: usize) -> Result<String, AllocError>
     ensures { IfOk result (λ made. string_bytes made ≡ part name.now (decimal digit)) }
 {
-    format!(in alloc; "{name}.{digit}")
+    let made = format!(in alloc; "{name}.{digit}")?;
+    Ok(made)
 }
 
 /// Adds so many bits of a number.
@@ -168,7 +170,8 @@ fn place_text(alloc: Global, at: Place) -> Result<String, AllocError>
 {
     let row = at.row;
     let column = at.column;
-    format!(in alloc; "{row}:{column}")
+    let made = format!(in alloc; "{row}:{column}")?;
+    Ok(made)
 }
 
 /// The place in a row and a column.
@@ -183,7 +186,8 @@ fn named_at(alloc: Global, name: &str, at: Place) -> Result<String, AllocError>
     ensures { IfOk result (λ text. string_bytes text ≡ name_at name.now at) }
 {
     let place = place_text(alloc, at)?;
-    format!(in alloc; "{name} at {place}")
+    let made = format!(in alloc; "{name} at {place}")?;
+    Ok(made)
 }
 
 /// Adds the name of the memory of an element, if it remembers anything.

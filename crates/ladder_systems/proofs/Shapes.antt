@@ -6,7 +6,6 @@ use Rattle.std.proofs.lemmas.Option.{slice_get-map}
 use Rattle.std.proofs.Math.ListN.{length-set}
 use Rattle.lists.proofs.Places.{element_at, some_same}
 use Rattle.std_blocks.specs.declared.value.Value.{Value}
-
 use Rattle.declared_names.specs.Kinds.{kind_of, value_first}
 use Rattle.declared_names.specs.declared.declarations.Declaration.{Declaration}
 use Rattle.declared_names.specs.declared.declarations.Declared.{Declared}

@@ -48,7 +48,11 @@ fn next_bit(gates: &mut Gates, bits: &mut Vec<Signal>) -> Result<Signal, AllocEr
 }
 
 /// The signal of a memory: the next state bit, if it is marked, and else one that is never TRUE.
-fn memory_signal(gates: &mut Gates, mark: bool, bits: &mut Vec<Signal>) -> Result<Signal, AllocError>
+fn memory_signal(
+    gates: &mut Gates,
+    mark: bool,
+    bits: &mut Vec<Signal>,
+) -> Result<Signal, AllocError>
     ensures quiet { IfOk result (λ s. IsBuilt gates.old gates.new (λ v. AreQuiet (mark ∷ []) (bits_at v (s ∷ [])))) }
     ensures bits { IfOk result (λ s. bits.new.items ≡ bits.old.items ++ marked (mark ∷ []) (s ∷ [])) }
 {

@@ -44,11 +44,7 @@ fn off_signals(alloc: Global, count: usize) -> Result<Vec<Signal>, AllocError>
 }
 
 /// The values of state bits where these stand at names, by signals that are constant, and each memory is OFF.
-fn first_bits(
-    alloc: Global,
-    first: &[EncodedSlot],
-    marks: &[bool],
-) -> Result<Vec<bool>, AllocError>
+fn first_bits(alloc: Global, first: &[EncodedSlot], marks: &[bool]) -> Result<Vec<bool>, AllocError>
     ensures { IfOk result (λ values. values.items
         ≡ bits_at none (state_signals first.now (marked marks.now (replicate (length marks.now) off)))) }
 {

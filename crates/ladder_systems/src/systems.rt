@@ -35,11 +35,7 @@ fn row_signals(
 }
 
 /// A signal that is TRUE where all these variables are.
-fn all_on(
-    gates: &mut Gates,
-    slots: &[EncodedSlot],
-    places: &[usize],
-) -> Result<Signal, AllocError>
+fn all_on(gates: &mut Gates, slots: &[EncodedSlot], places: &[usize]) -> Result<Signal, AllocError>
     ensures { IfOk result (λ s. IsBuilt gates.old gates.new (λ v. (signal_value v s ≡ true)
         ↔ All (λ place. variable_at (slots_at v slots.now) place ≡ Some (value.Bool true)) places.now)) }
 {
@@ -52,11 +48,7 @@ fn all_on(
 }
 
 /// The system that the ladder of a setup is, where it is bad that the variable at a place is TRUE after a scan.
-pub fn system_of(
-    alloc: Global,
-    setup: &Setup,
-    place: usize,
-) -> Result<TransitionSystem, AllocError>
+pub fn system_of(alloc: Global, setup: &Setup, place: usize) -> Result<TransitionSystem, AllocError>
     ensures { IfOk result (IsSystemOf setup.now place) }
 {
     declared_are_like();
@@ -67,7 +59,15 @@ pub fn system_of(
     let row = row_signals(alloc, &mut gates, &state.bits, setup.width())?;
     let mut slots = Vec::from_slice(alloc, &state.slots)?;
     let mut memories = Vec::from_slice(alloc, &state.memories)?;
-    scan_signals(alloc, &mut gates, setup, &row, &state.first, &mut slots, &mut memories)?;
+    scan_signals(
+        alloc,
+        &mut gates,
+        setup,
+        &row,
+        &state.first,
+        &mut slots,
+        &mut memories,
+    )?;
     let next = bits_of(alloc, &slots, &marks, &memories)?;
     let constraint = all_on(&mut gates, &slots, setup.given())?;
     let bad = variable_on(&gates, &slots, place);

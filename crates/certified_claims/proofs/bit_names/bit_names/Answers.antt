@@ -3,6 +3,7 @@ use Rattle.std.specs.List.{flat_map}
 use Rattle.std.proofs.lemmas.List.{take_all}
 use Rattle.declared_names.specs.declared.declarations.Declaration.{Declaration}
 use Rattle.network.specs.Links.{Diagram}
+use Rattle.power_flow.specs.declared.steps.circuit.Circuit.{Circuit}
 use Rattle.certified_claims.specs.BitNames.{declared_bits, memory_bits}
 use Rattle.certified_claims.proofs.Naming.{declared_more, memories_of}
 use Rattle.certified_claims.proofs.bit_names.bit_names.Goals as goal
@@ -24,6 +25,7 @@ returns c =
     let all : length ds ≤ c.loop-place.place = omega (arith, also, long) in
     let names = flat_map (λ (d : Declaration). declared_bits d.name d.declared) in
     let memories = flat_map (λ (n : Diagram). flat_map memory_bits n.elements) in
+    let of_circuits = flat_map (λ (d : Circuit). flat_map memory_bits d.elements.items) circuits in
     c.in_ok-push_circuits.ensures
-    ∙ ap (λ l. l ++ _) (c.loop-place.invariant ∙ ap names (take_all c.loop-place.place ds all ∙ c.declarations-declarations.ensures.list))
+    ∙ ap (λ l. l ++ of_circuits) (c.loop-place.invariant ∙ ap names (take_all c.loop-place.place ds all ∙ c.declarations-declarations.ensures.list))
     ∙ ap (λ l. names c.args.ladder.now.declarations ++ l) (sym (memories_of c.circuits.ensures.rails circuits) ∙ ap memories (sym c.circuits.ensures.networks))

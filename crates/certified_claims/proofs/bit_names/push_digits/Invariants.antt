@@ -6,4 +6,4 @@ use Rattle.certified_claims.proofs.bit_names.push_digits.Given as goal
 
 abbrev pub invariant-loop-digit : goal.invariant-loop-digit
 invariant-loop-digit l = map (λ n. string_bytes n) l.names.items
-    ≡ map (λ n. string_bytes n) l.initial.names.items ++ map (λ (k : ℕ). part l.name (decimal k)) (range_with_len 0 l.digit-counter)
+    ≡ map (λ n. string_bytes n) l.initial.names.items ++ map (λ (k : ℕ). part l.name (decimal k)) (range_with_len 0 l.digit)

@@ -8,8 +8,8 @@ pub choose_slots-requires : goal.choose_slots-requires
 choose_slots-requires c =
     let ds = c.requires.0 in
     rw (c.deref-2.ensures.value, c.deref-3.ensures.value)
-        (c.declared_are_like.ensures none none ds c.in_ok-fresh.fresh.items c.args.slots.now.items
-        ((rw c.deref.ensures.value at c.in_ok-fresh.ensures.of) ds c.requires.2 c.requires.1) c.requires.2)
+    (c.declared_are_like.ensures none none ds c.in_ok-fresh.fresh.items c.args.slots.now.items
+    ((rw c.deref.ensures.value at c.in_ok-fresh.ensures.of) ds c.requires.2 c.requires.1) c.requires.2)
 
 pub returns-clause-of : goal.returns-clause-of
 returns-clause-of c = λ ds first slots.

@@ -18,4 +18,4 @@ returns-clause-of c = λ ds slots first.
     let long : length c.keep_variables.new.fresh ≡ c.in_ok-fresh.fresh.len =
     omega (arith, c.keep_variables.auto.fresh, ap length c.deref_mut.ensures.value, c.in_ok-fresh.fresh.ok.0) in
     rw (written c.in_ok-fresh.fresh.len c.keep_variables.new.fresh c.in_ok-fresh.fresh.items long)
-        (c.keep_variables.ensures.of ds slots (rw (c.deref_mut.ensures.value ∙ c.in_ok-fresh.ensures.items) first))
+    (c.keep_variables.ensures.of ds slots (rw (c.deref_mut.ensures.value ∙ c.in_ok-fresh.ensures.items) first))

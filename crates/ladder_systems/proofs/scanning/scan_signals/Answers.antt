@@ -31,9 +31,11 @@ returns-clause-scan c = on_ok _ _ c.encode_scan.result (rw (c.deref_mut.ensures.
     let left = scan_declared c.kinds_are_kept.ensures ds _ circuits.rails c.circuits-circuits.result.now (slots_at v found.items) (slots_at v c.encode_scan.new.slots)
     (bits_at v kept.items) (bits_at v c.encode_scan.new.memories) circuits.made (rw circuits.networks at meant) of in (
       opened.0,
-      rw (written found.len c.encode_scan.new.slots found.items slots_long, written kept.len c.encode_scan.new.memories kept.items memories_long) (left,
-          scan_made v u _ c.args.row.now (moment (slots_at v c.args.slots.now.items) (bits_at v c.args.memories.now.items)) found.items kept.items
-          (moment (slots_at v c.encode_scan.new.slots) (bits_at v c.encode_scan.new.memories)) (c.in_ok-dt.ensures v scan.0 ∙ c.dt.ensures) c.requires.row opened.1.0 opened.1.1 meant),
+      rw (written found.len c.encode_scan.new.slots found.items slots_long, written kept.len c.encode_scan.new.memories kept.items memories_long) (
+        left,
+        scan_made v u _ c.args.row.now (moment (slots_at v c.args.slots.now.items) (bits_at v c.args.memories.now.items)) found.items kept.items
+            (moment (slots_at v c.encode_scan.new.slots) (bits_at v c.encode_scan.new.memories)) (c.in_ok-dt.ensures v scan.0 ∙ c.dt.ensures) c.requires.row opened.1.0 opened.1.1 meant,
+      ),
     ))
 
 pub returns-clause-memories : goal.returns-clause-memories

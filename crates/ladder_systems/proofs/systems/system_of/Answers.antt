@@ -23,8 +23,8 @@ bits_of-requires c =
     let are = rw c.ladder-2.ensures at c.in_ok-state.ensures.state in
     let count = sum_by (λ (d : Diagram). length d.elements) u.ladder.networks in
     rw (c.deref-8.ensures.value, c.deref-9.ensures.value, c.in_ok-marks.ensures, c.ladder.ensures)
-        (c.in_ok-scan_signals.ensures.memories ∙ ap length c.in_ok-memories.ensures.items ∙ ap length c.deref-4.ensures.value ∙ are.states.many ∙ length-replicate count false
-        ∙ sym (marks_long u.ladder.networks))
+    (c.in_ok-scan_signals.ensures.memories ∙ ap length c.in_ok-memories.ensures.items ∙ ap length c.deref-4.ensures.value ∙ are.states.many ∙ length-replicate count false
+    ∙ sym (marks_long u.ladder.networks))
 
 pub returns : goal.returns
 returns c =
