@@ -11,14 +11,13 @@ use Rattle.gates.specs.declared.signal.Signal.{Signal}
 use Rattle.gates.specs.Gates.{Agrees}
 use Rattle.gates.specs.Signals.{signal_value}
 use Rattle.power_flow.specs.LadderValue.{LadderValue}
-use Rattle.power_flow.specs.Meaning.{moment}
 use Rattle.scan_gates.specs.declared.encoded.EncodedSlot.{EncodedSlot}
 use Rattle.scan_gates.specs.Encoded.{bits_at, slots_at}
 use Rattle.scan_gates.specs.States.{AreLike, state_signals}
 use Rattle.text_commands.specs.Restarts.{first_slots, memories_off}
 use Rattle.ladder_systems.specs.Remembering.{marked, memory_marks}
 use Rattle.ladder_systems.specs.Steps.States.{AreOf, AreQuiet, none, off}
-use Rattle.ladder_systems.specs.Steps.LadderStates.{AreStates, AreStateSignals}
+use Rattle.ladder_systems.specs.Steps.LadderStates.{AreStateSignals}
 use Rattle.ladder_systems.proofs.FirstState.{none_agrees, off_at_none}
 use Rattle.ladder_systems.proofs.Parts.{moment_same}
 use Rattle.ladder_systems.proofs.Pushing.{state_signals-append}

@@ -1,5 +1,5 @@
 -- Where a system of state bits does what something else does, and is never bad, that is never bad.
-use Rattle.std.proofs.Common.{◌≡◌, ℕ, List, [], ◌∷◌, Bool, true, false, length, sym, ap, ◌∙◌, subst}
+use Rattle.std.proofs.Common.{◌≡◌, ℕ, List, [], ◌∷◌, Bool, true, false, length, sym, ◌∙◌, subst}
 use Rattle.std.proofs.lemmas.List.{length-map}
 use Rattle.std.specs.Global.{Vec}
 use Rattle.clauses.specs.declared.literal.Literal.{Literal}
@@ -7,7 +7,7 @@ use Rattle.transition_systems.specs.Certificates.{AreInductive, HoldOf}
 use Rattle.gates.specs.Signals.{signal_value}
 use Rattle.gates.specs.Gates.{Agrees}
 use Rattle.transition_systems.specs.declared.system.TransitionSystem.{TransitionSystem}
-use Rattle.transition_systems.specs.Systems.{bits_at, AreValuesAt, NeverBadFrom, NeverBad, IsWhole}
+use Rattle.transition_systems.specs.Systems.{bits_at, NeverBadFrom, NeverBad, IsWhole}
 
 -- the rows lead from one state to the other, each by a step after which what is given is so
 abbrev pub Leads : (M : Type 0) → (List Bool → M → M → Type 0) → (M → Type 0) → M → List (List Bool) → M → Type 0

@@ -1,5 +1,5 @@
 -- The signals of a ladder's states.
-use Rattle.std.specs.Prelude.{◌≡◌, ℕ, List, Bool, length, replicate}
+use Rattle.std.specs.Prelude.{◌≡◌, ℕ, List, Bool, length}
 use Rattle.gates.specs.declared.gates.Gate.{Gate}
 use Rattle.gates.specs.declared.signal.Signal.{Signal}
 use Rattle.gates.specs.Gates.{Agrees}

@@ -1,10 +1,7 @@
-use Rattle.std.proofs.Common.{◌≡◌, ◌<◌, None, Some, length, slice_get, ap, ◌∙◌, subst, arith}
+use Rattle.std.proofs.Common.{◌≡◌, ◌<◌, None, Some, length, ap, ◌∙◌, arith}
 use Rattle.std.specs.Option.{option_map}
-use Rattle.std.proofs.lemmas.List.{take_all}
 use Rattle.lists.proofs.Places.{element_at}
 use Rattle.declared_names.specs.declared.declarations.Declaration.{Declaration}
-use Rattle.declared_names.specs.declared.declarations.Declared.{Declared}
-use Rattle.scan_gates.specs.Encoded.{slots_at}
 use Rattle.ladder_systems.proofs.Pushing.{first_more}
 use Rattle.ladder_systems.proofs.first.first_slots.Goals as goal
 use Rattle.ladder_systems.proofs.first.first_slots.Goals.{in-Some+in_ok-push_slot, in_default}

@@ -1,4 +1,4 @@
-use Rattle.std.proofs.Common.{◌≡◌, List, Bool, ap, sym, ◌∙◌}
+use Rattle.std.proofs.Common.{ap, sym, ◌∙◌}
 use Rattle.power_flow.specs.Meaning.{Moment, moment}
 use Rattle.verifying.specs.Runs.{Meets, ScansWith, before_scan, first, opened}
 use Rattle.ladder_systems.proofs.Leading.{led}

@@ -1,6 +1,6 @@
-use Rattle.std.proofs.Common.{◌≡◌, ℕ, List, [], ◌∷◌, Bool, length, sym, ap, ◌∙◌}
+use Rattle.std.proofs.Common.{sym, ap, ◌∙◌}
 use Rattle.power_flow.specs.Meaning.{Moment, moment}
-use Rattle.verifying.specs.Runs.{SetupValue, IsOn, Meets, ScansWith, Leads as LeadsOf, before_scan, opened, first}
+use Rattle.verifying.specs.Runs.{IsOn, Meets, ScansWith, before_scan, opened, first}
 use Rattle.ladder_systems.proofs.Leading.{led}
 use Rattle.ladder_systems.proofs.Never.{never_bad}
 use Rattle.ladder_systems.proofs.NotOn.{first_not_on}

@@ -1,4 +1,4 @@
-use Rattle.std.proofs.Common.{◌≡◌, set, ap, ◌∙◌}
+use Rattle.std.proofs.Common.{set, ap, ◌∙◌}
 use Rattle.scan_steps.specs.declared.slot.Slot.TheVariants.{Variable}
 use Rattle.scan_gates.specs.Encoded.{slots_at}
 use Rattle.ladder_systems.proofs.opening.assign.Goals as goal

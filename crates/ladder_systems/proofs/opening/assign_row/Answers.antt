@@ -1,6 +1,5 @@
 use Rattle.std.proofs.Common.{sym, ◌∙◌}
 use Rattle.scan_gates.specs.Encoded.{bits_at, slots_at}
-use Rattle.verifying.specs.Runs.{IsBoolAt}
 use Rattle.ladder_systems.proofs.Opened.{row_done, row_next_of}
 use Rattle.ladder_systems.proofs.Shapes.{bool_there}
 use Rattle.ladder_systems.proofs.opening.assign_row.Goals as goal

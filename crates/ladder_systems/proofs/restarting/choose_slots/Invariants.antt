@@ -1,4 +1,4 @@
-use Rattle.std.proofs.Common.{◌≡◌, ℕ, Bool, if◌then◌else◌, length, take}
+use Rattle.std.proofs.Common.{◌≡◌, ℕ, Bool, if◌then◌else◌, take}
 use Rattle.gates.specs.Gates.{Agrees}
 use Rattle.gates.specs.Signals.{signal_value}
 use Rattle.scan_gates.specs.Encoded.{slots_at}

@@ -1,4 +1,4 @@
-use Rattle.std.proofs.Common.{refl, sym, ap, ◌∙◌}
+use Rattle.std.proofs.Common.{refl, sym, ap}
 use Rattle.scan_gates.specs.Encoded.{slots_at}
 use Rattle.text_commands.specs.Series.{set_value}
 use Rattle.ladder_systems.proofs.Shapes.{variable_there}

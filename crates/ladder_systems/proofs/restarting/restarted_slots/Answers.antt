@@ -1,7 +1,6 @@
-use Rattle.std.proofs.Common.{◌≡◌, length, ap, ◌∙◌, sym, subst, arith}
+use Rattle.std.proofs.Common.{◌≡◌, length, ap, ◌∙◌, arith}
 use Rattle.scan_gates.specs.Encoded.{slots_at}
 use Rattle.text_commands.specs.Restarts.{restarted}
-use Rattle.ladder_systems.specs.Steps.States.{AreOf}
 use Rattle.ladder_systems.proofs.Pushing.{written}
 use Rattle.ladder_systems.proofs.restarting.restarted_slots.Goals as goal
 

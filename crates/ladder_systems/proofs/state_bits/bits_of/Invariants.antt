@@ -1,4 +1,4 @@
-use Rattle.std.proofs.Common.{◌≡◌, ◌++◌, [], take}
+use Rattle.std.proofs.Common.{◌≡◌, [], take}
 use Rattle.scan_gates.specs.States.{state_signals}
 use Rattle.ladder_systems.proofs.state_bits.bits_of.Given as goal
 

@@ -1,4 +1,4 @@
-use Rattle.std.proofs.Common.{◌≡◌, ◌+◌, ℕ, Bool, length, sym, ap, ◌∙◌}
+use Rattle.std.proofs.Common.{◌+◌, length, sym, ap, ◌∙◌}
 use Rattle.std.proofs.lemmas.List.{length_push, take_all}
 use Rattle.ladder_systems.proofs.Pushing.{append_nil, marked_more, quiet_more}
 use Rattle.ladder_systems.proofs.state_bits.memory_signals.Goals as goal

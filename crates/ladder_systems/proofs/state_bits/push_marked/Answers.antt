@@ -1,4 +1,3 @@
-use Rattle.std.proofs.lemmas.List.{take_all}
 use Rattle.ladder_systems.proofs.Pushing.{marked_next}
 use Rattle.ladder_systems.proofs.state_bits.push_marked.Goals as goal
 

@@ -1,4 +1,4 @@
-use Rattle.std.proofs.Common.{◌++◌, length, sym, ap, ◌∙◌, subst, []}
+use Rattle.std.proofs.Common.{◌++◌, length, ap, ◌∙◌, []}
 use Rattle.scan_gates.specs.States.{state_signals}
 use Rattle.ladder_systems.proofs.Made.{first_of, state_made}
 use Rattle.ladder_systems.proofs.state_signals.state_signals.Goals as goal

@@ -1,11 +1,10 @@
-use Rattle.std.proofs.Common.{◌≡◌, ◌+◌, ◌<◌, ℕ, zero, suc, List, [], ◌∷◌, Bool, true, ◌&&◌, Some, All, ap, sym, ◌∙◌, take, get_or, length, slice_get}
+use Rattle.std.proofs.Common.{◌≡◌, ℕ, true, ◌&&◌, Some, ap, sym, ◌∙◌}
 use Rattle.std.proofs.lemmas.List.{take_all}
 use Rattle.std.proofs.lemmas.List.Elements.{All-nil}
 use Rattle.std_blocks.specs.declared.value.Value.TheVariants as value
 use Rattle.gates.specs.Signals.{signal_value}
 use Rattle.scan_steps.specs.Values.{is_true}
 use Rattle.scan_steps.specs.Slots.{variable_at}
-use Rattle.scan_steps.specs.declared.slot.Slot.{Slot}
 use Rattle.scan_gates.specs.Encoded.{slots_at}
 use Rattle.ladder_systems.proofs.Truths.{all_more, both_true, true_is}
 use Rattle.ladder_systems.proofs.systems.all_on.Goals as goal

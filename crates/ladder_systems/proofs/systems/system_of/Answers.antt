@@ -1,4 +1,4 @@
-use Rattle.std.proofs.Common.{ℕ, Bool, true, false, length, sum_by, ap, sym, ◌∙◌}
+use Rattle.std.proofs.Common.{ℕ, Bool, false, length, sum_by, ap, sym, ◌∙◌}
 use Rattle.std.proofs.lemmas.List.{length-replicate}
 use Rattle.network.specs.Links.{Diagram}
 use Rattle.gates.specs.Gates.{Agrees}
