@@ -6,7 +6,7 @@ pub returns : goal.returns
 returns c =
     let p = c.args.prepared.now in
     let v = searched_of p.slice p.whole in
-    let wide = rw (c.ladder.ensures, c.searched.ensures) at c.declarations-_wide.ensures.wide in
+    let wide = rw (c.ladder.ensures, c.searched.ensures) at c.declarations-wide.ensures.wide in
     let never = c.never_bad_is_never.ensures v c.args.place c.args.system.now wide c.requires.system c.requires.whole c.requires.never in
     let searched = c.requires.searched in (
       c.never_of_whole.ensures p.whole v searched.0 p.idle.items searched.1 c.args.place searched.2 searched.3 never,

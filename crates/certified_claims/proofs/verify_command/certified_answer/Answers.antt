@@ -74,6 +74,6 @@ returns-clause-ok c =
       lines = string_bytes c.in_ok-text.text;
       texts = rw c.deref.ensures.value at c.in_ok-text.ensures;
       whole = rw c.deref-2.ensures.value at c.in_ok-push_premise_line.ensures;
-      certified = rw (c.deref-3.ensures.value, c.ladder.ensures, c.searched.ensures) at c.in_ok-certificates.ensures;
+      certified = rw (c.deref-3.ensures.value, c.ladder-ladder.ensures, c.searched.ensures) at c.in_ok-certificates.ensures;
       summed = rw c.deref-4.ensures.value at c.summary_of.ensures;
     }
