@@ -1,5 +1,6 @@
 """How far the counts of a ladder's counters matter. Where no operand shows a count, one above PV of a counter up can't be told from
-PV, if that is a number, nor one below 0 of a counter down from 0. A counter that is drawn twice counts as far as it can."""
+PV, if that is a number, nor one below 0 of a counter down from 0. A counter that is drawn twice counts as far as it can, and so does
+one of which PV or Q is written in small letters."""
 from . import words
 
 MOST = 32767
@@ -28,23 +29,23 @@ def limit_of(box):
 def preset_of(box):
     """The number at PV of a box, if one stands there."""
     for pin in box.pins:
-        if pin.is_left and words.fold(pin.name) == "PV" and pin.operand:
+        if pin.is_left and pin.name == "PV" and pin.operand:
             return words.number_of(pin.operand.text)
     return None
 
 
 def shows_count(box):
     """Whether a box stores more of its instance than Q."""
-    return any(not pin.is_left and pin.operand and words.fold(pin.name) != "Q" for pin in box.pins)
+    return any(not pin.is_left and pin.operand and pin.name != "Q" for pin in box.pins)
 
 
 def counts_read(box):
     """The instances of which the operands of a box read more than Q."""
     for pin in box.pins:
         if pin.is_left and pin.operand and not words.is_literal(pin.operand.text):
-            name, _, output = words.fold(pin.operand.text).partition(".")
+            name, _, output = pin.operand.text.partition(".")
             if output != "Q":
-                yield name
+                yield words.fold(name)
 
 
 def limit_counts(state, limits):
