@@ -71,8 +71,8 @@ pub returns-in_err-whole-clause-err : goal.returns-in_err-whole-clause-err
 returns-in_err-whole-clause-err c =
     kept_fault no_memory (RefusesPreparing (source_of c.args.source) (question_of c.args.question.now)) _ c.from_residual-in_err-whole.ensures.1 tt
 
-pub new-whole-requires : goal.new-whole-requires
-new-whole-requires c =
+pub new-requires : goal.new-requires
+new-requires c =
     let m = c.in_ok-ladder.field-0 in
     let asked = rw c.declarations.ensures.list at (rw c.deref.ensures.value at c.in_ok-asked.ensures.ok) in
     asked_has_inputs m.ladder.declarations m.ladder.networks m.marks.items (question_of c.args.question.now) c.in_ok-asked.asked c.in_ok-ladder.ensures.marked.marks asked
