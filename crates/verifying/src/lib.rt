@@ -41,4 +41,3 @@ pub use verdict::{Found, Tally, Verdict};
 pub use verdict_lines::{push_counted, push_needed_of, push_run};
 pub use verify_command::{prepare, verify_text};
 pub use verify_fault::{ClaimFault, ClaimFaultKind, HeldFault, HeldFaultKind, VerifyFault};
-pub use whole_rows::whole_rows;
