@@ -25,21 +25,10 @@ def sentence_of(crate):
     return beginning if beginning.count(" ") >= 4 else sentence
 
 
-def nearest(crate, below):
-    """Those that a crate names and doesn't stand on through another one that it names."""
-    further = {low for it in below for low in crates_of(it) if low != it}
-    return [it for it in below if it not in further]
-
-
 def table():
-    rows = ["Crate | What is in it | Over", "---|---|---"]
     wanted = crates_of(PROGRAM)
-    for crate, below in listed_crates().items():
-        if crate not in wanted:
-            continue
-        over = ", ".join(f"`{it}`" for it in nearest(crate, below))
-        rows.append(f"`{crate}` | {sentence_of(crate)} | {over}".rstrip())
-    return "\n".join(rows) + "\n"
+    rows = [f"`{crate}` | {sentence_of(crate)}" for crate in listed_crates() if crate in wanted]
+    return "\n".join(["Crate | What is in it", "---|---", *rows]) + "\n"
 
 
 def main(words):

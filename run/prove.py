@@ -183,7 +183,7 @@ def main(words):
     proofs = Proofs()
     tell(
         f"the program is proved and built first: {len(proofs.all)} crates, {proofs.at_once} at once."
-        " From a fresh clone this takes about half an hour on four processors, later only what changed"
+        " From a fresh clone this takes about an hour on four processors, later only what changed"
     )
     failed = proofs.prove()
     if failed:

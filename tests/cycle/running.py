@@ -16,12 +16,15 @@ from collections import Counter
 from account import ENDED, Account, Wrong, has_answer, lines_in, lives_in, parted
 from rules.cycle import FIELD, NEIGHBOURS
 from rules.plant_text import find, read_plant
+from rules.rows import joined
 
 PLC = os.path.abspath(os.environ.get("PLC", os.path.join(os.path.dirname(os.path.abspath(__file__)), "..", "..", "plc")))
 # Nobody waits longer than this for anything that is to come, however slow the machine is.
 SECONDS = 300
 # Where the files lie that a node writes, so that a slow disk costs no time.
 MEMORY = "/dev/shm" if os.access("/dev/shm", os.W_OK) else None
+# Words more for each node, of how its journal is noted.
+NOTING = []
 # So many lines are a flood.
 FLOOD = int(os.environ.get("FLOOD", 100_000))
 
@@ -87,6 +90,17 @@ class Place:
         with open(self.path(name), encoding="utf-8", errors="surrogateescape", newline="") as file:
             return file.read()
 
+    def journals(self, resource):
+        """The files of the journal of a resource."""
+        return sorted(it for it in os.listdir(self.folder.name) if re.fullmatch(rf"{resource}\.journal(\.[0-9]+)?", it))
+
+    def journal(self, resource):
+        """What is noted in them, if each goes on from the one before."""
+        rows = joined([(it, self.read(it)) for it in self.journals(resource)])
+        if len(rows) > 1:
+            raise Wrong(f"{rows[1:]} go on from no other journal")
+        return rows[0][1] if rows else ""
+
     def fifo(self, resource="R1"):
         name = f"{resource}.field"
         if not os.path.exists(self.path(name)):
@@ -102,7 +116,7 @@ class Running:
         self.has_field, self.cycles = has_field, cycles
         self.neighbours, self.field = Input(), Input()
         words = [*words, "--cycle"] if cycles else list(words)
-        words = [PLC, "node", "it.plant", resource, *words, "--journal", f"{resource}.journal"]
+        words = [PLC, "node", "it.plant", resource, *words, "--journal", f"{resource}.journal", *NOTING]
         self.began, self.seen = time.monotonic(), []
         how = {"stdin": subprocess.PIPE, "stdout": subprocess.PIPE, "stderr": subprocess.PIPE, "bufsize": 0}
         self.process = subprocess.Popen(words, cwd=place.folder.name, pass_fds=passed, **how)
@@ -277,7 +291,7 @@ class Running:
         """Raises what is wrong with what it wrote and noted."""
         if self.process.returncode not in (0, -signal.SIGKILL):
             raise Wrong(f"status {self.process.returncode}{self.told()}")
-        lives = lives_in(self.place.read(f"{self.resource.name}.journal"))
+        lives = lives_in(self.place.journal(self.resource.name))
         given = {FIELD: self.field.lines, NEIGHBOURS: self.neighbours.lines}
         self.account = Account(self.place.plant, self.resource, given, lives[-1] if lives else [], self.has_field, self.cycles)
         lines, rest = parted(bytes(self.written))

@@ -7,7 +7,6 @@ use Rattle.std.proofs.lemmas.List.{length-map, get_or_default}
 use Rattle.std.proofs.lemmas.Option.{none-some, same_Some, slice_get-get_or, slice_get_within}
 use Rattle.std.proofs.KnownBytes.{Keeps-refl}
 use Rattle.std.proofs.lemmas.List.Elements.{All-map}
-use Rattle.std.specs.Option.{option_map}
 use Rattle.lists.proofs.Members.{all_at, all_from_places}
 use Rattle.lists.proofs.Places.{element_at}
 use Rattle.lists.proofs.Zips.{zip_back, zip_length}
@@ -25,6 +24,8 @@ use Rattle.text_commands.specs.Steps.Sources.{RefusesFrom}
 use Rattle.text_commands.specs.Steps.Testing.{RefusesSet}
 use Rattle.text_commands.specs.declared.text_command_fault.TextCommandFault.{TextCommandFault}
 use Rattle.text_commands.specs.declared.text_command_fault.TextCommandFault.TheVariants.{Text, Word, Write, Memory}
+use Rattle.needed_networks.specs.declared.count_limit.CountLimit.{CountLimit}
+use Rattle.needed_networks.specs.Counts.{AreLimits}
 use Rattle.needed_networks.specs.Needs.{IsIdle}
 use Rattle.needed_networks.specs.Slices.{kept_networks}
 use Rattle.needed_networks.specs.declared.slice.Slice.{Slice}
@@ -45,8 +46,9 @@ use Rattle.verifying.specs.Premises.{HasTimer, IsTimed}
 use Rattle.verifying.specs.Questions.{HoldsAt, HoldsInput, HoldsNoInput, IsClaim, IsNoClaim, QuestionValue}
 use Rattle.verifying.specs.VerifyText.{ExplainsAnswer, IsSetup, restarts_of}
 use Rattle.verifying.specs.Steps.Adding.{AreWholeRows, FitsSetup}
-use Rattle.verifying.specs.Steps.Asking.{AreHeldBy, IsAsked, IsPrepared, RefusesAsking, RefusesHolding, RefusesPreparing}
-use Rattle.verifying.specs.Steps.Wholes.{AreWholeVerdicts, IsMarkedLadder, IsSliced, IsSliceOrAll, IsWholeVerdict, RefusesFew, needed_count, searched_of, slice_setup}
+use Rattle.verifying.specs.Preparing.{IsPrepared, RefusesPreparing, searched_of}
+use Rattle.verifying.specs.Steps.Asking.{AreHeldBy, IsAsked, RefusesAnswering, RefusesAsking, RefusesHolding}
+use Rattle.verifying.specs.Steps.Wholes.{AreWholeVerdicts, IsMadeOf, IsMarkedLadder, IsSliced, IsSliceOrAll, IsWholeVerdict, needed_count}
 use Rattle.verifying.specs.Steps.Marks.{AreConstantsOf, AreMarksOf, AreUnmarked, ClaimsRead, ClaimsRefused, GivenRefused, HeldRead, HeldRefused, HoldsOf, HoldsNoneOf, IsClaimOf, IsNoClaimOf}
 use Rattle.verifying.specs.declared.verify_fault.ClaimFaultKind.{ClaimFaultKind}
 use Rattle.verifying.specs.declared.verify_fault.ClaimFaultKind.TheVariants.{NoVariable, NeverStored}
@@ -288,12 +290,12 @@ pub asked_has_inputs : (ds : List Declaration) (networks : List Diagram) (marks 
 asked_has_inputs ds networks marks q a are asked = has_inputs ds networks a.free.items a.held.items (asked_inputs ds networks marks q a are asked)
 
 -- the ladder with what is asked
-abbrev pub setup_of : LadderValue → ℕ → Asked → Option (List ℕ) → SetupValue
-setup_of l dt a restarts = record { ladder = l; dt = dt; free = a.free.items; held = a.held.items; given = a.given.items; restarts = restarts }
+abbrev pub setup_of : LadderValue → ℕ → Asked → Option (List ℕ) → List CountLimit → SetupValue
+setup_of l dt a restarts limits = record { ladder = l; dt = dt; free = a.free.items; held = a.held.items; given = a.given.items; restarts = restarts; limits = limits }
 
-asked_setup : (source : SourceValue) (q : QuestionValue) (l : LadderValue) (marks : List Bool) (retained : List ℕ) (a : Asked) (restarts : Option (List ℕ)) → IsLadderFrom source l.declarations l.networks → AreRetainedFrom source retained
-    → restarts ≡ restarts_of q.restarts l.declarations l.networks retained → AreLadderMarks l.declarations l.networks marks → IsAsked l.declarations marks q a → IsSetup source q (setup_of l q.dt a restarts)
-asked_setup source q l marks retained a restarts ladder kept are_restarts are asked = record {
+asked_setup : (source : SourceValue) (q : QuestionValue) (l : LadderValue) (marks : List Bool) (retained : List ℕ) (a : Asked) (restarts : Option (List ℕ)) (limits : List CountLimit) → IsLadderFrom source l.declarations l.networks → AreRetainedFrom source retained
+    → restarts ≡ restarts_of q.restarts l.declarations l.networks retained → AreLadderMarks l.declarations l.networks marks → IsAsked l.declarations marks q a → IsSetup source q (setup_of l q.dt a restarts limits)
+asked_setup source q l marks retained a restarts limits ladder kept are_restarts are asked = record {
   ladder = ladder;
   dt = refl;
   rows = asked.by.rows;
@@ -326,20 +328,15 @@ needed_all : (places : List ℕ) → needed_places [] places ≡ places
 needed_all [] = refl
 needed_all (p ∷ places) = ap (λ l. p ∷ l) (needed_all places)
 
--- what doesn't matter, whether there is a slice or not
-pub idle_of : (l : LadderValue) (claims given : List ℕ) (idle : List Bool) (slice : Option Slice) → IsSliceOrAll l claims given idle slice → AreIdle l.declarations l.networks claims given idle
-idle_of l claims given idle None is = subst (AreIdle l.declarations l.networks claims given) (sym is) (all_needed l.declarations l.networks claims given)
-idle_of l claims given idle (Some s) is = is.are_idle
-
 -- what is searched
-searched_by : (l : LadderValue) (dt : ℕ) (a : Asked) (restarts : Option (List ℕ)) (idle : List Bool) (slice : Option Slice) (needed : List ℕ) → IsSliceOrAll l a.claims.items a.given.items idle slice
-    → needed ≡ needed_places idle a.free.items → length needed ≤ 20
-    → IsSearched (setup_of l dt a restarts) a.claims.items idle (searched_of (option_map (slice_setup dt needed a.held.items a.given.items restarts) slice) (setup_of l dt a restarts))
+searched_by : (l : LadderValue) (dt : ℕ) (a : Asked) (restarts : Option (List ℕ)) (limits : List CountLimit) (idle : List Bool) (slice : Option Slice) (made : Option SetupValue) (needed : List ℕ)
+    → IsSliceOrAll l a.claims.items a.given.items idle slice → needed ≡ needed_places idle a.free.items → AreLimits l.declarations limits [] l.networks
+    → IsMadeOf dt needed a.held.items a.given.items restarts slice made
+    → IsSearched (setup_of l dt a restarts limits) a.claims.items idle (searched_of made (setup_of l dt a restarts limits))
 unfolding all_needed
-searched_by l dt a restarts idle None needed is same few =
-    let free : needed ≡ a.free.items = same ∙ ap (λ i. needed_places i a.free.items) is ∙ needed_all a.free.items in
-    let long : length needed ≡ length a.free.items = ap length free in
-    subst (λ i. IsSearched (setup_of l dt a restarts) a.claims.items i (setup_of l dt a restarts)) (sym is) (record {
+searched_by l dt a restarts limits idle None made needed is same limited none =
+    subst (λ (o : Option SetupValue). IsSearched (setup_of l dt a restarts limits) a.claims.items idle (searched_of o (setup_of l dt a restarts limits))) (sym none)
+    (subst (λ i. IsSearched (setup_of l dt a restarts limits) a.claims.items i (setup_of l dt a restarts limits)) (sym is) (record {
       are_idle = all_needed l.declarations l.networks a.claims.items a.given.items;
       declarations = refl;
       networks = sym (kept_all l.networks);
@@ -348,87 +345,86 @@ searched_by l dt a restarts idle None needed is same few =
       held = refl;
       given = refl;
       restarts = refl;
-      few = omega arith;
+      limits = limited;
+    }))
+searched_by l dt a restarts limits idle (Some s) None needed is same limited none = absurd none
+searched_by l dt a restarts limits idle (Some s) (Some v) needed is same limited sliced =
+    subst (IsSearched (setup_of l dt a restarts limits) a.claims.items idle) (sym sliced.is) (record {
+      are_idle = is.are_idle;
+      declarations = is.declarations;
+      networks = is.networks;
+      dt = refl;
+      free = same;
+      held = refl;
+      given = refl;
+      restarts = refl;
+      limits = sliced.limits;
     })
-searched_by l dt a restarts idle (Some s) needed is same few = record {
-  are_idle = is.are_idle;
-  declarations = is.declarations;
-  networks = is.networks;
-  dt = refl;
-  free = same;
-  held = refl;
-  given = refl;
-  restarts = refl;
-  few = few;
-}
 
-needed_by : (l : LadderValue) (dt : ℕ) (a : Asked) (restarts : Option (List ℕ)) (idle : List Bool) (slice : Option Slice) (needed : List ℕ) (networks : ℕ) → IsSliceOrAll l a.claims.items a.given.items idle slice
-    → networks ≡ length l.networks
-    → needed_count slice networks ≡ length (searched_of (option_map (slice_setup dt needed a.held.items a.given.items restarts) slice) (setup_of l dt a restarts)).ladder.networks
-needed_by l dt a restarts idle None needed networks is count = count
-needed_by l dt a restarts idle (Some s) needed networks is count = is.count
+needed_by : (l : LadderValue) (dt : ℕ) (a : Asked) (restarts : Option (List ℕ)) (limits : List CountLimit) (idle : List Bool) (slice : Option Slice) (made : Option SetupValue) (needed : List ℕ) (networks : ℕ)
+    → IsSliceOrAll l a.claims.items a.given.items idle slice → IsMadeOf dt needed a.held.items a.given.items restarts slice made → networks ≡ length l.networks
+    → needed_count slice networks ≡ length (searched_of made (setup_of l dt a restarts limits)).ladder.networks
+needed_by l dt a restarts limits idle None made needed networks is none count =
+    count ∙ ap (λ (o : Option SetupValue). length (searched_of o (setup_of l dt a restarts limits)).ladder.networks) (sym none)
+needed_by l dt a restarts limits idle (Some s) None needed networks is none count = absurd none
+needed_by l dt a restarts limits idle (Some s) (Some v) needed networks is sliced count = is.count ∙ ap (λ (w : SetupValue). length w.ladder.networks) (sym sliced.is)
 
-pub asked_prepared : (source : SourceValue) (q : QuestionValue) (m : Marked) (a : Asked) (restarts : Option (List ℕ)) (s : Sliced) (needed constants : List ℕ) → IsLadderFrom source m.ladder.declarations m.ladder.networks
-    → AreRetainedFrom source m.retained.items → restarts ≡ restarts_of q.restarts m.ladder.declarations m.ladder.networks m.retained.items → IsMarkedLadder m → IsAsked m.ladder.declarations m.marks.items q a → IsSliced m.ladder a.claims.items a.given.items s → needed ≡ needed_places s.idle.items a.free.items → length needed ≤ 20
+pub asked_prepared : (source : SourceValue) (q : QuestionValue) (m : Marked) (a : Asked) (restarts : Option (List ℕ)) (limits : List CountLimit) (s : Sliced) (made : Option SetupValue) (needed constants : List ℕ)
+    → IsLadderFrom source m.ladder.declarations m.ladder.networks → AreRetainedFrom source m.retained.items → restarts ≡ restarts_of q.restarts m.ladder.declarations m.ladder.networks m.retained.items → IsMarkedLadder m
+    → IsAsked m.ladder.declarations m.marks.items q a → IsSliced m.ladder a.claims.items a.given.items s → needed ≡ needed_places s.idle.items a.free.items
+    → AreLimits m.ladder.declarations limits [] m.ladder.networks → IsMadeOf q.dt needed a.held.items a.given.items restarts s.slice made
     → IsTimed m.ladder.declarations q.dt → AreConstantsOf m.ladder.declarations m.marks.items a.held.items (length m.ladder.declarations) constants
-    → IsPrepared source q (setup_of m.ladder q.dt a restarts) s.idle.items (searched_of (option_map (slice_setup q.dt needed a.held.items a.given.items restarts) s.slice) (setup_of m.ladder q.dt a restarts)) a.claims.items constants
+    → IsPrepared source q (setup_of m.ladder q.dt a restarts limits) s.idle.items (searched_of made (setup_of m.ladder q.dt a restarts limits)) a.claims.items constants
     (needed_count s.slice m.networks) m.networks
-asked_prepared source q m a restarts s needed constants ladder kept are_restarts marked asked sliced same few timed found = record {
-  is = asked_setup source q m.ladder m.marks.items m.retained.items a restarts ladder kept are_restarts marked.marks asked;
+asked_prepared source q m a restarts limits s made needed constants ladder kept are_restarts marked asked sliced same limited slice timed found = record {
+  is = asked_setup source q m.ladder m.marks.items m.retained.items a restarts limits ladder kept are_restarts marked.marks asked;
   claims = claims_of m.ladder.declarations m.ladder.networks m.marks.items q.claims a.claims.items marked.marks asked.claimed;
-  searched = searched_by m.ladder q.dt a restarts s.idle.items s.slice needed sliced same few;
+  searched = searched_by m.ladder q.dt a restarts limits s.idle.items s.slice made needed sliced same limited slice;
   timed = timed;
   are_constants = constants_of m.ladder.declarations m.ladder.networks m.marks.items a.held.items constants marked.marks found;
-  needed_is = needed_by m.ladder q.dt a restarts s.idle.items s.slice needed m.networks sliced marked.count;
+  needed_is = needed_by m.ladder q.dt a restarts limits s.idle.items s.slice made needed m.networks sliced slice marked.count;
   networks_is = marked.count;
 }
 
--- too many free inputs matter
-pub few_refused : (source : SourceValue) (q : QuestionValue) (m : Marked) (a : Asked) (s : Sliced) (fault : VerifyFault) → IsLadderFrom source m.ladder.declarations m.ladder.networks
-    → IsMarkedLadder m → IsAsked m.ladder.declarations m.marks.items q a → IsSliced m.ladder a.claims.items a.given.items s → RefusesFew s.idle.items a.free.items fault → RefusesPreparing source q fault
-few_refused source q m a s (Command fault) ladder marked asked sliced memory = subst (RefusesPreparing source q) (sym memory) tt
-few_refused source q m a s (Claim fault) ladder marked asked sliced memory = subst (RefusesPreparing source q) (sym memory) tt
-few_refused source q m a s (Given fault) ladder marked asked sliced memory = subst (RefusesPreparing source q) (sym memory) tt
-few_refused source q m a s (Held fault) ladder marked asked sliced memory = subst (RefusesPreparing source q) (sym memory) tt
-few_refused source q m a s NoTime ladder marked asked sliced memory = subst (RefusesPreparing source q) (sym memory) tt
-few_refused source q m a s (TooManyInputs count) ladder marked asked sliced refused = let l = m.ladder in record {
-  declarations = l.declarations;
-  networks = l.networks;
-  ladder = ladder;
-  rows = asked.by.rows;
-  read = asked.by.read;
-  held = a.held.items;
-  holds = held_of l.declarations l.networks m.marks.items q.words asked.by.rows a.held.items marked.marks asked.by.read.each asked.by.each;
-  places = a.claims.items;
-  claims = claims_of l.declarations l.networks m.marks.items q.claims a.claims.items marked.marks asked.claimed;
-  given = a.given.items;
-  givens = claims_of l.declarations l.networks m.marks.items q.given a.given.items marked.marks asked.givens;
-  free = a.free.items;
-  are_free = free_of l.declarations l.networks m.marks.items a.held.items a.free.items marked.marks asked.free;
-  idle = s.idle.items;
-  are_idle = idle_of l a.claims.items a.given.items s.idle.items s.slice sliced;
-  many = refused.0;
-  count_is = refused.1;
-}
-
 -- a timer stands still where no time passes
-pub time_refused : (source : SourceValue) (q : QuestionValue) (m : Marked) (a : Asked) (s : Sliced) (needed : List ℕ) (fault : VerifyFault) → IsLadderFrom source m.ladder.declarations m.ladder.networks
-    → AreRetainedFrom source m.retained.items → IsMarkedLadder m → IsAsked m.ladder.declarations m.marks.items q a → IsSliced m.ladder a.claims.items a.given.items s → needed ≡ needed_places s.idle.items a.free.items → length needed ≤ 20
+pub time_refused : (source : SourceValue) (q : QuestionValue) (m : Marked) (a : Asked) (fault : VerifyFault) → IsLadderFrom source m.ladder.declarations m.ladder.networks
+    → AreRetainedFrom source m.retained.items → IsMarkedLadder m → IsAsked m.ladder.declarations m.marks.items q a
     → (fault ≡ NoTime) × (q.dt ≡ 0) × HasTimer m.ladder.declarations → RefusesPreparing source q fault
-time_refused source q m a s needed fault ladder kept marked asked sliced same few (none, still, timer) =
+time_refused source q m a fault ladder kept marked asked (none, still, timer) =
     let restarts = restarts_of q.restarts m.ladder.declarations m.ladder.networks m.retained.items in
-    let long : length needed ≡ length (needed_places s.idle.items a.free.items) = ap length same in
     subst (RefusesPreparing source q) (sym none) (record {
-      setup = setup_of m.ladder q.dt a restarts;
-      is = asked_setup source q m.ladder m.marks.items m.retained.items a restarts ladder kept refl marked.marks asked;
+      setup = setup_of m.ladder q.dt a restarts [];
+      is = asked_setup source q m.ladder m.marks.items m.retained.items a restarts [] ladder kept refl marked.marks asked;
       places = a.claims.items;
       claims = claims_of m.ladder.declarations m.ladder.networks m.marks.items q.claims a.claims.items marked.marks asked.claimed;
-      idle = s.idle.items;
-      are_idle = idle_of m.ladder a.claims.items a.given.items s.idle.items s.slice sliced;
-      few = omega arith;
       still = still;
       timer = timer;
     })
+
+-- too many free inputs matter
+pub many_refused : (source : SourceValue) (q : QuestionValue) (u v : SetupValue) (idle : List Bool) (places constants : List ℕ) (needed networks : ℕ) (fault : VerifyFault)
+    → IsPrepared source q u idle v places constants needed networks → (fault ≡ TooManyInputs (length v.free)) × (20 < length v.free) → RefusesAnswering source q fault
+many_refused source q u v idle places constants needed networks fault p (is, many) = subst (RefusesAnswering source q) (sym is) (record {
+  setup = u;
+  is = p.is;
+  places = places;
+  claims = p.claims;
+  timed = p.timed;
+  idle = idle;
+  searched = v;
+  is_searched = p.searched;
+  many = many;
+  count_is = refl;
+})
+
+-- what isn't prepared isn't answered
+pub answering_refused : (source : SourceValue) (q : QuestionValue) (fault : VerifyFault) → RefusesPreparing source q fault → RefusesAnswering source q fault
+answering_refused source q (Command fault) refused = refused
+answering_refused source q (Claim fault) refused = refused
+answering_refused source q (Given fault) refused = refused
+answering_refused source q (Held fault) refused = refused
+answering_refused source q (TooManyInputs count) refused = absurd refused
+answering_refused source q NoTime refused = refused
 
 -- each row of a run has all its digits
 leads_whole : (v : SetupValue) (rows : List (List Bool)) (s t : Moment) → Leads v s rows t → (k : ℕ) (row : List Bool) → slice_get rows k ≡ Some row → length row ≡ width v
@@ -463,13 +459,13 @@ names_long u v most scans names places idle found told claims are whole =
     ∙ sym (zip_length (IsClaim u.ladder.declarations u.ladder.networks) (texts names) places claims) ∙ length-map names (λ w. w.now)
 
 -- before anything is written
-pub preparing_explained : (source : SourceValue) (q : QuestionValue) (old : Option (List ℕ)) (fault : VerifyFault) → RefusesPreparing source q fault → ExplainsAnswer source q old old fault
-preparing_explained source q old (Command (Text fault)) refused = (refused, Keeps-refl old)
-preparing_explained source q old (Command (Word fault)) refused = (refused, Keeps-refl old)
-preparing_explained source q old (Command Write) refused = absurd refused
-preparing_explained source q old (Command Memory) refused = Keeps-refl old
-preparing_explained source q old (Claim fault) refused = (refused, Keeps-refl old)
-preparing_explained source q old (Given fault) refused = (refused, Keeps-refl old)
-preparing_explained source q old (Held fault) refused = (refused, Keeps-refl old)
-preparing_explained source q old (TooManyInputs count) refused = (refused, Keeps-refl old)
-preparing_explained source q old NoTime refused = (refused, Keeps-refl old)
+pub answering_explained : (source : SourceValue) (q : QuestionValue) (old : Option (List ℕ)) (fault : VerifyFault) → RefusesAnswering source q fault → ExplainsAnswer source q old old fault
+answering_explained source q old (Command (Text fault)) refused = (refused, Keeps-refl old)
+answering_explained source q old (Command (Word fault)) refused = (refused, Keeps-refl old)
+answering_explained source q old (Command Write) refused = absurd refused
+answering_explained source q old (Command Memory) refused = Keeps-refl old
+answering_explained source q old (Claim fault) refused = (refused, Keeps-refl old)
+answering_explained source q old (Given fault) refused = (refused, Keeps-refl old)
+answering_explained source q old (Held fault) refused = (refused, Keeps-refl old)
+answering_explained source q old (TooManyInputs count) refused = (refused, Keeps-refl old)
+answering_explained source q old NoTime refused = (refused, Keeps-refl old)

@@ -1,17 +1,17 @@
 pub mod Restarting
 pub mod FreeInputs
+pub mod Limiting
+mod Clipping
 pub mod RowNumbers
 pub mod SetInputs
 pub mod Leading
-pub mod Growing
 pub mod Tracing
-pub mod Answering
 pub mod Rows
 pub mod Slicing
 pub mod Beginning
 pub mod Exploring
 pub mod Counting
-pub mod Chaining
+mod Searching
 pub mod Marking
 pub mod Premising
 pub mod Reading

@@ -9,5 +9,6 @@ pub mod VerdictLines
 pub mod Premises
 pub mod Summaries
 pub mod VerifyText
+pub mod Preparing
 pub mod Giving
 pub mod Steps

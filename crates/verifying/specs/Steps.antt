@@ -1,6 +1,6 @@
 -- Steps of the proofs. Only contracts inside this crate cite them, so no reader has to believe them.
 pub mod Search
-pub mod Table
+pub mod Limits
 pub mod Marks
 pub mod Asking
 pub mod Adding

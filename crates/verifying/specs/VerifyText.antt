@@ -13,9 +13,9 @@ use Rattle.verifying.specs.declared.setup.Setting.{Setting}
 use Rattle.verifying.specs.declared.verdict.Tally.{Tally}
 use Rattle.verifying.specs.declared.verdict.Verdict.{Verdict}
 use Rattle.verifying.specs.Runs.{HasRun, SetupValue}
-use Rattle.verifying.specs.Needed.{AreIdle, AreToldVerdicts, IsSearched, needed_places}
+use Rattle.verifying.specs.Needed.{AreToldVerdicts, IsSearched}
 use Rattle.verifying.specs.Counts.{AreCounts}
-use Rattle.verifying.specs.Inputs.{AreFree, AreInputs}
+use Rattle.verifying.specs.Inputs.{AreInputs}
 use Rattle.verifying.specs.Questions.{IsClaim, IsFirstClaimFault, HoldsInput, IsFirstHeldFault, QuestionValue}
 use Rattle.verifying.specs.VerdictLines.{AreTexts}
 use Rattle.verifying.specs.Premises.{AreConstants, HasTimer, IsTimed, premise_line, premises}
@@ -44,8 +44,8 @@ pub record IsSetup (source : SourceValue) (q : QuestionValue) (u : SetupValue) :
   pub are_retained : AreRetainedFrom source retained
   pub restarts : u.restarts ≡ restarts_of q.restarts u.ladder.declarations u.ladder.networks retained
 
--- A text that answers the question: the ladder with its inputs, the claims at their places, what is searched in its place, a
--- verdict for each claim that is proved of all runs of the whole ladder, with the numbers of states and scans, of networks
+-- A text that answers the question: the ladder with its inputs, the claims at their places, what is searched in its place,
+-- with 20 free inputs at most, a verdict for each claim that is proved of all runs of the whole ladder, with the numbers of states and scans, of networks
 -- that were needed and of all, and whether there is a run at all, and the text of all that; and behind it a line of what
 -- the answers depend on. Where there is a timer, time passes.
 pub record IsAnswer (source : SourceValue) (q : QuestionValue) (text : List ℕ) : Type 0 where
@@ -56,6 +56,7 @@ pub record IsAnswer (source : SourceValue) (q : QuestionValue) (text : List ℕ)
   pub idle : List Bool
   pub searched : SetupValue
   pub is_searched : IsSearched setup places idle searched
+  pub few : length searched.free ≤ 20
   pub verdicts : List Verdict
   pub tally : Tally
   pub proved : AreToldVerdicts setup searched q.most_states tally.scans places verdicts
@@ -117,36 +118,26 @@ pub record RefusesGiven (source : SourceValue) (q : QuestionValue) (fault : Clai
   pub claims : AllZip (IsClaim declarations networks) q.claims places
   pub first : IsFirstClaimFault declarations networks q.given fault
 
--- the words hold inputs of the source's ladder, the names are claims of it, and so many free inputs matter, more than 20
+-- the words hold inputs of the source's ladder, the names are claims of it, time passes where there is a timer, and what is
+-- searched has so many free inputs, more than 20
 pub record HasManyInputs (source : SourceValue) (q : QuestionValue) (count : ℕ) : Type 0 where
-  pub declarations : List Declaration
-  pub networks : List Diagram
-  pub ladder : IsLadderFrom source declarations networks
-  pub rows : List SeriesValue
-  pub read : SpellSettings declarations q.words rows
-  pub held : List Setting
-  pub holds : AllZip (HoldsInput declarations networks) rows held
+  pub setup : SetupValue
+  pub is : IsSetup source q setup
   pub places : List ℕ
-  pub claims : AllZip (IsClaim declarations networks) q.claims places
-  pub given : List ℕ
-  pub givens : AllZip (IsClaim declarations networks) q.given given
-  pub free : List ℕ
-  pub are_free : AreFree declarations networks held free
+  pub claims : AllZip (IsClaim setup.ladder.declarations setup.ladder.networks) q.claims places
+  pub timed : IsTimed setup.ladder.declarations q.dt
   pub idle : List Bool
-  pub are_idle : AreIdle declarations networks places given idle
-  pub many : 20 < length (needed_places idle free)
-  pub count_is : count ≡ length (needed_places idle free)
+  pub searched : SetupValue
+  pub is_searched : IsSearched setup places idle searched
+  pub many : 20 < length searched.free
+  pub count_is : count ≡ length searched.free
 
--- the words hold inputs of the source's ladder, the names are claims of it, few free inputs matter, and it has a timer, but
--- no time passes
+-- the words hold inputs of the source's ladder, the names are claims of it, and it has a timer, but no time passes
 pub record LacksTime (source : SourceValue) (q : QuestionValue) : Type 0 where
   pub setup : SetupValue
   pub is : IsSetup source q setup
   pub places : List ℕ
   pub claims : AllZip (IsClaim setup.ladder.declarations setup.ladder.networks) q.claims places
-  pub idle : List Bool
-  pub are_idle : AreIdle setup.ladder.declarations setup.ladder.networks places setup.given idle
-  pub few : length (needed_places idle setup.free) ≤ 20
   pub still : q.dt ≡ 0
   pub timer : HasTimer setup.ladder.declarations
 

@@ -3,17 +3,20 @@
 #![tactic(auto)]
 
 mod asked;
-mod claim;
 mod claims;
 mod fault_from;
 mod first_scans;
 mod held;
 mod inputs;
-mod kept;
+mod ladder_search;
+mod laws;
+mod limits;
 mod names;
 mod needed;
 mod premises;
+mod prepared;
 mod question;
+mod rested;
 mod row;
 mod run_lines;
 mod search;
@@ -26,11 +29,15 @@ mod verify_command;
 mod verify_fault;
 mod whole_rows;
 
+pub use laws::never_of_whole;
+pub use premises::push_premise_line;
+pub use prepared::Prepared;
 pub use question::Question;
 pub use row::Row;
 pub use search::verify;
-pub use setup::{Setting, Setup};
+pub use setup::{Setting, Setup, is_on};
 pub use summary::Summary;
 pub use verdict::{Found, Tally, Verdict};
-pub use verify_command::verify_text;
+pub use verdict_lines::{push_counted, push_needed_of, push_run};
+pub use verify_command::{prepare, verify_text};
 pub use verify_fault::{ClaimFault, ClaimFaultKind, HeldFault, HeldFaultKind, VerifyFault};

@@ -236,7 +236,7 @@ fn premises(alloc: Global, setup: &Setup, constants: &[usize]) -> Result<Vec<Str
 }
 
 /// Writes a line of what the answers depend on, if there is anything.
-pub(crate) fn push_premise_line(
+pub fn push_premise_line(
     alloc: Global,
     text: &mut String,
     setup: &Setup,

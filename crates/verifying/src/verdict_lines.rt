@@ -18,7 +18,7 @@ use std::alloc::{AllocError, Global};
 use std::fmt::Write;
 
 /// Writes a number of things, as `1 scan` or `2 scans`.
-fn push_counted(text: &mut String, count: usize, what: &str) -> Result<(), AllocError>
+pub fn push_counted(text: &mut String, count: usize, what: &str) -> Result<(), AllocError>
     ensures { OnOk result (GrowsBy text.old text.new (counted count what.now)) }
 {
     write!(text, "{count} {what}")?;
@@ -66,7 +66,7 @@ fn push_unmet(text: &mut String, setup: &Setup) -> Result<(), AllocError>
 }
 
 /// Writes how many networks were needed, where that are fewer than there are.
-fn push_needed_of(text: &mut String, needed: usize, networks: usize) -> Result<(), AllocError>
+pub fn push_needed_of(text: &mut String, needed: usize, networks: usize) -> Result<(), AllocError>
     ensures { OnOk result (GrowsBy text.old text.new (needed_of needed networks)) }
 {
     if needed == networks {
@@ -137,7 +137,7 @@ fn push_fails(text: &mut String, name: &str, scans: usize) -> Result<(), AllocEr
 }
 
 /// Writes a run that breaks a claim: the words for `plc eval`, and the lines that it writes.
-fn push_run(
+pub fn push_run(
     alloc: Global,
     text: &mut String,
     setup: &Setup,

@@ -1,5 +1,4 @@
-ghost use Rattle.std.specs.Prelude.{◌≡◌, ◌↔◌, ℕ, List, [], IfOk, IfErr, IsTrue, None, Some, string_bytes};
-ghost use Rattle.std.specs.Option.{option_map};
+ghost use Rattle.std.specs.Prelude.{◌≡◌, ◌≤◌, ◌↔◌, ℕ, List, [], IfOk, IfErr, IsTrue, None, Some, length, string_bytes};
 ghost use Rattle.needed_networks.specs.declared.slice.Slice.{Slice as SliceValue};
 ghost use Rattle.text_commands.specs.EvalText.{IsLadderOfDrawing, IsLadderOfText};
 ghost use Rattle.plant_grammar.specs.Retained.{retained_places};
@@ -13,17 +12,19 @@ ghost use Rattle.verifying.specs.VerifyText.{ExplainsAnswer, WritesAnswer, resta
 ghost use Rattle.verifying.specs.Steps.Keeping.{places_kept};
 ghost use Rattle.verifying.specs.Needed.{IsSearched};
 ghost use Rattle.verifying.specs.Runs.{HasInputs, HasRun};
-ghost use Rattle.verifying.specs.Steps.Wholes.{AreGraphMarks, IsMarkedLadder, needed_count, searched_of, slice_setup};
+ghost use Rattle.verifying.specs.Preparing.{IsPrepared, RefusesPreparing, searched_of};
+ghost use Rattle.verifying.specs.Steps.Wholes.{AreGraphMarks, IsMadeOf, IsMarkedLadder, needed_count};
 ghost use Rattle.text_commands.specs.Rows.{texts};
-ghost use Rattle.verifying.specs.Steps.Asking.{AreHeldBy, IsAsked, IsPrepared, IsToldAnswer, RefusesAsking, RefusesHolding, RefusesPreparing};
+ghost use Rattle.verifying.specs.Steps.Asking.{AreHeldBy, IsAsked, IsToldAnswer, RefusesAnswering, RefusesAsking, RefusesHolding};
 
 use crate::asked::Asked;
 use crate::claims::{read_claims, read_given};
 use crate::first_scans::has_run;
 use crate::held::held_settings;
 use crate::inputs::{marks_of, unmarked_places};
-use crate::needed::{few_inputs, needed_slice};
+use crate::needed::{check_inputs, needed_inputs, needed_slice};
 use crate::premises::{check_time, constant_places, push_premise_line};
+use crate::prepared::Prepared;
 use crate::question::Question;
 use crate::search::verify;
 use crate::setup::{Setting, Setup};
@@ -301,8 +302,7 @@ fn slice_setup(
     restarts: &Option<Vec<usize>>,
 ) -> Result<Option<Setup>, AllocError>
     requires { (s : SliceValue) → slice ≡ Some s → HasInputs s.ladder.declarations free.items asked.now.held.items }
-    ensures { IfOk result (λ made. made ≡ option_map
-        (slice_setup dt free.items asked.now.held.items asked.now.given.items (places_kept restarts.now)) slice) }
+    ensures { IfOk result (IsMadeOf dt free.items asked.now.held.items asked.now.given.items (places_kept restarts.now) slice) }
 {
     let Some(slice) = slice else {
         return Ok(None);
@@ -310,7 +310,8 @@ fn slice_setup(
     let held = Vec::from_slice(alloc, &asked.held)?;
     let given = Vec::from_slice(alloc, &asked.given)?;
     let restarts = same_places(alloc, restarts)?;
-    Ok(Some(Setup::new(slice.ladder, dt, free, held, given, restarts)))
+    let setup = Setup::new(alloc, slice.ladder, dt, free, held, given, restarts)?;
+    Ok(Some(setup))
 }
 
 /// How many networks are needed, where all are so many.
@@ -323,37 +324,8 @@ fn needed_count(slice: &Option<Slice>, networks: usize) -> usize
     }
 }
 
-/// The ladder of a drawing with its inputs, a mark for each name at which nothing stands that matters, the slice that is
-/// searched, if it isn't the whole, the places of the claims, the constants, and how many networks are needed and how many
-/// there are.
-#[derive(Drop)]
-struct Prepared {
-    whole: Setup,
-    idle: Vec<bool>,
-    slice: Option<Setup>,
-    claims: Vec<usize>,
-    constants: Vec<usize>,
-    needed: usize,
-    networks: usize,
-}
-
-impl Prepared {
-    ghost use Rattle.std.specs.Prelude.{◌≡◌};
-    ghost use Rattle.verifying.specs.Steps.Wholes.{searched_of};
-
-    /// What is searched.
-    fn searched(&self) -> &Setup
-        ensures { result.now ≡ searched_of self.now.slice self.now.whole }
-    {
-        match &self.slice {
-            Some(slice) => slice,
-            None => &self.whole,
-        }
-    }
-}
-
-/// Reads a source and what is asked of its ladder.
-fn prepare(
+/// Reads a source and what is asked of its ladder. However many inputs are free, it isn't refused for that.
+pub fn prepare(
     alloc: Global,
     source: LadderSource<'_>,
     question: &Question<'_>,
@@ -371,6 +343,7 @@ fn prepare(
         retained,
     } = read_marked(alloc, source)?;
     let asked = read_question(alloc, ladder.declarations(), &marks, question)?;
+    check_time(ladder.declarations(), question.dt)?;
     let restarts = asked_restarts(alloc, &ladder, &retained, question.restarts)?;
     let sliced = needed_slice(
         alloc,
@@ -380,19 +353,19 @@ fn prepare(
         &asked.claims,
         &asked.given,
     )?;
-    let free = few_inputs(alloc, &sliced.idle, &asked.free)?;
-    check_time(ladder.declarations(), question.dt)?;
+    let free = needed_inputs(alloc, &sliced.idle, &asked.free)?;
     let constants = constant_places(alloc, ladder.declarations(), &marks, &asked.held)?;
     let needed = needed_count(&sliced.slice, networks);
     let slice = slice_setup(alloc, sliced.slice, question.dt, free, &asked, &restarts)?;
     let whole = Setup::new(
+        alloc,
         ladder,
         question.dt,
         asked.free,
         asked.held,
         asked.given,
         restarts,
-    );
+    )?;
     Ok(Prepared {
         whole,
         idle: sliced.idle,
@@ -406,7 +379,8 @@ fn prepare(
 
 /// What is told beside verdicts.
 fn tally_of(alloc: Global, prepared: &Prepared, found: &Found) -> Result<Tally, AllocError>
-    requires { (claims : List ℕ) × IsSearched prepared.now.whole claims prepared.now.idle.items (searched_of prepared.now.slice prepared.now.whole) }
+    requires searched { (claims : List ℕ) × IsSearched prepared.now.whole claims prepared.now.idle.items (searched_of prepared.now.slice prepared.now.whole) }
+    requires few { length (searched_of prepared.now.slice prepared.now.whole).free ≤ 20 }
     ensures met { IfOk result (λ tally. IsTrue tally.met ↔ HasRun prepared.now.whole) }
     ensures rest { IfOk result (λ tally. tally ≡ record {
       met = tally.met;
@@ -434,10 +408,11 @@ fn answer_text<P: Progress>(
     progress: &mut P,
 ) -> Result<(String, Summary), VerifyFault>
     ensures ok { IfOk result (λ r. IsToldAnswer (source_of source.entry) (question_of question.now) (string_bytes r.0) r.1) }
-    ensures err { IfErr result (RefusesPreparing (source_of source.entry) (question_of question.now)) }
+    ensures err { IfErr result (RefusesAnswering (source_of source.entry) (question_of question.now)) }
 {
     let prepared = prepare(alloc, source, question)?;
     let searched = prepared.searched();
+    check_inputs(searched)?;
     let found = verify(
         alloc,
         searched,
@@ -465,7 +440,7 @@ fn answer_text<P: Progress>(
 /// Tells of each claim about the ladder of a source whether it holds, whatever the free inputs do and, if this is
 /// asked, before whatever scans it restarts; and what comes of all. How far the search is is told meanwhile.
 ///
-/// `Command(Text)`, `Command(Word)`, `Command(Memory)`, `Claim`, `Given`, `Held`, `TooManyInputs` and `NoTime` come before
+/// `Command(Text)`, `Command(Word)`, `Command(Memory)`, `Claim`, `Given`, `Held`, `NoTime` and `TooManyInputs` come before
 /// anything is written. After `Command(Write)` what went out is a prefix, and not all.
 pub fn verify_text<W: Write, P: Progress>(
     alloc: Global,

@@ -5,7 +5,7 @@ import re
 import shlex
 from dataclasses import dataclass, field
 
-from rules import needed, words
+from rules import counts, needed, words
 from rules.commands import SHAPES, Files, answer_of, ladder_of, question_of_drawing, read_words
 from rules.refusal import Refusal
 from rules.scan import stored_names
@@ -168,14 +168,14 @@ def texts_in(folder):
 
 @functools.lru_cache(maxsize=1)
 def whole_of(texts, given):
-    """The search through all networks, with each input that is free, None where it is long; and the words of a run."""
+    """The search through all networks, with each input that is free and each count, None where it is long; and the words of a run."""
     [path], options, more = read_words(SHAPES["verify"], given[1:])
     tried = Files(texts.folder).tried(path, options)
     question = question_of_drawing(tried.ladder, options, more, tried.kept)
     rows = 2 ** question.width_in(tried.ladder)
     if rows > MOST_SCANS:
         return None, ""
-    found = Search(question, question.ladder, MOST_SCANS // rows).search()
+    found = Search(question, question.ladder, MOST_SCANS // rows, limits={}).search()
     return found if found.depth is None or found.runs.keys() == set(question.claims) else None, tried.eval_words
 
 
@@ -191,10 +191,18 @@ def agree(found, told, of_whole):
 
 
 def counts_of_part(found):
-    """Of the states of the whole those that differ in what the networks needed read or change, and the scans of these."""
+    """Of the states of the whole those that differ in what the networks needed read or change, as far as counts matter to these, and
+    the scans of these."""
     part = found.question.part()
-    states = len({key_of(only(it.state, part.networks)) for it in found.met})
+    limits = counts.count_limits(part.networks)
+    states = len({key_of(limited(only(it.state, part.networks), limits)) for it in found.met})
     return states, states * 2 ** found.question.width_in(part)
+
+
+def limited(state, limits):
+    """A state with its counts as far as they matter."""
+    counts.limit_counts(state, limits)
+    return state
 
 
 # What the words of a run do.

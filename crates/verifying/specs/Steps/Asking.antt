@@ -1,17 +1,14 @@
 -- What is known before the search.
 use Rattle.std.specs.Prelude.{◌≡◌, ◌⊎◌, ℕ, List, Bool, All, length}
-use Rattle.std.specs.List.{AllZip}
 use Rattle.declared_names.specs.declared.declarations.Declaration.{Declaration}
-use Rattle.text_commands.specs.Sources.{RefusesName, RefusesSource, RefusesWords, SourceValue}
+use Rattle.text_commands.specs.Sources.{SourceValue}
 use Rattle.text_commands.specs.Series.{IsFirstRefusedSetting, IsOfVariable, SeriesValue, SpellNoSettings, SpellSettings}
 use Rattle.text_commands.specs.declared.text_command_fault.TextCommandFault.TheVariants.{Text, Word, Write, Memory}
 use Rattle.verifying.specs.declared.setup.Setting.{Setting}
-use Rattle.verifying.specs.Runs.{SetupValue}
-use Rattle.verifying.specs.Needed.{IsSearched}
-use Rattle.verifying.specs.Questions.{IsClaim, QuestionValue}
+use Rattle.verifying.specs.Questions.{QuestionValue}
 use Rattle.verifying.specs.Summaries.{IsSummary}
-use Rattle.verifying.specs.Premises.{AreConstants, IsTimed}
-use Rattle.verifying.specs.VerifyText.{HasManyInputs, IsAnswer, IsSetup, LacksTime, RefusesClaims, RefusesGiven, RefusesHeld}
+use Rattle.verifying.specs.VerifyText.{HasManyInputs, IsAnswer}
+use Rattle.verifying.specs.Preparing.{RefusesPreparing}
 use Rattle.verifying.specs.Steps.Marks.{AreUnmarked, ClaimsRead, ClaimsRefused, GivenRefused, HeldRead, IsHeldFaultOf}
 use Rattle.verifying.specs.declared.asked.Asked.{Asked}
 use Rattle.verifying.specs.declared.summary.Summary.{Summary}
@@ -69,29 +66,14 @@ abbrev pub RefusesAsking : List Declaration → List Bool → QuestionValue → 
 RefusesAsking ds marks q fault = RefusesHolding ds marks q.words fault
     ⊎ (RefusesClaimsOf ds marks q fault ⊎ (RefusesGivenOf ds marks q fault ⊎ (fault ≡ Command Memory)))
 
--- the ladder with its inputs, what is searched in its place, the places of the claims, the constants, and how many networks
--- are needed and how many there are
-pub record IsPrepared (source : SourceValue) (q : QuestionValue) (u : SetupValue) (idle : List Bool) (v : SetupValue) (places constants : List ℕ)
-    (needed networks : ℕ) : Type 0 where
-  pub is : IsSetup source q u
-  pub claims : AllZip (IsClaim u.ladder.declarations u.ladder.networks) q.claims places
-  pub searched : IsSearched u places idle v
-  pub timed : IsTimed u.ladder.declarations q.dt
-  pub are_constants : AreConstants u.ladder.declarations u.ladder.networks u.held constants
-  pub needed_is : needed ≡ length v.ladder.networks
-  pub networks_is : networks ≡ length u.ladder.networks
-
--- why there is none
-abbrev pub RefusesPreparing : SourceValue → QuestionValue → VerifyFault → Type 0
-RefusesPreparing source q (Command (Text fault)) = RefusesSource source fault
-RefusesPreparing source q (Command (Word fault)) = RefusesName source fault ⊎ RefusesWords source q.words fault
-RefusesPreparing source q (Command Write) = ⊥
-RefusesPreparing source q (Command Memory) = Unit {0}
-RefusesPreparing source q (Claim fault) = RefusesClaims source q fault
-RefusesPreparing source q (Given fault) = RefusesGiven source q fault
-RefusesPreparing source q (Held fault) = RefusesHeld source q fault
-RefusesPreparing source q (TooManyInputs count) = HasManyInputs source q count
-RefusesPreparing source q NoTime = LacksTime source q
+-- why there is no answer
+abbrev pub RefusesAnswering : SourceValue → QuestionValue → VerifyFault → Type 0
+RefusesAnswering source q (Command fault) = RefusesPreparing source q (Command fault)
+RefusesAnswering source q (Claim fault) = RefusesPreparing source q (Claim fault)
+RefusesAnswering source q (Given fault) = RefusesPreparing source q (Given fault)
+RefusesAnswering source q (Held fault) = RefusesPreparing source q (Held fault)
+RefusesAnswering source q (TooManyInputs count) = HasManyInputs source q count
+RefusesAnswering source q NoTime = RefusesPreparing source q NoTime
 
 -- the text of an answer, and its summary
 pub record IsToldAnswer (source : SourceValue) (q : QuestionValue) (text : List ℕ) (summary : Summary) : Type 0 where

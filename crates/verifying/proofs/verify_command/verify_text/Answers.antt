@@ -4,13 +4,13 @@ use Rattle.verifying.specs.Giving.{no_output}
 use Rattle.text_commands.specs.Sources.{source_of}
 use Rattle.verifying.specs.Questions.{question_of}
 use Rattle.verifying.specs.VerifyText.{ExplainsAnswer}
-use Rattle.verifying.proofs.Asking.{preparing_explained}
+use Rattle.verifying.proofs.Asking.{answering_explained}
 use Rattle.verifying.proofs.verify_command.verify_text.Goals as verify_text_goals
 
 pub returns-in_err-text-clause-fault : verify_text_goals.returns-in_err-text-clause-fault
 returns-in_err-text-clause-fault g c =
     kept_fault c.in_err-text.field-0.0 (ExplainsAnswer (source_of c.args.source) (question_of c.args.question.now) _ _) _ c.from_residual.ensures.1
-    (preparing_explained (source_of c.args.source) (question_of c.args.question.now) _ c.in_err-text.field-0.0 c.in_err-text.ensures.err)
+    (answering_explained (source_of c.args.source) (question_of c.args.question.now) _ c.in_err-text.field-0.0 c.in_err-text.ensures.err)
 
 pub returns-in_err-write_text-clause-fault : verify_text_goals.returns-in_err-write_text-clause-fault
 returns-in_err-write_text-clause-fault g c =
