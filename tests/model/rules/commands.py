@@ -51,7 +51,8 @@ class Refused(Exception):
 @dataclass
 class Shape:
     """The words that a command has: its files, its options with a number, with one of a few words or with a name of a file or folder,
-    its flags, its options that may stand several times, with a name or with numbers of scans, and whether further words follow."""
+    its flags, its options that may stand several times, with a name or with numbers of scans, whether further words follow, and whether
+    these are files too; which of its files may be standard input."""
 
     files: int
     numbers: tuple = ()
@@ -62,6 +63,8 @@ class Shape:
     scans: tuple = ()
     needed: tuple = ()
     has_more: bool = False
+    has_more_files: bool = False
+    inputs: tuple = ()
 
 
 COLORS = ("always", "auto", "never")
@@ -74,10 +77,10 @@ SHAPES = {
     "verify": Shape(1, ("--dt", "--most-states", "--most-waiting"), names=("--program", "--with"), flags=("--restarts", "--no-restarts", *WARNING_FLAGS), lists=("--never", "--given"), needed=("--never",), has_more=True),
     "check": Shape(1, flags=WARNING_FLAGS),
     "plan": Shape(1, numbers=("--until",), flags=("--schedule",), needed=("--until",)),
-    "sim": Shape(2, numbers=("--max-number",), names=("--vcd", "--svg")),
+    "sim": Shape(2, numbers=("--max-number",), names=("--vcd", "--svg"), inputs=(1,)),
     "run": Shape(1, ("--until",), names=("--state", "--vcd", "--svg"), flags=("--paced",), needed=("--until",), has_more=True),
     "node": Shape(2, numbers=("--until", "--journal-size"), choices={"--journal-full": ("stop", "go-on")}, names=("--field", "--state", "--journal"), flags=("--cycle",)),
-    "audit": Shape(2, has_more=True),
+    "audit": Shape(2, has_more=True, has_more_files=True),
 }
 
 
@@ -88,6 +91,7 @@ def answer_of(given, folder=".", read=(), write=None):
         if not given or given[0] not in SHAPES:
             raise Refused(REFUSED_WORDS)
         files, options, more = read_words(SHAPES[given[0]], given[1:])
+        refuse_clashes(folder, files, options)
         answer.lines = []
         COMMANDS[given[0]](write or answer.lines.append, Files(folder, read), files, options, more)
     except Refused as refused:
@@ -126,7 +130,36 @@ def read_words(shape, given):
                 raise Refused(REFUSED_WORDS)
     if len(plain) < shape.files or (len(plain) > shape.files and not shape.has_more) or not set(shape.needed) <= set(options):
         raise Refused(REFUSED_WORDS)
+    files = plain if shape.has_more_files else plain[: shape.files]
+    if any(it == "-" and k not in shape.inputs for k, it in enumerate(files)):
+        raise Refused(REFUSED_WORDS)
     return plain[: shape.files], options, plain[shape.files :]
+
+
+WRITTEN = ("--vcd", "--svg", "--journal")
+# What the files of a folder of state are called.
+OF_STATE = (".inc", ".ret", ".lock", ".tmp")
+
+
+def refuse_clashes(folder, files, options):
+    """A file that is written is none that is read, no other one that is written, and none of a folder of state."""
+    read = [file_at(folder, it) for it in [*files, *filter(None, [options.get("--with")])]]
+    written = [options[it] for it in WRITTEN if it in options]
+    places = [file_at(folder, it) for it in written]
+    if {*read, None} & set(places) - {None} or len(set(filter(None, places))) < len(list(filter(None, places))):
+        raise Refused(REFUSED_WORDS)
+    state = os.path.realpath(os.path.join(folder, options["--state"])) if "--state" in options else None
+    if any(os.path.realpath(os.path.dirname(os.path.join(folder, it))) == state and it.endswith(OF_STATE) for it in written):
+        raise Refused(REFUSED_WORDS)
+
+
+def file_at(folder, path):
+    """What a path stands for: a file by its number, what isn't there by its name; none where something else is there."""
+    whole = os.path.realpath(os.path.join(folder, path))
+    if os.path.isfile(whole):
+        found = os.stat(whole)
+        return found.st_dev, found.st_ino
+    return None if os.path.exists(whole) else whole
 
 
 def word_behind(ahead):
@@ -148,7 +181,7 @@ def flag(equals):
 
 
 def name_given(word):
-    if not word or word.startswith("-"):
+    if word.startswith("-"):
         raise Refused(REFUSED_WORDS)
     return word
 
@@ -382,20 +415,24 @@ MOST_STATES, MOST_WAITING = 1_000_000, 8
 
 
 def verify(write, files, paths, options, more):
-    """Names of one part make the file a drawing, names of three a plant."""
+    """Names without a dot make the file a drawing, others a plant."""
     if set(WARNING_FLAGS) <= set(options) or {"--restarts", "--no-restarts"} <= set(options):
         raise Refused(REFUSED_WORDS)
     names = [name for claim in options["--never"] for name in claim.split(",")]
-    dots = {it.count(".") for it in [*names, *options.get("--given", ())]}
-    if dots == {2} and not {"--program", "--with"} & set(options):
-        verify_plants(write, files.plant(paths[0]), options, more)
-    elif dots == {0} and "" not in names and not OF_PLANTS & set(options):
+    are_dotted = {"." in it for it in [*names, *options.get("--given", ())]}
+    if are_dotted == {True} and not {"--program", "--with"} & set(options):
+        verify_plants(write, files, paths[0], options, more)
+    elif are_dotted == {False} and not OF_PLANTS & set(options):
         verify_drawing(write, files, paths, options, more)
     else:
         raise Refused(REFUSED_WORDS)
 
 
-def verify_plants(write, plant, options, more):
+def verify_plants(write, files, path, options, more):
+    """Words of addresses are looked at once the file is read, and before its text."""
+    files.text(path)
+    held_by_words(more)
+    plant = files.plant(path)
     question, claims = question_of(plant, options, more)
     searches = [verify_plant.Search(question, it, options.get("--most-states", MOST_STATES), options.get("--most-waiting", MOST_WAITING)).search() for it in claims]
     for search, name in zip(searches, options["--never"]):
@@ -408,12 +445,20 @@ def verify_plants(write, plant, options, more):
         raise Refused(UNDECIDED)
 
 
+def held_by_words(more):
+    try:
+        return verify_plant.held_by(more)
+    except verify_plant.BadWord:
+        raise Refused(REFUSED_WORDS) from None
+
+
 def question_of(plant, options, more):
     """What words ask of a plant: what is looked at, and the claims."""
+    held = held_by_words(more)
     try:
         given = [verify_plant.output_named(plant, it) for it in options.get("--given", ())]
         claims = [[verify_plant.output_named(plant, name) for name in it.split(",")] for it in options["--never"]]
-        return verify_plant.Question(plant, options.get("--dt"), verify_plant.held_by(more), given, "--no-restarts" not in options), claims
+        return verify_plant.Question(plant, options.get("--dt"), held, given, "--no-restarts" not in options), claims
     except verify_plant.BadWord:
         raise Refused(REFUSED_WORDS) from None
 
