@@ -51,8 +51,7 @@ class Refused(Exception):
 @dataclass
 class Shape:
     """The words that a command has: its files, its options with a number, with one of a few words or with a name of a file or folder,
-    its flags, its options that may stand several times, with a name or with numbers of scans, whether further words follow, and whether
-    these are files too; which of its files may be standard input."""
+    its flags, its options that may stand several times, with a name or with numbers of scans, and whether further words follow."""
 
     files: int
     numbers: tuple = ()
@@ -63,8 +62,6 @@ class Shape:
     scans: tuple = ()
     needed: tuple = ()
     has_more: bool = False
-    has_more_files: bool = False
-    inputs: tuple = ()
 
 
 COLORS = ("always", "auto", "never")
@@ -77,10 +74,10 @@ SHAPES = {
     "verify": Shape(1, ("--dt", "--most-states", "--most-waiting"), names=("--program", "--with"), flags=("--restarts", "--no-restarts", *WARNING_FLAGS), lists=("--never", "--given"), needed=("--never",), has_more=True),
     "check": Shape(1, flags=WARNING_FLAGS),
     "plan": Shape(1, numbers=("--until",), flags=("--schedule",), needed=("--until",)),
-    "sim": Shape(2, numbers=("--max-number",), names=("--vcd", "--svg"), inputs=(1,)),
+    "sim": Shape(2, numbers=("--max-number",), names=("--vcd", "--svg")),
     "run": Shape(1, ("--until",), names=("--state", "--vcd", "--svg"), flags=("--paced",), needed=("--until",), has_more=True),
     "node": Shape(2, numbers=("--until", "--journal-size"), choices={"--journal-full": ("stop", "go-on")}, names=("--field", "--state", "--journal"), flags=("--cycle",)),
-    "audit": Shape(2, has_more=True, has_more_files=True),
+    "audit": Shape(2, has_more=True),
 }
 
 
@@ -129,9 +126,6 @@ def read_words(shape, given):
             else:
                 raise Refused(REFUSED_WORDS)
     if len(plain) < shape.files or (len(plain) > shape.files and not shape.has_more) or not set(shape.needed) <= set(options):
-        raise Refused(REFUSED_WORDS)
-    files = plain if shape.has_more_files else plain[: shape.files]
-    if any(it == "-" and k not in shape.inputs for k, it in enumerate(files)):
         raise Refused(REFUSED_WORDS)
     return plain[: shape.files], options, plain[shape.files :]
 
@@ -221,6 +215,9 @@ class Files:
         return os.path.join(self.folder, path)
 
     def text(self, path):
+        """A sign alone is no file, and is refused where it would be read."""
+        if path == "-":
+            raise Refused(REFUSED_WORDS)
         try:
             with open(os.path.join(self.folder, path), encoding="utf-8", newline="") as file:
                 return file.read()
@@ -259,8 +256,6 @@ class Files:
 
     def both_drawings(self, path, second_path):
         """A drawing and a second one behind it, with an empty row between their texts. What is warned of is the first one's."""
-        if second_path == "-":
-            raise Refused(REFUSED_WORDS)
         text, second_text = self.text(path), self.text(second_path)
         first = self.ladder(path)
         try:
@@ -543,7 +538,8 @@ def plan(write, files, paths, options, _more):
 def simulate(write, files, paths, options, _more):
     run, made, is_unmet = Run(files.plant(paths[0]), options.get("--max-number", MOST_U32)), [], False
     try:
-        for event, line in lines_of_steps(run, steps_of(lines_of(files.text(paths[1])))):
+        lines = files.lines_read() if paths[1] == "-" else lines_of(files.text(paths[1]))
+        for event, line in lines_of_steps(run, steps_of(lines)):
             write(line)
             if event:
                 made.append(run.log[-1] if line.startswith("EVAL") else None)
