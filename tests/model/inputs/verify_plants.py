@@ -247,6 +247,22 @@ class SmallPlant(PlantMaker):
         return [",".join(self.chance.sample(bits, min(len(bits), self.chance.choice([1, 2, 2, 2, 3])))) for _ in range(self.chance.choice([1, 1, 1, 2]))]
 
 
+class CountingPlant(SmallPlant):
+    """Such a plant, whose programs have counters up and down of which nothing shows the count. No PV is above 3."""
+
+    def variables(self):
+        found, chance = super().variables(), self.chance
+        found.boxes = {name: chance.choice(["CTU", "CTU", "CTD"]) for name in ["X", "X2"][: chance.choice([1, 1, 1, 2])]}
+        return found
+
+    def text(self):
+        while True:
+            text = super().text()
+            if not re.search(r"(?i)CV\|-*[A-Z_]|\.CV", text):
+                return text
+            self.__init__(self.chance)
+
+
 def options(chance, plant):
     """Words that say which runs are looked at."""
     return [
@@ -318,10 +334,15 @@ def asked(given, folder):
     return question_of(Files(folder).plant(paths[0]), options_given, more)
 
 
-def plant_claims(chance):
+def counted_claims(chance):
+    """A plant with counters, with words that ask what of it is never on together."""
+    return plant_claims(chance, CountingPlant)
+
+
+def plant_claims(chance, maker=None):
     """A plant, with words that ask what of it is never on together, whatever its network does."""
     while True:
-        plant = Zone(chance) if chance.random() < 0.5 else SmallPlant(chance)
+        plant = maker(chance) if maker else Zone(chance) if chance.random() < 0.5 else SmallPlant(chance)
         text = plant.text()
         given = ["verify", "it.plant", *(word for it in plant.claims() for word in ("--never", it)), *options(chance, plant)]
         searches = decided(text, given) if is_read(text) else None

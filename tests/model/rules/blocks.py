@@ -2,6 +2,8 @@
 from .words import Duration
 
 BOOL, INT, TIME = "BOOL", "INT", "TIME"
+# Where counts end.
+COUNTS = {"least": -32768, "most": 32767}
 TIMER = {"IN": BOOL, "PT": TIME}, {"Q": BOOL, "ET": TIME}
 # Of each type its inputs and its outputs.
 PINS = {
@@ -56,7 +58,7 @@ class Instance:
         if pins["R"]:
             count = 0
         elif self.rises(pins, "CU"):
-            count = min(count + 1, 32767)
+            count = min(count + 1, COUNTS["most"])
         self.outputs.update(CV=count, Q=count >= pins["PV"])
 
     def step_ctd(self, pins, _):
@@ -64,7 +66,7 @@ class Instance:
         if pins["LD"]:
             count = pins["PV"]
         elif self.rises(pins, "CD"):
-            count = max(count - 1, -32768)
+            count = max(count - 1, COUNTS["least"])
         self.outputs.update(CV=count, Q=count <= 0)
 
     def step_ctud(self, pins, _):
@@ -75,9 +77,9 @@ class Instance:
         elif pins["LD"]:
             count = pins["PV"]
         elif up and not down:
-            count = min(count + 1, 32767)
+            count = min(count + 1, COUNTS["most"])
         elif down and not up:
-            count = max(count - 1, -32768)
+            count = max(count - 1, COUNTS["least"])
         self.outputs.update(CV=count, QU=count >= pins["PV"], QD=count <= 0)
 
     def later(self, pins, elapsed):

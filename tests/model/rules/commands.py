@@ -89,6 +89,7 @@ def answer_of(given, folder=".", read=(), write=None):
         if not given or given[0] not in SHAPES:
             raise Refused(REFUSED_WORDS)
         files, options, more = read_words(SHAPES[given[0]], given[1:])
+        refuse_clashes(folder, files, options)
         answer.lines = []
         COMMANDS[given[0]](write or answer.lines.append, Files(folder, read), files, options, more)
     except Refused as refused:
@@ -130,6 +131,32 @@ def read_words(shape, given):
     return plain[: shape.files], options, plain[shape.files :]
 
 
+WRITTEN = ("--vcd", "--svg", "--journal")
+# What the files of a folder of state are called.
+OF_STATE = (".inc", ".ret", ".lock", ".tmp")
+
+
+def refuse_clashes(folder, files, options):
+    """A file that is written is none that is read, no other one that is written, and none of a folder of state."""
+    read = [file_at(folder, it) for it in [*files, *filter(None, [options.get("--with")])]]
+    written = [options[it] for it in WRITTEN if it in options]
+    places = [file_at(folder, it) for it in written]
+    if {*read, None} & set(places) - {None} or len(set(filter(None, places))) < len(list(filter(None, places))):
+        raise Refused(REFUSED_WORDS)
+    state = os.path.realpath(os.path.join(folder, options["--state"])) if "--state" in options else None
+    if any(os.path.realpath(os.path.dirname(os.path.join(folder, it))) == state and it.endswith(OF_STATE) for it in written):
+        raise Refused(REFUSED_WORDS)
+
+
+def file_at(folder, path):
+    """What a path stands for: a file by its number, what isn't there by its name; none where something else is there."""
+    whole = os.path.realpath(os.path.join(folder, path))
+    if os.path.isfile(whole):
+        found = os.stat(whole)
+        return found.st_dev, found.st_ino
+    return None if os.path.exists(whole) else whole
+
+
 def word_behind(ahead):
     """The word behind an option, which is none itself."""
     if not ahead or is_option(ahead[0]):
@@ -149,7 +176,7 @@ def flag(equals):
 
 
 def name_given(word):
-    if not word or word.startswith("-"):
+    if word.startswith("-"):
         raise Refused(REFUSED_WORDS)
     return word
 
@@ -196,6 +223,9 @@ class Files:
         return os.path.join(self.folder, path)
 
     def text(self, path):
+        """A sign alone is no file, and is refused where it would be read."""
+        if path == "-":
+            raise Refused(REFUSED_WORDS)
         try:
             with open(os.path.join(self.folder, path), encoding="utf-8", newline="") as file:
                 return file.read()
@@ -234,8 +264,6 @@ class Files:
 
     def both_drawings(self, path, second_path):
         """A drawing and a second one behind it, with an empty row between their texts. What is warned of is the first one's."""
-        if second_path == "-":
-            raise Refused(REFUSED_WORDS)
         text, second_text = self.text(path), self.text(second_path)
         first = self.ladder(path)
         try:
@@ -390,21 +418,36 @@ MOST_STATES, MOST_WAITING = 1_000_000, 8
 
 
 def verify(write, files, paths, options, more):
-    """Names of one part make the file a drawing, names of three a plant."""
+    """Names without a dot make the file a drawing, others a plant."""
     if set(WARNING_FLAGS) <= set(options) or {"--restarts", "--no-restarts"} <= set(options):
         raise Refused(REFUSED_WORDS)
     names = [name for claim in options["--never"] for name in claim.split(",")]
+<<<<<<< HEAD
     dots = {it.count(".") for it in [*names, *options.get("--given", ())]}
     if dots == {2} and not {"--program", "--with"} & set(options):
         verify_plants(write, files, paths, options, more)
     elif dots == {0} and "" not in names and not OF_PLANTS & set(options):
+=======
+    are_dotted = {"." in it for it in [*names, *options.get("--given", ())]}
+    if are_dotted == {True} and not {"--program", "--with"} & set(options):
+        verify_plants(write, files, paths[0], options, more)
+    elif are_dotted == {False} and not OF_PLANTS & set(options):
+>>>>>>> f2351936fbdcb63e455a36e6057a7a1696941791
         verify_drawing(write, files, paths, options, more)
     else:
         raise Refused(REFUSED_WORDS)
 
 
+<<<<<<< HEAD
 def verify_plants(write, files, paths, options, more):
     plant = files.plant(paths[0])
+=======
+def verify_plants(write, files, path, options, more):
+    """Words of addresses are looked at once the file is read, and before its text."""
+    files.text(path)
+    held_by_words(more)
+    plant = files.plant(path)
+>>>>>>> f2351936fbdcb63e455a36e6057a7a1696941791
     question, claims = question_of(plant, options, more)
     searches = [verify_plant.Search(question, it, options.get("--most-states", MOST_STATES), options.get("--most-waiting", MOST_WAITING)).search() for it in claims]
     for search, name in zip(searches, options["--never"]):
@@ -416,12 +459,20 @@ def verify_plants(write, files, paths, options, more):
     end_with_warnings(paths[0], warnings_of_plant(plant, options.get("--dt", 0)), options, status)
 
 
+def held_by_words(more):
+    try:
+        return verify_plant.held_by(more)
+    except verify_plant.BadWord:
+        raise Refused(REFUSED_WORDS) from None
+
+
 def question_of(plant, options, more):
     """What words ask of a plant: what is looked at, and the claims."""
+    held = held_by_words(more)
     try:
         given = [verify_plant.output_named(plant, it) for it in options.get("--given", ())]
         claims = [[verify_plant.output_named(plant, name) for name in it.split(",")] for it in options["--never"]]
-        return verify_plant.Question(plant, options.get("--dt"), verify_plant.held_by(more), given, "--no-restarts" not in options), claims
+        return verify_plant.Question(plant, options.get("--dt"), held, given, "--no-restarts" not in options), claims
     except verify_plant.BadWord:
         raise Refused(REFUSED_WORDS) from None
 
@@ -506,7 +557,8 @@ def plan(write, files, paths, options, _more):
 def simulate(write, files, paths, options, _more):
     run, made, is_unmet = Run(files.plant(paths[0]), options.get("--max-number", MOST_U32)), [], False
     try:
-        for event, line in lines_of_steps(run, steps_of(lines_of(files.text(paths[1])))):
+        lines = files.lines_read() if paths[1] == "-" else lines_of(files.text(paths[1]))
+        for event, line in lines_of_steps(run, steps_of(lines)):
             write(line)
             if event:
                 made.append(run.log[-1] if line.startswith("EVAL") else None)
