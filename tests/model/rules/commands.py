@@ -422,32 +422,20 @@ def verify(write, files, paths, options, more):
     if set(WARNING_FLAGS) <= set(options) or {"--restarts", "--no-restarts"} <= set(options):
         raise Refused(REFUSED_WORDS)
     names = [name for claim in options["--never"] for name in claim.split(",")]
-<<<<<<< HEAD
-    dots = {it.count(".") for it in [*names, *options.get("--given", ())]}
-    if dots == {2} and not {"--program", "--with"} & set(options):
-        verify_plants(write, files, paths, options, more)
-    elif dots == {0} and "" not in names and not OF_PLANTS & set(options):
-=======
     are_dotted = {"." in it for it in [*names, *options.get("--given", ())]}
     if are_dotted == {True} and not {"--program", "--with"} & set(options):
         verify_plants(write, files, paths[0], options, more)
     elif are_dotted == {False} and not OF_PLANTS & set(options):
->>>>>>> f2351936fbdcb63e455a36e6057a7a1696941791
         verify_drawing(write, files, paths, options, more)
     else:
         raise Refused(REFUSED_WORDS)
 
 
-<<<<<<< HEAD
-def verify_plants(write, files, paths, options, more):
-    plant = files.plant(paths[0])
-=======
 def verify_plants(write, files, path, options, more):
     """Words of addresses are looked at once the file is read, and before its text."""
     files.text(path)
     held_by_words(more)
     plant = files.plant(path)
->>>>>>> f2351936fbdcb63e455a36e6057a7a1696941791
     question, claims = question_of(plant, options, more)
     searches = [verify_plant.Search(question, it, options.get("--most-states", MOST_STATES), options.get("--most-waiting", MOST_WAITING)).search() for it in claims]
     for search, name in zip(searches, options["--never"]):
@@ -456,7 +444,7 @@ def verify_plants(write, files, path, options, more):
     write("given " + ", ".join(verify_plant.premises(question)))
     is_undecided = any(it.loose_steps or not it.is_whole for it in searches)
     status = CLAIM_FAILS if any(it.steps for it in searches) else UNDECIDED if is_undecided else 0
-    end_with_warnings(paths[0], warnings_of_plant(plant, options.get("--dt", 0)), options, status)
+    end_with_warnings(path, warnings_of_plant(plant, options.get("--dt", 0)), options, status)
 
 
 def held_by_words(more):
