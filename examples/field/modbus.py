@@ -113,27 +113,31 @@ class Field:
     """The FIFO of the node's field, which ends where it is closed."""
 
     def __init__(self, path):
-        self.path, self.file, self.told = path, None, {}
+        self.path, self.file, self.told, self.ahead = path, None, {}, b""
         if not os.path.exists(path):
             os.mkfifo(path)
 
     def tell(self, values):
-        """Tells the inputs that changed. Where no node reads the FIFO, nothing is told yet."""
+        """Tells the inputs that changed. Where no node reads the FIFO, or it is full, nothing is told yet: whoever waited here
+        for a node that stands still would let its outputs stand, too."""
         try:
             if self.file is None:
                 self.file = os.open(self.path, os.O_WRONLY | os.O_NONBLOCK)
-                os.set_blocking(self.file, True)
-            news = [f"{address}={value}" for address, value in values.items() if self.told.get(address) != value]
-            if news:
-                os.write(self.file, f"INPUT {' '.join(news)}\n".encode())
-            self.told = values
+            if not self.ahead:
+                news = [f"{address}={value}" for address, value in values.items() if self.told.get(address) != value]
+                self.ahead = f"INPUT {' '.join(news)}\n".encode() if news else b""
+                self.told = values
+            if self.ahead:
+                self.ahead = self.ahead[os.write(self.file, self.ahead) :]
+        except BlockingIOError:
+            pass
         except OSError:
             self.end()
 
     def end(self):
         if self.file is not None:
             os.close(self.file)
-        self.file, self.told = None, {}
+        self.file, self.told, self.ahead = None, {}, b""
 
 
 class Node:

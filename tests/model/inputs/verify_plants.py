@@ -7,11 +7,13 @@ from collections import deque
 from dataclasses import dataclass, field
 from itertools import islice, product
 
-from rules import verify_plant
+from rules import verify_plant, words
 from rules.commands import SHAPES, Files, Refused, question_of, read_words
 from rules.inputs import Inputs
+from rules.plant_text import read_plant
 from rules.refusal import Refusal
 from rules.schedule import Deliver, Evaluate, Hear, Restart, events_of
+from rules.words import is_literal
 
 from .beside import BITS, with_beside
 from .drawings import Drawer, cased
@@ -247,8 +249,12 @@ class SmallPlant(PlantMaker):
         return [",".join(self.chance.sample(bits, min(len(bits), self.chance.choice([1, 2, 2, 2, 3])))) for _ in range(self.chance.choice([1, 1, 1, 2]))]
 
 
+# (The program looks for PV and Q in capital letters alone.)
+SMALL = re.compile(r"\|\s*(?:pv|Pv|pV)\b|\.q\b|\bq\|")
+
+
 class CountingPlant(SmallPlant):
-    """Such a plant, whose programs have counters up and down of which nothing shows the count. No PV is above 3."""
+    """Such a plant, whose programs have counters up and down of which nothing shows the count. Those up have a number at PV, at most 3."""
 
     def variables(self):
         found, chance = super().variables(), self.chance
@@ -258,9 +264,18 @@ class CountingPlant(SmallPlant):
     def text(self):
         while True:
             text = super().text()
-            if not re.search(r"(?i)CV\|-*[A-Z_]|\.CV", text):
+            if is_read(text) and not re.search(r"(?i)CV\|-*[A-Z_]|\.CV", text) and not SMALL.search(text) and all(map(has_preset, boxes_in(text))):
                 return text
             self.__init__(self.chance)
+
+
+def boxes_in(text):
+    return [box for it in read_plant(text).types for network in it.ladder.networks for box in network.boxes]
+
+
+def has_preset(box):
+    numbers = [pin.operand.text for pin in box.pins if words.fold(pin.name) == "PV" and pin.is_left and pin.operand]
+    return words.fold(box.block) != "CTU" or any(map(is_literal, numbers))
 
 
 def options(chance, plant):
