@@ -15,14 +15,14 @@ returns-in-Some g c =
       none = refl;
     })) c.print_nameless.ensures
 
-pub returns-in-Some-2 : goal.returns-in-Some-2
-returns-in-Some-2 g c =
+pub returns-in-Some-first_clash : goal.returns-in-Some-first_clash
+returns-in-Some-first_clash g c =
     IfOk-weaker c.print_clash.result _ _ (λ status is. inr (inl (record {
       files = c.in_ok-files.files.items;
       are = c.in_ok-files.ensures;
-      names = sym (c.in-None.ensures ∙ ap (find is_nameless) c.deref.ensures.value);
-      clash = (c.in-Some-2.first, c.in-Some-2.second);
-      found = sym (c.in-Some-2.ensures ∙ ap first_clash c.deref-2.ensures.value);
+      names = sym (c.in_default.ensures ∙ ap (find is_nameless) c.deref.ensures.value);
+      clash = (c.in-Some-first_clash.first, c.in-Some-first_clash.second);
+      found = sym (c.in-Some-first_clash.ensures ∙ ap first_clash c.deref-2.ensures.value);
       status_is = is;
       none = refl;
     }))) c.print_clash.ensures
