@@ -29,7 +29,7 @@ use Rattle.console.specs.declared.request.TextRequest.{TextRequest}
 use Rattle.console.specs.declared.request.VerifyRequest.{VerifyRequest}
 use Rattle.console.specs.Answers.{WritesAnswer, ExplainsAnswer, asked_source}
 use Rattle.console.specs.CommandLine.{file_of, second_in, strictness_of}
-use Rattle.console.specs.Warned.{EndsWarned, IsLadderQuiet, IsQuiet}
+use Rattle.console.specs.Warned.{EndsWarned, IsLadderQuiet, IsPlantQuiet, IsQuiet, time_of_all}
 use Rattle.console.specs.FieldWords.{one_text_of}
 use Rattle.console.specs.Giving.{command_fault}
 use Rattle.console.specs.Statuses.{status_of, status_of_fault, status_of_inputs, status_of_question, status_of_plant_question, status_of_schedule, status_of_lines}
@@ -133,10 +133,11 @@ AreDrawingsVerified request text status = IsOtherUnread request.second status
     ⊎ ((other : Option (List ℕ)) × IsOther request.second other
     × ((status ≡ 3) ⊎ IsDrawingVerified request text other status))
 
--- the status of `plc verify` of a plant, by what came of it
-abbrev pub status_of_plant_verdicts : Result Summary VerifyPlantFault → ℕ
-status_of_plant_verdicts (Ok summary) = status_of summary
-status_of_plant_verdicts (Err fault) = status_of_plant_question fault
+-- how `plc verify` of a plant ends, by what came of it; verdicts are followed by warnings
+abbrev pub EndsPlantVerdicts : VerifyRequest → List ℕ → Result Summary VerifyPlantFault → ℕ → Type 0
+EndsPlantVerdicts request text (Ok summary) status =
+    EndsWarned (IsPlantQuiet (time_of_all (unwrap_or request.dt 0)) text) request.strictness (status_of summary) status
+EndsPlantVerdicts request text (Err fault) status = status ≡ status_of_plant_question fault
 
 -- the same of the plant in a text
 pub record IsPlantVerified (request : VerifyRequest) (text : List ℕ) (status : ℕ) : Type 0 where
@@ -145,7 +146,7 @@ pub record IsPlantVerified (request : VerifyRequest) (text : List ℕ) (status :
   pub answered : Result Summary VerifyPlantFault
   pub is : MatchResult answered (WritesPlantVerdicts text (asked_of_plant request) old new)
       (ExplainsPlantVerdicts text (asked_of_plant request) old new)
-  pub ended : status ≡ status_of_plant_verdicts answered
+  pub ended : EndsPlantVerdicts request text answered status
 
 -- how a question about such a thing ends: a file isn't read, or its text is answered; of a drawing 3 is also for want of
 -- memory before. A question about neither ends with 2.

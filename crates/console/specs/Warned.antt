@@ -5,6 +5,7 @@ use Rattle.text_commands.specs.Comments.{without_comments}
 use Rattle.warnings.specs.OfPlant.{AreWarningsOfPlant, IsNoPlant}
 use Rattle.warnings.specs.OfText.{AreWarningsOf, HasNoNetworks}
 use Rattle.warnings.specs.declared.of_plant.PlantWarnings.{PlantWarnings}
+use Rattle.warnings.specs.declared.scan_time.ScanTime.{ScanTime}
 use Rattle.warnings.specs.declared.warning.Warning.{Warning}
 use Rattle.console.specs.declared.request.Strictness.{Strictness}
 use Rattle.console.specs.declared.request.Strictness.TheVariants.{Told, Strict, Silent}
@@ -36,28 +37,32 @@ IsDrawingQuiet dt text quiet =
 abbrev pub is_plant_quiet : PlantWarnings → Bool
 is_plant_quiet told = is_none told.bodies.items && is_none told.unbound.items && is_none told.far.items
 
--- the same of the text of a plant
-abbrev pub ArePlantWarnings : List ℕ → PlantWarnings → Type 0
-ArePlantWarnings text told =
-    AreWarningsOfPlant text told ⊎ (IsNoPlant text × AreWarningsOfPlant (without_comments text) told)
+-- the same of the text of a plant, with this time between evaluations
+abbrev pub ArePlantWarnings : ScanTime → List ℕ → PlantWarnings → Type 0
+ArePlantWarnings time text told =
+    AreWarningsOfPlant time text told ⊎ (IsNoPlant text × AreWarningsOfPlant time (without_comments text) told)
 
 abbrev pub IsNoPlantEither : List ℕ → Type 0
 IsNoPlantEither text = IsNoPlant text × IsNoPlant (without_comments text)
 
-abbrev pub IsPlantQuiet : List ℕ → Bool → Type 0
-IsPlantQuiet text quiet =
-    ((told : PlantWarnings) × ArePlantWarnings text told × (quiet ≡ is_plant_quiet told))
+abbrev pub IsPlantQuiet : ScanTime → List ℕ → Bool → Type 0
+IsPlantQuiet time text quiet =
+    ((told : PlantWarnings) × ArePlantWarnings time text told × (quiet ≡ is_plant_quiet told))
     ⊎ (IsNoPlantEither text × (quiet ≡ true))
 
--- of a program type what is warned of in its plant
+-- so many milliseconds from each evaluation to the next, of all programs
+abbrev pub time_of_all : ℕ → ScanTime
+time_of_all dt = record { dt = dt; program = None }
+
+-- of a program type what is warned of in its plant, where the time is that of this program type alone
 abbrev pub IsLadderQuiet : Option (Bor (List ℕ)) → ℕ → List ℕ → Bool → Type 0
 IsLadderQuiet None dt text quiet = IsDrawingQuiet dt text quiet
-IsLadderQuiet (Some name) dt text quiet = IsPlantQuiet text quiet
+IsLadderQuiet (Some name) dt text quiet = IsPlantQuiet (record { dt = dt; program = Some name }) text quiet
 
 -- what is warned of in the text of a request, where no time between scans is judged; a plan is told without warnings
 abbrev pub IsQuiet : TextRequest → List ℕ → Bool → Type 0
 IsQuiet (Eval drawing dt view color files strictness words program restarts second) text quiet = IsLadderQuiet program 0 text quiet
-IsQuiet (Check plant strictness) text quiet = IsPlantQuiet text quiet
+IsQuiet (Check plant strictness) text quiet = IsPlantQuiet (time_of_all 0) text quiet
 IsQuiet (Plan plant until form) text quiet = quiet ≡ true
 
 -- where something is warned of it is 1 in place of 0

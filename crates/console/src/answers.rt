@@ -5,7 +5,9 @@ ghost use Rattle.console.specs.Endings.{EndsAfter, EndsText, status_of_differenc
 
 use crate::answered::Answered;
 use crate::command_fault::CommandFault;
-use crate::faults::{FileText, Source, print_difference, print_failure, print_fault_of_text};
+use crate::faults::{
+    FileText, Source, WordForm, print_difference, print_failure, print_fault_of_text,
+};
 use crate::files::{file_text, second_text, text_of};
 use crate::piped::Piped;
 use crate::request::{Color, TextRequest, TraceFiles, View};
@@ -161,6 +163,7 @@ fn tell_text<R: Eprint + AllocGlobal>(
                 text,
                 program: request.program(),
                 second,
+                form: WordForm::Series,
             };
             let status = print_fault_of_text(rt, source, request.words(), is_closed, fault)?;
             Ok(Answered::with(status))

@@ -6,7 +6,7 @@ ghost use Rattle.clap.specs.Takes.{takes};
 ghost use Rattle.text_commands.specs.Restarts.{AreRestarts};
 ghost use Rattle.console.specs.CommandLine.{plc_app, IsNumber, GivesNumber, GivesOption, AsksFiles, AsksFor, AsksSecond, OnlyMemoryRefuses, given_word, words_given, claims_given, premises_given, restart_words, journals_given, is_given, GivesOneOf, GivesView, GivesColor, GivesStrictness, GivesRestarts, GivesPace, GivesEnd, GivesFull, GivesJournalFull, GivesJournalSize, plan_form};
 
-use crate::commands::commands;
+use crate::commands::{command_of, commands};
 use crate::request::{
     AuditRequest, Color, JournalFull, NodeRequest, Pace, Request, Restarts, RunRequest, SimRequest,
     Strictness, TextRequest, TraceFiles, VerifyRequest, View,
@@ -555,24 +555,20 @@ fn audit_request<'a>(alloc: Global, inner: &ArgMatches<'a>) -> Result<Request<'a
     }))
 }
 
-/// What a command of that name asks for, by what was found for it.
-fn request_of<'a>(
-    alloc: Global,
-    command: &mut Command<'a>,
-    name: &str,
-    inner: &ArgMatches<'a>,
-) -> Result<Request<'a>, Error>
+/// What a command of that name asks for, by what was found for it. A refusal tells the use of this command.
+fn request_of<'a>(alloc: Global, name: &str, inner: &ArgMatches<'a>) -> Result<Request<'a>, Error>
     ensures ok { IfOk result (AsksFor (Some (name.now, rows_of (found_of inner.now)))) }
     ensures refused { IfErr result (OnlyMemoryRefuses (AsksFor (Some (name.now, rows_of (found_of inner.now))))) }
 {
+    let mut command = command_of(alloc, name)?;
     match name {
-        "eval" => eval_request(alloc, command, inner),
-        "verify" => verify_request(alloc, command, inner),
-        "check" => check_request(command, inner),
-        "plan" => plan_request(command, inner),
-        "sim" => sim_request(command, inner),
-        "run" => run_request(alloc, command, inner),
-        "node" => node_request(command, inner),
+        "eval" => eval_request(alloc, &mut command, inner),
+        "verify" => verify_request(alloc, &mut command, inner),
+        "check" => check_request(&mut command, inner),
+        "plan" => plan_request(&mut command, inner),
+        "sim" => sim_request(&mut command, inner),
+        "run" => run_request(alloc, &mut command, inner),
+        "node" => node_request(&mut command, inner),
         "audit" => audit_request(alloc, inner),
         "page" => Ok(Request::Page(given_word(inner, "FILE"))),
         "explain" => Ok(Request::Explain(word_of(inner, "KIND"))),
@@ -590,7 +586,7 @@ pub fn read_words<'a>(alloc: Global, words: &'a [String]) -> Result<Request<'a>,
     let mut command = commands(alloc)?;
     let matches = command.try_get_matches_from_mut(words)?;
     match matches.subcommand() {
-        Some((name, inner)) => request_of(alloc, &mut command, name, inner),
+        Some((name, inner)) => request_of(alloc, name, inner),
         None => Err(command.error(ErrorKind::MissingSubcommand, "a command is missing")?),
     }
 }

@@ -635,3 +635,22 @@ pub fn commands<'a>(alloc: Global) -> Result<Command<'a>, AllocError>
         .subcommand(page_command(alloc)?)?
         .subcommand(explain_command(alloc)?)
 }
+
+/// The command of a name by itself, by which its use is told; the program, where there is none of that name.
+pub(crate) fn command_of<'a>(alloc: Global, name: &str) -> Result<Command<'a>, AllocError> {
+    let command = match name {
+        "eval" => eval_command(alloc)?,
+        "verify" => verify_command(alloc)?,
+        "check" => check_command(alloc)?,
+        "plan" => plan_command(alloc)?,
+        "sim" => sim_command(alloc)?,
+        "run" => run_command(alloc)?,
+        "node" => node_command(alloc)?,
+        "audit" => audit_command(alloc)?,
+        "page" => page_command(alloc)?,
+        "explain" => explain_command(alloc)?,
+        _ => return commands(alloc),
+    };
+    let name = format!(in alloc; "plc {name}")?;
+    command.bin_name(name.as_str())
+}

@@ -3,12 +3,13 @@ ghost use Rattle.console.specs.Giving.{command_fault};
 ghost use Rattle.console.specs.Statuses.{status_of_fault, status_of_inputs, status_of_lines, status_of_schedule};
 
 use crate::command_fault::CommandFault;
+use crate::field_words::{doubled_word, misspelled_word};
 use crate::refusals::{DifferenceLine, NoEvent, Refusal, RefusedWord, WordRefusal};
 use crate::remarks::{print_mark_of, print_remark};
 use crate::shown::Shown;
 use crate::status::{DIFFERS, FAILED, TEXT_REFUSED, WORD_REFUSED};
 use evaluation::InputFault;
-use guidance::{help_with, help_with_a_program, help_with_a_schedule, help_with_a_word};
+use guidance::{Meant, help_with, help_with_a_program, help_with_a_schedule, help_with_a_word};
 use mistakes::more_with;
 use std::alloc::AllocError;
 use std::fmt::Display;
@@ -24,13 +25,24 @@ pub(crate) struct FileText<'a> {
     pub text: &'a str,
 }
 
-/// A file that was read, its text, and the name of the program type in it that is asked about; or that of a second drawing.
+/// What a word of a command says of a variable.
+#[derive(Clone, Copy, Debug, PartialEq, Eq)]
+pub(crate) enum WordForm {
+    /// Its values before the scans, or what they are to be after them: `plc eval`.
+    Series,
+    /// The one value at which it is held: `plc verify`.
+    Held,
+}
+
+/// A file that was read, its text, the name of the program type in it that is asked about, or that of a second drawing; and
+/// what the words say that stand behind it.
 #[derive(Clone, Copy)]
 pub(crate) struct Source<'a> {
     pub file: &'a str,
     pub text: &'a str,
     pub program: Option<&'a str>,
     pub second: Option<FileText<'a>>,
+    pub form: WordForm,
 }
 
 /// Tells what helps to mend a text. The fault was told before: what can't be told here is left out.
@@ -91,13 +103,11 @@ fn print_no_program<R: Eprint + AllocGlobal>(rt: &R, source: Source<'_>) -> io::
     Ok(status)
 }
 
-/// Tells the fault of a word by its number, and where no variable has that name the nearest ones; the status.
-pub(crate) fn print_fault_of_word<R: Eprint + AllocGlobal, F: Display + Drop>(
+/// Tells the fault of a word by its number; the status.
+pub(crate) fn print_fault_of_word<R: Eprint, F: Display + Drop>(
     rt: &R,
-    source: Source<'_>,
     words: &[&str],
     number: usize,
-    is_unknown: bool,
     fault: F,
 ) -> io::Result<u8>
     ensures { IfOk result (λ status. status ≡ 2) }
@@ -105,15 +115,114 @@ pub(crate) fn print_fault_of_word<R: Eprint + AllocGlobal, F: Display + Drop>(
     let word = words.get(number).copied().unwrap_or("");
     let refused = RefusedWord { word, fault };
     eprintln!(rt; "{refused}")?;
-    if is_unknown {
-        let help = help_with_a_word(rt.alloc(), source.text, source.program, word);
-        print_help(rt, help);
-    }
     Ok(WORD_REFUSED)
 }
 
-/// Tells why a word NAME=VALUES or NAME==VALUES is refused, or the name of a program type; of an INT or a TIME how its values
-/// are written. The status.
+/// Tells that no variable has the name in a word, by its number, and the nearest ones that can have been meant; the status.
+pub(crate) fn print_unknown_name<R: Eprint + AllocGlobal>(
+    rt: &R,
+    source: Source<'_>,
+    words: &[&str],
+    number: usize,
+    meant: Meant,
+) -> io::Result<u8>
+    ensures { IfOk result (λ status. status ≡ 2) }
+{
+    let word = words.get(number).copied().unwrap_or("");
+    let shown = Shown(word);
+    let owner = match source.program {
+        None => "drawing",
+        Some(_) => "program type",
+    };
+    let variable = match meant {
+        Meant::Variables => "variable",
+        Meant::Flags => "BOOL variable",
+    };
+    eprintln!(rt; "plc: {shown}: the {owner} has no {variable} of this name")?;
+    let help = help_with_a_word(rt.alloc(), source.text, source.program, meant, word);
+    print_help(rt, help);
+    Ok(WORD_REFUSED)
+}
+
+/// The form of a word of a command.
+fn form_of_words(form: WordForm) -> &'static str {
+    match form {
+        WordForm::Series => "a word is NAME=VALUES, or NAME==VALUES for what a variable is to be",
+        WordForm::Held => "a word is NAME=VALUE, for an input that is held at it",
+    }
+}
+
+/// Tells that a word isn't of the form that its command takes; the status.
+fn print_form<R: Eprint>(rt: &R, word: &str, form: WordForm) -> io::Result<u8>
+    ensures { IfOk result (λ status. status ≡ 2) }
+{
+    let (shown, form) = (Shown(word), form_of_words(form));
+    eprintln!(rt; "plc: {shown}: {form}")?;
+    Ok(WORD_REFUSED)
+}
+
+/// How the values of variables of a kind are written in a word, and an example.
+#[derive(Clone, Copy)]
+struct ValueForm {
+    text: &'static str,
+    example: &'static str,
+}
+
+impl ValueForm {
+    /// What is wrong with the values in a word of this form; none where it isn't one of these kinds.
+    fn of(fault: WordFaultKind, form: WordForm) -> Option<ValueForm> {
+        let (text, example) = match (fault, form) {
+            (WordFaultKind::BadDigits, WordForm::Series) => (
+                "a BOOL: 1 to 1,000 digits 0 or 1, a value each",
+                "0110",
+            ),
+            (WordFaultKind::BadDigits, WordForm::Held) => ("a BOOL: 0 or 1", "1"),
+            (WordFaultKind::BadNumbers, WordForm::Series) => (
+                "an INT: numbers from -32768 to 32767, parted by commas",
+                "3,4,4",
+            ),
+            (WordFaultKind::BadNumbers, WordForm::Held) => (
+                "an INT: a number from -32768 to 32767",
+                "3",
+            ),
+            (WordFaultKind::BadDurations, WordForm::Series) => (
+                "a TIME: durations up to T#2147483647ms, parted by commas",
+                "T#5s,T#7s",
+            ),
+            (WordFaultKind::BadDurations, WordForm::Held) => (
+                "a TIME: a duration up to T#2147483647ms",
+                "T#5s",
+            ),
+            _ => return None,
+        };
+        Some(ValueForm { text, example })
+    }
+}
+
+/// Tells how the values of the variable in a word are written, or, where the word expects what its command holds, the form of
+/// its words; the status.
+fn print_bad_values<R: Eprint>(
+    rt: &R,
+    word: &str,
+    form: WordForm,
+    values: ValueForm,
+) -> io::Result<u8>
+    ensures { IfOk result (λ status. status ≡ 2) }
+{
+    let is_expectation = word.contains("==");
+    if is_expectation && form == WordForm::Held {
+        return print_form(rt, word, form);
+    }
+    let shown = Shown(word);
+    let name = Shown(word.split('=').next().unwrap_or(word));
+    let sign = if is_expectation { "==" } else { "=" };
+    let ValueForm { text, example } = values;
+    eprintln!(rt; "plc: {shown}: {name} is {text}, as {name}{sign}{example}")?;
+    Ok(WORD_REFUSED)
+}
+
+/// Tells why a word NAME=VALUES or NAME==VALUES is refused, or the name of a program type: how values of its kind are written
+/// for the command. The status.
 fn print_refused_word<R: Eprint + AllocGlobal>(
     rt: &R,
     source: Source<'_>,
@@ -123,26 +232,16 @@ fn print_refused_word<R: Eprint + AllocGlobal>(
     ensures { IfOk result (λ status. status ≡ 2) }
 {
     let word = words.get(fault.number).copied().unwrap_or("");
-    let shown = Shown(word);
-    let name = Shown(word.split('=').next().unwrap_or(word));
+    if let Some(values) = ValueForm::of(fault.kind, source.form) {
+        return print_bad_values(rt, word, source.form, values);
+    }
     match fault.kind {
-        WordFaultKind::BadNumbers => {
-            let form = "an INT: numbers parted by commas";
-            eprintln!(rt; "plc: {shown}: {name} is {form}, as {name}=3,4,4")?;
-            Ok(WORD_REFUSED)
-        }
-        WordFaultKind::BadDurations => {
-            let form = "a TIME: durations parted by commas";
-            eprintln!(rt; "plc: {shown}: {name} is {form}, as {name}=T#5s,T#7s")?;
-            Ok(WORD_REFUSED)
-        }
+        WordFaultKind::NoEquals => print_form(rt, word, source.form),
         WordFaultKind::NoVariable => {
-            print_fault_of_word(rt, source, words, fault.number, true, fault)
-        }
-        WordFaultKind::BadDigits | WordFaultKind::Twice => {
-            print_fault_of_word(rt, source, words, fault.number, false, fault)
+            print_unknown_name(rt, source, words, fault.number, Meant::Variables)
         }
         WordFaultKind::NoProgram => print_no_program(rt, source),
+        _ => print_fault_of_word(rt, words, fault.number, fault),
     }
 }
 
@@ -197,6 +296,7 @@ pub fn print_fault<'a, R: Eprint + AllocGlobal>(
         text,
         program: None,
         second: None,
+        form: WordForm::Series,
     };
     print_fault_about(rt, source, words, fault)
 }
@@ -230,13 +330,23 @@ pub(crate) fn print_difference<R: Eprint>(
     Ok(DIFFERS)
 }
 
-/// Tells why words of field inputs are refused; the status.
-pub(crate) fn print_input_fault<R: Eprint>(rt: &R, fault: InputFault) -> io::Result<u8>
+/// Tells why words of field inputs are refused, and which; the status.
+pub(crate) fn print_input_fault<R: Eprint + AllocGlobal>(
+    rt: &R,
+    words: &[&str],
+    fault: InputFault,
+) -> io::Result<u8>
     ensures { IfOk result (λ status. status ≡ status_of_inputs fault) }
 {
     match fault {
-        InputFault::Syntax => print_word_refusal(rt, WordRefusal::NoFieldInput),
-        InputFault::Twice => print_word_refusal(rt, WordRefusal::AddressTwice),
+        InputFault::Syntax => {
+            let word = misspelled_word(rt.alloc(), words);
+            print_word_refusal(rt, WordRefusal::NoFieldInput(word))
+        }
+        InputFault::Twice => {
+            let word = doubled_word(rt.alloc(), words);
+            print_word_refusal(rt, WordRefusal::AddressTwice(word))
+        }
         InputFault::Memory => print_failure(rt, CommandFault::Memory),
     }
 }

@@ -116,8 +116,9 @@ Example:
   HOLDS R1.A.INSIDE, R2.O.INSIDE are never on together: 185 states, 1562 steps
   given each task every INTERVAL
 
-Warnings of a drawing are told behind all else, as plc eval --help says, and PresetBetweenScans, a duration at PT of a timer
-that is no multiple of --dt; --strict and --no-warnings are as there.
+Warnings are told behind all else: of a drawing as plc eval --help says, of a plant as plc check --help says, and PresetBetweenScans,
+a duration at PT of a timer that is no multiple of --dt, with --program in the drawing of P alone; --strict and --no-warnings are
+as there.
 
 The exit status is 0 if all claims hold; 4 if one fails; 5 if none fails and one is undecided; 1 if the text of the file
 is refused, with FILE:LINE:COLUMN: Kind on standard error, or with --strict where all hold and there is a warning; 2 if a

@@ -31,7 +31,7 @@ pub fn prepare<R: Files + Eprint + AllocGlobal>(
 {
     let inputs = match read_field_words(rt.alloc(), &request.words) {
         Ok(inputs) => inputs,
-        Err(fault) => return Ok(Err(print_input_fault(rt, fault)?)),
+        Err(fault) => return Ok(Err(print_input_fault(rt, &request.words, fault)?)),
     };
     Ok(match file_plant(rt, request.plant)? {
         Ok(plant) => Ok(Prepared { plant, inputs }),

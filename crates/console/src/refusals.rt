@@ -5,7 +5,7 @@ ghost use Rattle.std.specs.Fmt.{DisplaysOnOk};
 ghost use Rattle.std.specs.Option.{option_map};
 ghost use Rattle.text_lines.specs.LineParts.{value_text};
 ghost use Rattle.console.specs.Refusals.{at_line, at_place, difference_line, difference_text, kind_of_body, kind_of_drawing, kind_of_names, kind_of_networks, kind_of_plant, no_event, refusal_of, shown};
-ghost use Rattle.console.specs.WordRefusals.{name_refused, word_refusal, written_over, written_twice};
+ghost use Rattle.console.specs.WordRefusals.{name_refused, nameless, word_refusal, written_over, written_twice};
 
 use crate::shown::Shown;
 use ladder_text::DrawFaultKind;
@@ -254,10 +254,10 @@ impl Display for DifferenceLine<'_> {
 /// Why words of the command line are refused that its grammar allows.
 #[derive(Clone, Copy, Debug)]
 pub enum WordRefusal<'a> {
-    /// A word of a run is no ADDRESS=VALUE.
-    NoFieldInput,
-    /// Two words give one address its value.
-    AddressTwice,
+    /// This word of a run is no ADDRESS=VALUE.
+    NoFieldInput(&'a str),
+    /// This word gives an address its value, and one before it does.
+    AddressTwice(&'a str),
     /// The plant has no resource of this name.
     NoResource(&'a str),
     /// The plant has no program type of this name.
@@ -266,6 +266,8 @@ pub enum WordRefusal<'a> {
     NoKind(&'a str),
     /// `-` stands in the place of a file.
     NoFile,
+    /// `-` stands for what is written for this option.
+    Nameless(&'a str),
     /// The names are neither all of a drawing nor all of a plant, or what is asked of a drawing is asked of plants alone.
     NoSubject,
     /// Names are of a plant, or what is asked of a program type is asked of plants alone.
@@ -312,6 +314,14 @@ fn write_written_twice<W: fmt::Write>(
     write!(f, "{first}: give another name to {option}")
 }
 
+/// Writes that nothing of the name `-` is written for an option.
+fn write_nameless<W: fmt::Write>(f: &mut Formatter<W>, option: &str) -> fmt::Result
+    ensures { DisplaysOnOk W.write_str_gives f.old result (Some (nameless option.now)) f.new }
+{
+    f.write_str("plc: -: nothing is written to standard output for ")?;
+    write!(f, "{option}; what has this name is ./-")
+}
+
 /// Writes the line on words that are refused.
 pub fn write_word_refusal<W: fmt::Write>(
     f: &mut Formatter<W>,
@@ -320,10 +330,14 @@ pub fn write_word_refusal<W: fmt::Write>(
     ensures { DisplaysOnOk W.write_str_gives f.old result (Some (word_refusal refusal.entry)) f.new }
 {
     match refusal {
-        WordRefusal::NoFieldInput => {
-            f.write_str("plc: a word is no ADDRESS=VALUE such as %IX0=1 or %IW2=-7")
+        WordRefusal::NoFieldInput(word) => write_named(
+            f,
+            word,
+            "this word is no ADDRESS=VALUE such as %IX0=1 or %IW2=-7",
+        ),
+        WordRefusal::AddressTwice(word) => {
+            write_named(f, word, "another word gives this address its value")
         }
-        WordRefusal::AddressTwice => f.write_str("plc: two words give one address its value"),
         WordRefusal::NoResource(name) => {
             write_named(f, name, "the plant has no resource of this name")
         }
@@ -338,6 +352,7 @@ pub fn write_word_refusal<W: fmt::Write>(
         WordRefusal::NoFile => f.write_str(
             "plc: -: only a schedule is read from standard input; a file of this name is ./-",
         ),
+        WordRefusal::Nameless(option) => write_nameless(f, option),
         WordRefusal::NoSubject => f.write_str(
             "plc: names without a dot are of a drawing, names R.P.V of a plant, and a question is about one of them; --no-restarts and --most-waiting are of plants, --with is of drawings",
         ),

@@ -7,12 +7,13 @@ ghost use Rattle.verifying_plants.specs.VerifyPlant.{ExplainsAnswer as ExplainsP
 ghost use Rattle.console.specs.Statuses.{status_of, status_of_question, status_of_plant_question};
 ghost use Rattle.console.specs.Answers.{asked_source};
 ghost use Rattle.console.specs.Verifying.{are_of_plant, are_plain, asked_question, asked_of_plant, eval_words, is_alone, is_of_plant, is_of_drawings, program_words, second_words, subject_of};
-ghost use Rattle.console.specs.Endings.{AreDrawingsVerified, EndsVerify, IsDrawingVerified, IsPlantVerified, EndsVerdicts, status_of_plant_verdicts};
+ghost use Rattle.console.specs.Endings.{AreDrawingsVerified, EndsVerify, IsDrawingVerified, IsPlantVerified, EndsPlantVerdicts, EndsVerdicts};
 
 use crate::answers::file_of_text;
 use crate::command_fault::CommandFault;
 use crate::faults::{
-    Source, print_failure, print_fault_of_text, print_fault_of_word, print_word_refusal,
+    Source, WordForm, print_failure, print_fault_of_text, print_fault_of_word, print_unknown_name,
+    print_word_refusal,
 };
 use crate::files::{file_text, second_text, text_of};
 use crate::piped::Piped;
@@ -20,14 +21,15 @@ use crate::refusals::WordRefusal;
 use crate::request::VerifyRequest;
 use crate::shell_word::shell_word;
 use crate::status::{CLAIM_FAILS, DONE, UNDECIDED, WORD_REFUSED};
-use crate::warned::warn_of_a_ladder;
+use crate::warned::{warn_of_a_ladder, warn_of_a_plant};
+use guidance::Meant;
 use std::alloc::{AllocError, Global};
 use std::io;
 use std::io::Write;
 use std::rt::{Clock, Files};
 use text_commands::LadderSource;
 use text_lines::{OnTerminal, Progress};
-use verifying::{ClaimFaultKind, Question, Summary, VerifyFault, verify_text};
+use verifying::{ClaimFault, ClaimFaultKind, Question, Summary, VerifyFault, verify_text};
 use verifying_plants::{PlantQuestion, VerifyPlantFault, verify_plant_text};
 
 /// What a question is about.
@@ -150,6 +152,24 @@ fn source_of<'a>(
         text,
         program: request.program,
         second: file_of_text(request.second, second),
+        form: WordForm::Held,
+    }
+}
+
+/// Tells why a name of a claim or behind `--given` is refused; the status.
+fn print_claim_fault<R: Eprint + AllocGlobal>(
+    rt: &R,
+    source: Source<'_>,
+    names: &[&str],
+    fault: ClaimFault,
+) -> io::Result<u8>
+    ensures { IfOk result (λ status. status ≡ 2) }
+{
+    match fault.kind {
+        ClaimFaultKind::NoVariable => {
+            print_unknown_name(rt, source, names, fault.number, Meant::Flags)
+        }
+        ClaimFaultKind::NeverStored => print_fault_of_word(rt, names, fault.number, fault),
     }
 }
 
@@ -169,17 +189,9 @@ fn print_verify_fault<R: Eprint + AllocGlobal>(
         VerifyFault::Command(fault) => {
             print_fault_of_text(rt, source, &request.words, is_closed, fault)
         }
-        VerifyFault::Claim(fault) => {
-            let is_unknown = fault.kind == ClaimFaultKind::NoVariable;
-            print_fault_of_word(rt, source, &request.claims, fault.number, is_unknown, fault)
-        }
-        VerifyFault::Given(fault) => {
-            let is_unknown = fault.kind == ClaimFaultKind::NoVariable;
-            print_fault_of_word(rt, source, &request.given, fault.number, is_unknown, fault)
-        }
-        VerifyFault::Held(fault) => {
-            print_fault_of_word(rt, source, &request.words, fault.number, false, fault)
-        }
+        VerifyFault::Claim(fault) => print_claim_fault(rt, source, &request.claims, fault),
+        VerifyFault::Given(fault) => print_claim_fault(rt, source, &request.given, fault),
+        VerifyFault::Held(fault) => { print_fault_of_word(rt, &request.words, fault.number, fault) }
         VerifyFault::TooManyInputs(_) | VerifyFault::NoTime => {
             eprintln!(rt; "plc: {fault}")?;
             Ok(WORD_REFUSED)
@@ -255,18 +267,18 @@ fn print_verify_plant_fault<'a, R: Eprint + AllocGlobal>(
             print_fault_of_text(rt, source, &request.words, is_closed, fault)
         }
         VerifyPlantFault::Claim(fault) => {
-            print_fault_of_word(rt, source, &request.claims, fault.number, false, fault)
+            print_fault_of_word(rt, &request.claims, fault.number, fault)
         }
         VerifyPlantFault::Given(fault) => {
-            print_fault_of_word(rt, source, &request.given, fault.number, false, fault)
+            print_fault_of_word(rt, &request.given, fault.number, fault)
         }
         VerifyPlantFault::Range(fault) => {
-            print_fault_of_word(rt, source, &request.words, fault.number, false, fault)
+            print_fault_of_word(rt, &request.words, fault.number, fault)
         }
     }
 }
 
-/// Tells why there is no answer about a plant, if there is none; the status.
+/// Tells why there is no answer about a plant, if there is none, and else the warnings of the plant; the status.
 fn tell_plant_verdicts<R: Eprint + AllocGlobal>(
     rt: &R,
     request: &VerifyRequest<'_>,
@@ -274,10 +286,14 @@ fn tell_plant_verdicts<R: Eprint + AllocGlobal>(
     is_closed: bool,
     answered: Result<Summary, VerifyPlantFault>,
 ) -> io::Result<u8>
-    ensures { IfOk result (λ status. status ≡ status_of_plant_verdicts answered) }
+    ensures { IfOk result (EndsPlantVerdicts request.now text.now answered) }
 {
     match answered {
-        Ok(summary) => Ok(status_of(summary)),
+        Ok(summary) => {
+            let status = status_of(summary);
+            let time = request.dt.unwrap_or(0);
+            warn_of_a_plant(rt, request.file, time, text, request.strictness, status)
+        }
         Err(fault) => print_verify_plant_fault(rt, request, text, is_closed, fault),
     }
 }

@@ -1,7 +1,7 @@
 //! Warnings: what is lawful, and most likely not meant.
 
 ghost use Rattle.std.specs.Prelude.{◌≡◌, IfOk, MatchOption};
-ghost use Rattle.console.specs.Warned.{AreDrawingWarnings, ArePlantWarnings, IsNoDrawing, IsNoPlantEither, EndsWarned, IsDrawingQuiet, IsLadderQuiet, IsPlantQuiet, IsQuiet, is_plant_quiet, strict_status};
+ghost use Rattle.console.specs.Warned.{AreDrawingWarnings, ArePlantWarnings, IsNoDrawing, IsNoPlantEither, EndsWarned, IsDrawingQuiet, IsLadderQuiet, IsPlantQuiet, IsQuiet, is_plant_quiet, strict_status, time_of_all};
 ghost use Rattle.console.specs.Steps.WarnedEnds.{IsStatusBehind};
 ghost use Rattle.console.specs.CommandLine.{strictness_of};
 
@@ -15,7 +15,8 @@ use std::alloc::{AllocError, Global};
 use std::io;
 use text_commands::without_comments;
 use warnings::{
-    FarAddress, PlantWarnings, UnboundInput, Warning, warnings_of_a_plant, warnings_of_a_text,
+    FarAddress, PlantWarnings, ScanTime, UnboundInput, Warning, warnings_of_a_plant,
+    warnings_of_a_text,
 };
 
 /// Tells a warning: its place and kind, the line with a mark, and what to write instead.
@@ -119,15 +120,19 @@ fn drawing_warnings(alloc: Global, dt: u32, text: &str) -> Result<Option<Vec<War
     warnings_of_a_text(alloc, dt, text.as_str())
 }
 
-/// The same of a plant's text.
-fn plant_warnings(alloc: Global, text: &str) -> Result<Option<PlantWarnings>, AllocError>
-    ensures { IfOk result (λ told. MatchOption told (IsNoPlantEither text.now) (ArePlantWarnings text.now)) }
+/// The same of a plant's text, with this time from each evaluation to the next.
+fn plant_warnings(
+    alloc: Global,
+    time: ScanTime<'_>,
+    text: &str,
+) -> Result<Option<PlantWarnings>, AllocError>
+    ensures { IfOk result (λ told. MatchOption told (IsNoPlantEither text.now) (ArePlantWarnings time.entry text.now)) }
 {
-    if let Some(warnings) = warnings_of_a_plant(alloc, text)? {
+    if let Some(warnings) = warnings_of_a_plant(alloc, time, text)? {
         return Ok(Some(warnings));
     }
     let text = without_comments(alloc, text)?;
-    warnings_of_a_plant(alloc, text.as_str())
+    warnings_of_a_plant(alloc, time, text.as_str())
 }
 
 /// Tells the warnings of a drawing; whether there are none. An error is want of memory.
@@ -160,11 +165,12 @@ fn is_plant_quiet(warnings: &PlantWarnings) -> bool
 fn tell_plant<R: Eprint + AllocGlobal>(
     rt: &R,
     file: &str,
+    time: ScanTime<'_>,
     text: &str,
 ) -> io::Result<Result<bool, AllocError>>
-    ensures { IfOk result (λ told. IfOk told (IsPlantQuiet text.now)) }
+    ensures { IfOk result (λ told. IfOk told (IsPlantQuiet time.entry text.now)) }
 {
-    match plant_warnings(rt.alloc(), text) {
+    match plant_warnings(rt.alloc(), time, text) {
         Ok(Some(warnings)) => {
             print_warnings(rt, file, text, &warnings.bodies)?;
             print_unbound_inputs(rt, file, text, &warnings.unbound)?;
@@ -217,12 +223,18 @@ fn tell_ladder<R: Eprint + AllocGlobal>(
 {
     match program {
         None => tell_drawing(rt, file, dt, text),
-        Some(_) => tell_plant(rt, file, text),
+        Some(name) => {
+            let time = ScanTime {
+                dt,
+                program: Some(name),
+            };
+            tell_plant(rt, file, time, text)
+        }
     }
 }
 
 /// Tells the warnings of a drawing's text, or of the plant of a program type, behind all else that is told; the status, which
-/// was this one before them. The time between the scans of a drawing is judged if it isn't 0.
+/// was this one before them. The time between the scans of the drawing, or of the program type, is judged if it isn't 0.
 pub fn warn_of_a_ladder<R: Eprint + AllocGlobal>(
     rt: &R,
     file: &str,
@@ -243,6 +255,28 @@ pub fn warn_of_a_ladder<R: Eprint + AllocGlobal>(
     }
 }
 
+/// Tells the warnings of a plant's text behind all else that is told; the status, which was this one before them. The time
+/// between the evaluations of all its programs is judged if it isn't 0.
+pub fn warn_of_a_plant<R: Eprint + AllocGlobal>(
+    rt: &R,
+    file: &str,
+    dt: u32,
+    text: &str,
+    strictness: Strictness,
+    status: u8,
+) -> io::Result<u8>
+    ensures { IfOk result (EndsWarned (IsPlantQuiet (time_of_all dt) text.now) strictness status) }
+{
+    match strictness {
+        Strictness::Silent => Ok(status),
+        Strictness::Told | Strictness::Strict => {
+            let time = ScanTime { dt, program: None };
+            let told = tell_plant(rt, file, time, text)?;
+            status_behind(rt, told, strictness, status)
+        }
+    }
+}
+
 /// Tells the warnings of the text of a request; whether there are none. An error is want of memory.
 fn tell_request<R: Eprint + AllocGlobal>(
     rt: &R,
@@ -253,7 +287,13 @@ fn tell_request<R: Eprint + AllocGlobal>(
 {
     match request {
         TextRequest::Eval { program, .. } => tell_ladder(rt, request.file(), *program, 0, text),
-        TextRequest::Check { .. } => tell_plant(rt, request.file(), text),
+        TextRequest::Check { .. } => {
+            let time = ScanTime {
+                dt: 0,
+                program: None,
+            };
+            tell_plant(rt, request.file(), time, text)
+        }
         TextRequest::Plan { .. } => Ok(Ok(true)),
     }
 }

@@ -16,6 +16,7 @@ use network::Graph;
 use plant::PlantFault;
 use power_flow::{Declarations, Declared, Kind};
 use std::alloc::{AllocError, Global};
+use std::fmt::Write;
 use text_commands::{TextFault, read_program, without_comments};
 use words::is_plain_name;
 
@@ -107,19 +108,45 @@ fn near_drawing(alloc: Global, text: &str, line: u64) -> Result<String, AllocErr
     }
 }
 
-fn is_flag(declared: Declared) -> bool {
-    matches!(
-        declared,
-        Declared::Input(Kind::Bool) | Declared::Output(Kind::Bool) | Declared::Local(Kind::Bool)
-    )
+/// Which variables can have been meant by a name.
+#[derive(Clone, Copy, Debug, PartialEq, Eq)]
+pub enum Meant {
+    /// Those of every kind.
+    Variables,
+    /// BOOL variables alone.
+    Flags,
 }
 
-/// The BOOL variables of a drawing.
-fn flags_in(alloc: Global, declarations: &Declarations) -> Result<Vec<&[u8]>, AllocError> {
+impl Meant {
+    /// How they are told.
+    fn text(self) -> &'static str {
+        match self {
+            Meant::Variables => "variables",
+            Meant::Flags => "BOOL variables",
+        }
+    }
+
+    /// Whether what is declared can have been meant.
+    fn can_be(self, declared: Declared) -> bool {
+        match declared {
+            Declared::Input(kind) | Declared::Output(kind) | Declared::Local(kind) => {
+                self == Meant::Variables || kind == Kind::Bool
+            }
+            Declared::Instance(_) => false,
+        }
+    }
+}
+
+/// The variables among these that can have been meant.
+fn meant_in(
+    alloc: Global,
+    declarations: &Declarations,
+    meant: Meant,
+) -> Result<Vec<&[u8]>, AllocError> {
     let mut names = Vec::new(alloc);
     for place in 0..declarations.len() {
         if let Some((name, declared)) = declarations.entry(place) {
-            if is_flag(declared) {
+            if meant.can_be(declared) {
                 names.push(name.as_bytes())?;
             }
         }
@@ -127,18 +154,21 @@ fn flags_in(alloc: Global, declarations: &Declarations) -> Result<Vec<&[u8]>, Al
     Ok(names)
 }
 
-/// Of the BOOL variables among these the nearest to a name, behind what they are; nothing where it is no name or none is BOOL.
-fn near_flags(
+/// The nearest to a name of the variables that can have been meant, behind what they are and of what; nothing where it is no
+/// name or there are none.
+fn near_variables(
     alloc: Global,
     declarations: &Declarations,
-    what: &str,
+    meant: Meant,
+    owner: &str,
     name: &[u8],
 ) -> Result<String, AllocError> {
     let mut near = String::new(alloc);
-    let flags = flags_in(alloc, declarations)?;
-    if is_plain_name(name) && !flags.is_empty() {
-        near.push_str(what)?;
-        push_names(&mut near, &nearest_names(alloc, name, &flags)?)?;
+    let names = meant_in(alloc, declarations, meant)?;
+    if is_plain_name(name) && !names.is_empty() {
+        let what = meant.text();
+        write!(near, "The nearest {what} of {owner}:")?;
+        push_names(&mut near, &nearest_names(alloc, name, &names)?)?;
     }
     Ok(near)
 }
@@ -148,35 +178,33 @@ fn near_program(
     alloc: Global,
     text: &str,
     program: &str,
+    meant: Meant,
     name: &[u8],
 ) -> Result<String, AllocError> {
     match read_program(alloc, text, program) {
         Ok(Some(found)) => {
             let declarations = found.ladder().declarations();
-            let what = "The nearest BOOL variables of the program:";
-            near_flags(alloc, declarations, what, name)
+            near_variables(alloc, declarations, meant, "the program", name)
         }
         _ => Ok(String::new(alloc)),
     }
 }
 
-/// The BOOL variables of a drawing, or of a program type of a plant, that are nearest to the name in a word NAME=BITS; nothing
-/// where that is no name or no variable is BOOL.
+/// The variables of a drawing, or of a program type of a plant, that are nearest to the name in a word NAME or NAME=VALUES, of
+/// those that can have been meant; nothing where that is no name or there are none.
 pub fn help_with_a_word(
     alloc: Global,
     text: &str,
     program: Option<&str>,
+    meant: Meant,
     word: &str,
 ) -> Result<String, AllocError> {
     let name = word.split('=').next().unwrap_or(word).as_bytes();
     if let Some(program) = program {
-        return near_program(alloc, text, program, name);
+        return near_program(alloc, text, program, meant, name);
     }
     match names_of_a_drawing(alloc, text) {
-        Some(declarations) => {
-            let what = "The nearest BOOL variables of the drawing:";
-            near_flags(alloc, &declarations, what, name)
-        }
+        Some(declarations) => { near_variables(alloc, &declarations, meant, "the drawing", name) }
         None => Ok(String::new(alloc)),
     }
 }

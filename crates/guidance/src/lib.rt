@@ -16,4 +16,4 @@ mod unknown_word;
 
 pub use excerpt::{marked_column, marked_line};
 pub use explanation::{explain, kinds};
-pub use help::{help_with, help_with_a_program, help_with_a_schedule, help_with_a_word};
+pub use help::{Meant, help_with, help_with_a_program, help_with_a_schedule, help_with_a_word};

@@ -195,7 +195,7 @@ pub const NODES: [(&str, &str); 11] = [
 pub const AUDITS: [(&str, &str); 8] = [
     (
         "Syntax",
-        "The line is none that a node of this plant's resource notes: a byte was changed, a line was cut, the plant is another one, or no START stands before it.",
+        "The line is none that a node of this plant's resource notes: a byte was changed, a line was cut, the plant is another one, or no START stands before it. At FILE.n:1, of a further file that --journal-size made, its line CONTINUES tells another file before it than was given: that one is missing, or a byte of it was changed.",
     ),
     (
         "NotRisen",

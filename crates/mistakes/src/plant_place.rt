@@ -60,11 +60,11 @@ const EXAMPLES: [Example; 5] = [
     },
     Example {
         word: "7",
-        told: "a number",
+        told: "a number from 0 to 65535",
     },
     Example {
         word: "T#7s",
-        told: "a duration",
+        told: "a duration from T#1ms to T#2147483647ms",
     },
     Example {
         word: "%IX7",

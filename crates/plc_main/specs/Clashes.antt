@@ -5,6 +5,10 @@ use Rattle.std.specs.Option.{is_some, option_map, option_or}
 use Rattle.plc_main.specs.declared.clashes.Identity.{Identity}
 use Rattle.plc_main.specs.declared.clashes.FileUse.{FileUse}
 
+-- a file that is written, or the folder of state, is named by `-`, which names none
+abbrev pub is_nameless : FileUse → Bool
+is_nameless file = is_some file.option && bytes_eq file.path.now (codes "-")
+
 -- one device, one number, and one name
 abbrev pub is_same : Identity → Identity → Bool
 is_same first second =

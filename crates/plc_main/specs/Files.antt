@@ -1,5 +1,6 @@
 -- The files of a trace that are due, and how the program ends.
 use Rattle.std.specs.Prelude.{◌≡◌, ◌⊎◌, ℕ, ◌++◌, List, [], ◌∷◌, Bool, true, Option, Some, None, map, string_bytes}
+use Rattle.std.specs.List.{find}
 use Rattle.std.specs.Option.{option_map}
 use Rattle.std.specs.Borrow.{Bor}
 use Rattle.clap.specs.Words.{Text, subcommand_of}
@@ -17,7 +18,7 @@ use Rattle.console.specs.Endings.{EndsSim, EndsText, EndsVerify, status_of_words
 use Rattle.console.specs.ExplainAnswer.{EndsExplain}
 use Rattle.console.specs.PageAnswer.{EndsPage}
 use Rattle.plc_main.specs.declared.clashes.FileUse.{FileUse}
-use Rattle.plc_main.specs.Clashes.{first_clash}
+use Rattle.plc_main.specs.Clashes.{first_clash, is_nameless}
 use Rattle.plc_main.specs.UsedFiles.{files_of, named}
 
 -- a file's path, and the text for it
@@ -58,11 +59,21 @@ EndsRequest terminal (Explain kind) old new status = EndsExplain kind status × 
 EndsRequest terminal (Page file) old new status = EndsPage status × (new ≡ old)
 EndsRequest terminal (Audit request) old new status = new ≡ old
 
--- Two of its files are one, and that is written: it is refused, and nothing is done. What the system tells of files no contract
--- can say, so these are some.
+-- One of its files is named by `-` though it is written, or its folder of state is: it is refused, and nothing is done. What the
+-- system tells of files no contract can say, so these are some.
+pub record IsNameless (request : Request) (old new : Option (List FileText)) (status : ℕ) : Type 0 where
+  pub files : List FileUse
+  pub are : map named files ≡ files_of request
+  pub file : FileUse
+  pub found : find is_nameless files ≡ Some file
+  pub status_is : status ≡ 2
+  pub none : new ≡ old
+
+-- Two of its files are one, and that is written: it is refused, and nothing is done.
 pub record IsClashing (request : Request) (old new : Option (List FileText)) (status : ℕ) : Type 0 where
   pub files : List FileUse
   pub are : map named files ≡ files_of request
+  pub names : find is_nameless files ≡ None
   pub clash : FileUse × FileUse
   pub found : first_clash files ≡ Some clash
   pub status_is : status ≡ 2
@@ -72,13 +83,14 @@ pub record IsClashing (request : Request) (old new : Option (List FileText)) (st
 pub record IsApart (terminal : Bool) (request : Request) (old new : Option (List FileText)) (status : ℕ) : Type 0 where
   pub files : List FileUse
   pub are : map named files ≡ files_of request
+  pub names : find is_nameless files ≡ None
   pub apart : first_clash files ≡ None
   pub ended : EndsRequest terminal request old new status
 
--- how the program ends for a request, by whether its files are apart
+-- how the program ends for a request, by whether its files have names and are apart
 abbrev pub EndsApart : Bool → Request → Option (List FileText) → Option (List FileText) → ℕ → Type 0
 EndsApart terminal request old new status =
-    IsClashing request old new status ⊎ IsApart terminal request old new status
+    IsNameless request old new status ⊎ (IsClashing request old new status ⊎ IsApart terminal request old new status)
 
 -- the words ask for this
 pub record IsRequested (terminal : Bool) (words : List Text) (old new : Option (List FileText)) (status : ℕ) : Type 0 where

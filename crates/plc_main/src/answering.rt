@@ -4,7 +4,7 @@ ghost use Rattle.std.specs.Prelude.{◌≡◌, ◌&&◌, map, not, string_bytes,
 ghost use Rattle.plc_main.specs.Files.{EndsApart, EndsRequest, EndsWords};
 ghost use Rattle.console.specs.declared.request.Request.TheVariants as asked;
 
-use crate::clashes::{FileUse, first_clash};
+use crate::clashes::{FileUse, first_clash, first_nameless};
 use crate::node_command::answer_node;
 use crate::running_alone::Inputs;
 use crate::trace_files::{TextFiles, write_files};
@@ -140,7 +140,14 @@ fn print_clash<R: Eprint>(rt: &R, first: &FileUse<'_>, second: &FileUse<'_>) -> 
     print_word_refusal(rt, refusal)
 }
 
-/// Obeys a request, unless a file that it writes is another one of its files; the status.
+/// Tells that a file that is written, or the folder of state, is named by `-`; the status.
+fn print_nameless<R: Eprint>(rt: &R, file: &FileUse<'_>) -> io::Result<u8>
+    ensures { IfOk result (λ status. status ≡ 2) }
+{
+    print_word_refusal(rt, WordRefusal::Nameless(file.option.unwrap_or("")))
+}
+
+/// Obeys a request, unless a file that it writes is named by `-`, or is another one of its files; the status.
 fn obey_apart<
     R: Files + Clock + Input + Print + Eprint + AllocGlobal + Threads + Wait + Sync,
     F: TextFiles,
@@ -157,6 +164,9 @@ fn obey_apart<
     ensures { IfOk result (EndsApart terminals.colors request.now (F.came to.old) (F.came to.new)) }
 {
     let files = files_of(rt, rt.alloc(), request)?;
+    if let Some(file) = first_nameless(&files) {
+        return print_nameless(rt, &file);
+    }
     if let Some((first, second)) = first_clash(&files) {
         return print_clash(rt, &first, &second);
     }

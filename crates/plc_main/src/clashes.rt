@@ -2,7 +2,7 @@
 
 ghost use Rattle.std.specs.Prelude.{◌≡◌};
 ghost use Rattle.std.specs.List.{find};
-ghost use Rattle.plc_main.specs.Clashes.{are_one, bears_state_name, clash, ends_in, first_clash, is_of_state, is_same, keeps};
+ghost use Rattle.plc_main.specs.Clashes.{are_one, bears_state_name, clash, ends_in, first_clash, is_nameless, is_of_state, is_same, keeps};
 
 /// What the system knows a file by: the device and the number of what stands at a path; where nothing does, those of its
 /// folder, and its name there.
@@ -63,6 +63,15 @@ pub struct FileUse<'a> {
     pub place: Option<Identity<'a>>,
 }
 
+impl FileUse<'_> {
+    /// Whether it is written, or is the folder of state, and is named by `-`, which names none.
+    fn is_nameless(&self) -> bool
+        ensures { result ≡ is_nameless self.now }
+    {
+        self.option.is_some() && self.path == "-"
+    }
+}
+
 /// Whether two paths are known to be of one file.
 fn are_one(first: &FileUse<'_>, second: &FileUse<'_>) -> bool
     ensures { result ≡ are_one first.now second.now }
@@ -89,6 +98,22 @@ fn clash(first: &FileUse<'_>, second: &FileUse<'_>) -> bool
 {
     (are_one(first, second) && (first.option.is_some() || second.option.is_some()))
         || is_of_state(first, second)
+}
+
+/// The first file that is nameless.
+pub fn first_nameless<'a>(files: &[FileUse<'a>]) -> Option<FileUse<'a>>
+    ensures { result ≡ find is_nameless files.now }
+{
+    match files {
+        [] => None,
+        [file, others @ ..] => {
+            if file.is_nameless() {
+                Some(*file)
+            } else {
+                first_nameless(others)
+            }
+        }
+    }
 }
 
 /// The first of the other files with which one clashes.

@@ -278,6 +278,16 @@ fn run_noting<
     }
 }
 
+/// Why a node ended, as it is told: where it was to go on without noting, it stopped since it couldn't tell that.
+fn told_stop(request: &NodeRequest<'_>, stop: LoopStop) -> LoopStop {
+    let is_note = stop == LoopStop::Live(LiveStop::Node(NodeStop::Note));
+    if is_note && request.journal_full == JournalFull::GoOn {
+        LoopStop::Live(LiveStop::Write)
+    } else {
+        stop
+    }
+}
+
 /// Tells how a node ended; the status.
 fn tell_node<R: Eprint>(
     rt: &R,
@@ -286,7 +296,10 @@ fn tell_node<R: Eprint>(
 ) -> io::Result<u8> {
     match ran {
         Ok(()) => return Ok(0),
-        Err(NodeFault::Stop(stop)) => eprintln!(rt; "plc: {stop}")?,
+        Err(NodeFault::Stop(stop)) => {
+            let stop = told_stop(request, stop);
+            eprintln!(rt; "plc: {stop}")?;
+        }
         Err(NodeFault::Unread) => eprintln!(rt; "plc: there is no thread for an input")?,
         Err(NodeFault::NoJournal) => {
             let journal = request.journal.unwrap_or("");
@@ -332,7 +345,7 @@ fn run_kept<
     if let Err(NodeFault::Stop(LoopStop::Live(LiveStop::Node(NodeStop::Keeper(_))))) = ran {
         if !print_no_folder(rt, host, folder)? {
             let keeper = keeper_in(rt.alloc(), host, &plant, resource, folder)?;
-            print_resource_faults(rt, &plant, resource, folder, &keeper)?;
+            print_resource_faults(rt, host, &plant, resource, folder, &keeper)?;
         }
     }
     Ok(status)

@@ -20,7 +20,7 @@ use Rattle.declared_names.specs.Kinds.{kind_of}
 use Rattle.name_faults.specs.BindFaults.{IsVariable}
 use Rattle.text_commands.specs.declared.word_fault.WordFault.{WordFault}
 use Rattle.text_commands.specs.declared.word_fault.WordFaultKind.{WordFaultKind}
-use Rattle.text_commands.specs.declared.word_fault.WordFaultKind.TheVariants.{NoVariable, BadDigits, BadNumbers, BadDurations, Twice, NoProgram}
+use Rattle.text_commands.specs.declared.word_fault.WordFaultKind.TheVariants.{NoEquals, NoVariable, BadDigits, BadNumbers, BadDurations, Twice, NoProgram}
 use Rattle.text_commands.specs.declared.text_command_fault.TextCommandFault.{TextCommandFault}
 use Rattle.text_commands.specs.declared.text_command_fault.TextCommandFault.TheVariants.{Text, Word, Write, Memory}
 use Rattle.text_commands.specs.Rows.{name_in, digits_in, texts}
@@ -30,6 +30,7 @@ use Rattle.text_commands.proofs.WordTexts.{word_at}
 
 -- a refusal without others before is one behind any
 pub refused_behind_any : (ds : List Declaration) (before : List SeriesValue) (name text : List ℕ) (fault : WordFaultKind) → IsRefusedSeries ds [] name text fault → IsRefusedSeries ds before name text fault
+refused_behind_any ds before name text NoEquals refused = refused
 refused_behind_any ds before name text NoVariable refused = refused
 refused_behind_any ds before name text BadDigits refused = refused
 refused_behind_any ds before name text BadNumbers refused = refused
@@ -97,6 +98,7 @@ not_bad k ds name text series bad is =
 -- what is refused is none, where it isn't refused for another of the same variable
 not_refused : (ds : List Declaration) (before : List SeriesValue) (name text : List ℕ) (fault : WordFaultKind) (series : SeriesValue) → IsRefusedSeries ds before name text fault → IsSeries ds name text series
     → Any (λ other. other.place ≡ series.place) before
+not_refused ds before name text NoEquals series refused is = absurd refused
 not_refused ds before name text NoVariable series refused is = absurd (refused series.place is.k is.named)
 not_refused ds before name text BadDigits series refused is = absurd (not_bad kind.Bool ds name text series refused is)
 not_refused ds before name text BadNumbers series refused is = absurd (not_bad kind.Int ds name text series refused is)

@@ -16,7 +16,7 @@ use Rattle.declared_names.specs.Kinds.{kind_of}
 use Rattle.declared_names.specs.Names.{place_of}
 use Rattle.text_commands.specs.declared.word_fault.WordFault.{WordFault}
 use Rattle.text_commands.specs.declared.word_fault.WordFaultKind.{WordFaultKind}
-use Rattle.text_commands.specs.declared.word_fault.WordFaultKind.TheVariants.{NoVariable, BadDigits, BadNumbers, BadDurations, Twice, NoProgram}
+use Rattle.text_commands.specs.declared.word_fault.WordFaultKind.TheVariants.{NoEquals, NoVariable, BadDigits, BadNumbers, BadDurations, Twice, NoProgram}
 use Rattle.text_commands.specs.Rows.{AreDigits, HasEquals, name_in, digits_in}
 
 -- the place of a variable, and a value for each of the first scans
@@ -115,6 +115,7 @@ IsBad k ds name text = ((place : ℕ) × IsNamed ds name place k) × ((items : L
 -- why a name and VALUES are refused behind these: no variable has the name; the values are wrong, by the variable's kind; one
 -- of these is of the same variable
 abbrev pub IsRefusedSeries : List Declaration → List SeriesValue → List ℕ → List ℕ → WordFaultKind → Type 0
+IsRefusedSeries ds before name text NoEquals = ⊥
 IsRefusedSeries ds before name text NoVariable = (place : ℕ) (k : Kind) → IsNamed ds name place k → ⊥
 IsRefusedSeries ds before name text BadDigits = IsBad kind.Bool ds name text
 IsRefusedSeries ds before name text BadNumbers = IsBad kind.Int ds name text
@@ -126,7 +127,7 @@ IsRefusedSeries ds before name text NoProgram = ⊥
 -- why a word NAME=VALUES is refused behind these: it has no `=`, or for what stands before and behind its first one
 abbrev pub IsRefusedSetting : List Declaration → List SeriesValue → List ℕ → WordFaultKind → Type 0
 IsRefusedSetting ds before word fault =
-    ((HasEquals word → ⊥) × (fault ≡ BadDigits))
+    ((HasEquals word → ⊥) × (fault ≡ NoEquals))
     ⊎ (HasEquals word × IsRefusedSeries ds before (name_in word) (digits_in word) fault)
 
 -- the words set nothing

@@ -60,7 +60,7 @@ pub(crate) fn next_setting<'a>(
 {
     match word.split_once('=') {
         Some((name, values)) => next_series(alloc, declarations, number, name, values, before),
-        None => Err(refused(number, WordFaultKind::BadDigits)),
+        None => Err(refused(number, WordFaultKind::NoEquals)),
     }
 }
 

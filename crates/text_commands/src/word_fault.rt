@@ -3,7 +3,9 @@ use thiserror::Error;
 /// What is wrong with a word NAME=VALUES, NAME==VALUES or NAME=BIT, or with the name of a program type.
 #[derive(Clone, Copy, Debug, PartialEq, Eq, Error)]
 pub enum WordFaultKind {
-    #[error("the drawing has no BOOL variable of this name")]
+    #[error("it has no =")]
+    NoEquals,
+    #[error("no variable has this name")]
     NoVariable,
     #[error("BITS are 1 to 1,000 digits, each 0 or 1")]
     BadDigits,

@@ -15,6 +15,7 @@ use Rattle.network.specs.GraphValue.{GraphValue}
 use Rattle.network.specs.Links.{place}
 use Rattle.warnings.specs.declared.warning.Warning.{Warning}
 use Rattle.warnings.specs.declared.warning.WarningKind.TheVariants.{NeverRead}
+use Rattle.warnings.specs.Presets.{presets}
 use Rattle.warnings.specs.Found.{warning_at, is_right, pin_names, is_among, doubles, all_elements, is_told_before}
 
 -- a declared variable is neither an input nor an output
@@ -71,11 +72,14 @@ unread_at first_line ds read (Box b) = flat_map (unread_at_pin first_line ds rea
 abbrev pub never_read : ℕ → List Declaration → List Element → List Warning
 never_read first_line ds elements = flat_map (unread_at first_line ds (flat_map read_at elements)) elements
 
--- all that is warned of in the drawing of a program
-abbrev pub found_in_a_program : ℕ → List Declaration → List Element → List Warning
-found_in_a_program first_line ds elements = doubles first_line elements ++ never_read first_line ds elements
+-- all that is warned of in the drawing of a program, with so many milliseconds from each evaluation to the next, or 0 where none
+-- are given
+unfoldable pub found_in_a_program : ℕ → ℕ → List Declaration → List Element → List Warning
+found_in_a_program dt first_line ds elements =
+    doubles first_line elements ++ never_read first_line ds elements ++ presets dt first_line elements
 
--- The warnings of a program with these declarations: those of all its elements, each once; told by line and then column.
-pub record AreProgramWarnings (graph : GraphValue) (ds : List Declaration) (warnings : List Warning) : Type 0 where
-  pub all : IsPermutation (found_in_a_program graph.first_line ds (all_elements graph)) warnings
+-- The warnings of a program with these declarations and this time between evaluations: those of all its elements, each once;
+-- told by line and then column.
+pub record AreProgramWarnings (dt : ℕ) (graph : GraphValue) (ds : List Declaration) (warnings : List Warning) : Type 0 where
+  pub all : IsPermutation (found_in_a_program dt graph.first_line ds (all_elements graph)) warnings
   pub sorted : IsSortedBy is_told_before warnings

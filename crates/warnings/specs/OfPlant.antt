@@ -1,13 +1,16 @@
 -- The warnings of a plant.
-use Rattle.std.specs.Prelude.{◌≡◌, ◌⊎◌, ◌++◌, ℕ, List, [], ◌∷◌, map, max, min}
+use Rattle.std.specs.Prelude.{◌≡◌, ◌⊎◌, ◌++◌, ℕ, if◌then◌else◌, true, List, [], ◌∷◌, map, max, min}
+use Rattle.std.specs.Option.{option_map_or}
 use Rattle.words.specs.Lines.{without_last}
 use Rattle.plant_text.specs.declared.token.Token.{Token}
 use Rattle.plant_text.specs.Lines.{WordValue, IsSpelledBy, IsBegunBy, body_lines}
 use Rattle.network.specs.GraphValue.{GraphValue}
 use Rattle.plant_grammar.specs.Grammar.{TextValue, Tree, words_of}
 use Rattle.plant_grammar.specs.Lawful.{variables, IsTreeLawful}
+use Rattle.plant_grammar.specs.Names.{is_named}
 use Rattle.plant_grammar.specs.declared.grammar.tree.Resource.{Resource}
 use Rattle.warnings.specs.declared.of_plant.PlantWarnings.{PlantWarnings}
+use Rattle.warnings.specs.declared.scan_time.ScanTime.{ScanTime}
 use Rattle.warnings.specs.declared.warning.Warning.{Warning}
 use Rattle.warnings.specs.NeverRead.{AreProgramWarnings}
 use Rattle.warnings.specs.OfText.{AreNetworksOf, HasNoNetworks}
@@ -30,21 +33,26 @@ pub record HasNoDrawingIn (texts : List TextValue) : Type 0 where
   pub parts : texts ≡ before ++ faulty ∷ behind
   pub refused : HasNoDrawing faulty
 
+-- the time between evaluations by which the timers of the program type of a name are judged: it is given for all, or for the one
+-- of its name; 0 where there is none
+abbrev pub time_in : ScanTime → List ℕ → ℕ
+time_in time name = if option_map_or (λ program. is_named program.now name) time.program true then time.dt else 0
+
 -- these are the warnings of a program's drawing
-pub record IsBodyWarned (t : TextValue) (warnings : List Warning) : Type 0 where
+pub record IsBodyWarned (time : ScanTime) (t : TextValue) (warnings : List Warning) : Type 0 where
   pub graph : GraphValue
   pub networks : AreNetworksOf (drawing_line t) t.program.body graph
-  pub warned : AreProgramWarnings graph (variables t.program) warnings
+  pub warned : AreProgramWarnings (time_in time t.program.name) graph (variables t.program) warnings
 
 -- these are the warnings of the drawings of programs, one after the other
-abbrev pub AreBodiesWarned : List TextValue → List Warning → Type 0
-AreBodiesWarned [] warnings = warnings ≡ []
-AreBodiesWarned (t ∷ texts) warnings =
-    (here more : List Warning) × IsBodyWarned t here × AreBodiesWarned texts more × (warnings ≡ here ++ more)
+abbrev pub AreBodiesWarned : ScanTime → List TextValue → List Warning → Type 0
+AreBodiesWarned time [] warnings = warnings ≡ []
+AreBodiesWarned time (t ∷ texts) warnings =
+    (here more : List Warning) × IsBodyWarned time t here × AreBodiesWarned time texts more × (warnings ≡ here ++ more)
 
 -- these are the warnings of programs and resources
-pub record AreWarningsOfTree (texts : List TextValue) (resources : List Resource) (told : PlantWarnings) : Type 0 where
-  pub bodies : AreBodiesWarned texts told.bodies.items
+pub record AreWarningsOfTree (time : ScanTime) (texts : List TextValue) (resources : List Resource) (told : PlantWarnings) : Type 0 where
+  pub bodies : AreBodiesWarned time texts told.bodies.items
   pub unbound : map names_in told.unbound.items ≡ all_unbound texts resources
   pub far : map address_in told.far.items ≡ all_far resources
 
@@ -73,13 +81,13 @@ pub record AreWordsOf (text : List ℕ) (words : List WordValue) : Type 0 where
   pub begun : IsBegunBy (without_last 13 text) words
 
 -- A text begins with the words of a plant's programs and resources, and these are their warnings.
-pub record AreWarningsOfPlant (text : List ℕ) (told : PlantWarnings) : Type 0 where
+pub record AreWarningsOfPlant (time : ScanTime) (text : List ℕ) (told : PlantWarnings) : Type 0 where
   pub words : List WordValue
   pub texts : List TextValue
   pub resources : List Resource
   pub written : AreWordsOf text words
   pub begun : BeginWithPlant words texts resources
-  pub warned : AreWarningsOfTree texts resources told
+  pub warned : AreWarningsOfTree time texts resources told
 
 -- no lawful plant begins these words
 abbrev pub BeginNoPlant : List Token → Type 0

@@ -26,17 +26,21 @@ fn sort_warnings(warnings: &mut Vec<Warning>) -> Result<(), AllocError>
 }
 
 /// All that is warned of in the drawing of a program, kind after kind.
+#[tactic(auto, unfolding(crate::specs::NeverRead::found_in_a_program))]
 fn found_in_a_program(
     alloc: Global,
+    dt: u32,
     first_line: u64,
     declarations: &Declarations,
     elements: &[&Element],
 ) -> Result<Vec<Warning>, AllocError>
-    ensures { IfOk result (λ found. found.items ≡ found_in_a_program first_line declarations.now (map (λ e. e.now) elements.now)) }
+    ensures { IfOk result (λ found. found.items ≡ found_in_a_program dt first_line declarations.now (map (λ e. e.now) elements.now)) }
 {
     let mut warnings = doubles(alloc, first_line, elements)?;
     let mut more = never_read(alloc, first_line, declarations, elements)?;
+    let mut timers = presets(alloc, dt, first_line, elements)?;
     warnings.append(&mut more)?;
+    warnings.append(&mut timers)?;
     Ok(warnings)
 }
 
@@ -75,17 +79,19 @@ pub fn warnings_of_a_drawing(
 }
 
 /// What is warned of in the drawing of a program with these declarations, by line and then column: each coil that a later
-/// one overwrites in the same evaluation, and each place where a variable is stored into that nothing reads and that is
-/// neither an input nor an output.
+/// one overwrites in the same evaluation, each place where a variable is stored into that nothing reads and that is
+/// neither an input nor an output, and, with `dt` milliseconds from each evaluation to the next, each duration of a timer that
+/// ends between two of them; none of these where `dt` is 0.
 pub fn warnings_of_a_program(
     alloc: Global,
+    dt: u32,
     graph: &Graph,
     declarations: &Declarations,
 ) -> Result<Vec<Warning>, AllocError>
-    ensures { IfOk result (λ warnings. AreProgramWarnings graph.now declarations.now warnings.items) }
+    ensures { IfOk result (λ warnings. AreProgramWarnings dt graph.now declarations.now warnings.items) }
 {
     let elements = elements_of(alloc, graph)?;
-    let mut warnings = found_in_a_program(alloc, graph.first_line(), declarations, &elements)?;
+    let mut warnings = found_in_a_program(alloc, dt, graph.first_line(), declarations, &elements)?;
     sort_warnings(&mut warnings)?;
     Ok(warnings)
 }

@@ -120,6 +120,7 @@ def program_claims(chance):
     if chance.random() < 0.05:
         given += chance.choice([["--no-restarts"], ["--most-waiting", "3"], ["--never", "R1.I0.Q"], ["--given", "R1.I0.Q"]])
     given += ["--restarts"] * (chance.random() < (0.8 if is_forgetful else 0.4))
+    given += chance.choice([[], [], [], ["--strict"], ["--no-warnings"]])
     read, inputs = names_of(found.ladder.networks), [it for it in bits if words.fold(it) not in stored]
     own, others = [it for it in inputs if words.fold(it) in read], [it for it in inputs if words.fold(it) not in read]
     held = chance.sample(own, max(0, len(own) - chance.randint(0, MOST_FREE))) + [it for it in others if chance.random() < 0.2]

@@ -328,6 +328,7 @@ def plant_claims(chance):
         if searches:
             break
     given += [*most_waiting(chance, searches), *(["--most-states", str(ENOUGH_STATES)] if " E0 : " in text else [])]
+    given += chance.choice([[], [], [], ["--strict"], ["--no-warnings"]])
     if chance.random() < 0.06:
         given += chance.choice(REFUSED)
     return {"it.plant": text}, [given]

@@ -68,6 +68,7 @@ COLORS = ("always", "auto", "never")
 MOST_SCANS = 1_000_000
 LEAST_SIZE = 4096
 WARNING_FLAGS = ("--strict", "--no-warnings")
+WRITTEN = ("--vcd", "--svg", "--state", "--journal")
 
 SHAPES = {
     "eval": Shape(1, ("--dt",), {"--color": COLORS}, ("--vcd", "--svg", "--program", "--with"), ("--show", "--chart", *WARNING_FLAGS), scans=("--restart",), has_more=True),
@@ -121,7 +122,7 @@ def read_words(shape, given):
             elif option in shape.choices:
                 options[option] = one_of(shape.choices[option], value)
             elif option in shape.names:
-                options[option] = value
+                options[option] = name_written(value) if option in WRITTEN else value
             else:
                 raise Refused(REFUSED_WORDS)
     if len(plain) < shape.files or (len(plain) > shape.files and not shape.has_more) or not set(shape.needed) <= set(options):
@@ -149,6 +150,13 @@ def flag(equals):
 
 def name_given(word):
     if not word or word.startswith("-"):
+        raise Refused(REFUSED_WORDS)
+    return word
+
+
+def name_written(word):
+    """A file that is written, or a folder of state: a sign alone stands for standard input, and names none."""
+    if word == "-":
         raise Refused(REFUSED_WORDS)
     return word
 
@@ -245,7 +253,7 @@ class Files:
         if not found:
             raise Refused(REFUSED_WORDS)
         rows = plant.text.split("\n")[found.first_line - 1 :][: len(found.lines)]
-        text, warnings = "\n".join(rows) + "\n", lambda elapsed=0: warnings_of_plant(plant)
+        text, warnings = "\n".join(rows) + "\n", lambda elapsed=0: warnings_of_plant(plant, elapsed, found.name)
         return Tried(found.ladder, kept_by_restarts(found.ladder), text, f"{path} --program {name}", warnings)
 
     def ladder(self, path):
@@ -388,24 +396,24 @@ def verify(write, files, paths, options, more):
     names = [name for claim in options["--never"] for name in claim.split(",")]
     dots = {it.count(".") for it in [*names, *options.get("--given", ())]}
     if dots == {2} and not {"--program", "--with"} & set(options):
-        verify_plants(write, files.plant(paths[0]), options, more)
+        verify_plants(write, files, paths, options, more)
     elif dots == {0} and "" not in names and not OF_PLANTS & set(options):
         verify_drawing(write, files, paths, options, more)
     else:
         raise Refused(REFUSED_WORDS)
 
 
-def verify_plants(write, plant, options, more):
+def verify_plants(write, files, paths, options, more):
+    plant = files.plant(paths[0])
     question, claims = question_of(plant, options, more)
     searches = [verify_plant.Search(question, it, options.get("--most-states", MOST_STATES), options.get("--most-waiting", MOST_WAITING)).search() for it in claims]
     for search, name in zip(searches, options["--never"]):
         for line in verify_plant.verdict_lines(search):
             write(line)
     write("given " + ", ".join(verify_plant.premises(question)))
-    if any(it.steps for it in searches):
-        raise Refused(CLAIM_FAILS)
-    if any(it.loose_steps or not it.is_whole for it in searches):
-        raise Refused(UNDECIDED)
+    is_undecided = any(it.loose_steps or not it.is_whole for it in searches)
+    status = CLAIM_FAILS if any(it.steps for it in searches) else UNDECIDED if is_undecided else 0
+    end_with_warnings(paths[0], warnings_of_plant(plant, options.get("--dt", 0)), options, status)
 
 
 def question_of(plant, options, more):

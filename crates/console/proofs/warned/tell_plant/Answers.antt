@@ -5,4 +5,4 @@ use Rattle.console.proofs.warned.tell_plant.Goals as goal
 pub returns-in_ok-print_far_addresses-in-Ok-Some : goal.returns-in_ok-print_far_addresses-in-Ok-Some
 returns-in_ok-print_far_addresses-in-Ok-Some g c =
     let text = c.args.text.now in
-    inl (c.in-Ok-Some.warnings, subst (λ told. MatchOption told (IsNoPlantEither text) (ArePlantWarnings text)) c.in-Ok-Some.field-0-is c.in-Ok-Some.ensures, c.is_plant_quiet.ensures)
+    inl (c.in-Ok-Some.warnings, subst (λ told. MatchOption told (IsNoPlantEither text) (ArePlantWarnings c.args.time text)) c.in-Ok-Some.field-0-is c.in-Ok-Some.ensures, c.is_plant_quiet.ensures)

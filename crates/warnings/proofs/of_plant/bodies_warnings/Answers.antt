@@ -11,7 +11,7 @@ loop-text-preserved c =
       known.0 ++ c.in-Some.text ∷ [],
       passed_more c.args.texts.items known.0 left now c.in-Some.text c.in-Some.ensures.steps.0 known.1,
       rw c.in_ok-append-in-Some-2.ensures.items
-          (warned_more known.0 c.in-Some.text c.loop-text.warnings.items c.in-Some-2.more.items known.2 (rw c.in-Some-2.is at c.in_ok-more.ensures)),
+          (warned_more c.args.time known.0 c.in-Some.text c.loop-text.warnings.items c.in-Some-2.more.items known.2 (rw c.in-Some-2.is at c.in_ok-more.ensures)),
     )
 
 pub returns-in-None-2 : goal.returns-in-None-2

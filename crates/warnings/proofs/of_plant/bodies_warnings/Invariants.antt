@@ -5,4 +5,4 @@ use Rattle.warnings.proofs.of_plant.bodies_warnings.Given as goal
 
 abbrev pub invariant-loop-text : goal.invariant-loop-text
 invariant-loop-text l =
-    (before : List TextValue) × (before ++ l.text-iterator.rest.items ≡ l.fn.texts.items) × AreBodiesWarned before l.warnings.items
+    (before : List TextValue) × (before ++ l.text-iterator.rest.items ≡ l.fn.texts.items) × AreBodiesWarned l.time before l.warnings.items

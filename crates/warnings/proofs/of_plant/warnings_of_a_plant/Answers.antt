@@ -22,7 +22,7 @@ returns-in-Ok c =
       lines = sym lines ∙ c.in-Ok.ensures.texts.lines;
     } in
     IfOk-weaker c.tree_warnings.result _ _
-    (plant_told c.args.text.now c.in_ok-words.words c.read_tree.new.texts.items c.in-Ok.resources.items (record { spelled = c.in_ok-words.ensures.spelled; begun = c.in_ok-words.ensures.begun }) begun)
+    (plant_told c.args.time c.args.text.now c.in_ok-words.words c.read_tree.new.texts.items c.in-Ok.resources.items (record { spelled = c.in_ok-words.ensures.spelled; begun = c.in_ok-words.ensures.begun }) begun)
     (rw c.deref.ensures.value at c.tree_warnings.ensures)
 
 pub returns : goal.returns
