@@ -1,4 +1,4 @@
-use Rattle.std.proofs.Common.{sym, subst}
+use Rattle.std.proofs.Common.{◌≡◌, length, arith}
 use Rattle.verifying.specs.Preparing.{searched_of}
 use Rattle.certified_claims.proofs.claim.holds.Goals as goal
 
@@ -8,7 +8,10 @@ returns c =
     let v = searched_of p.slice p.whole in
     let wide = rw (c.ladder.ensures, c.searched.ensures) at c.declarations-wide.ensures.wide in
     let never = c.never_bad_is_never.ensures v c.args.place c.args.system.now wide c.requires.system c.requires.whole c.requires.never in
+    let state = c.args.system.now.state in
+    let many : c.len.result ≡ state.len = c.len.ensures in
+    let long : c.len.result ≡ length state.items = omega (arith, many, state.ok.0) in
     let searched = c.requires.searched in (
       c.never_of_whole.ensures p.whole v searched.0 p.idle.items searched.1 c.args.place searched.2 searched.3 never,
-      record { system = c.args.system.now; is = c.requires.system; inductive = c.requires.inductive; size = rw (c.deref.ensures.value, c.len.ensures) at c.size_of-size.ensures },
+      record { system = c.args.system.now; is = c.requires.system; inductive = c.requires.inductive; size = rw (c.deref.ensures.value, long) at c.size_of-size.ensures },
     )
