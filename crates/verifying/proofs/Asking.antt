@@ -1,5 +1,5 @@
 -- From marks to what is stored, and from parts of a question to the whole.
-use Rattle.std.proofs.Common.{◌≡◌, ℕ, Option, Some, None, Result, Ok, Err, IfOk, IfErr, zero, suc, ◌<◌, ◌≤◌, List, [], ◌∷◌, Bool, inl, inr, All, length, take, get_or, slice_get, refl, sym, ap, ◌∙◌, subst, arith}
+use Rattle.std.proofs.Common.{◌≡◌, ℕ, Option, Some, None, Result, Ok, Err, IfOk, IfErr, zero, suc, ◌<◌, List, [], ◌∷◌, Bool, inl, inr, All, length, take, get_or, slice_get, refl, sym, ap, ◌∙◌, subst, arith}
 use Rattle.std.specs.Borrow.{Bor}
 use Rattle.std.specs.Global.{Vec}
 use Rattle.std.specs.List.{AllZip}
@@ -40,7 +40,7 @@ use Rattle.power_flow.specs.Meaning.{Moment}
 use Rattle.verifying.specs.Runs.{CanHold, HasInputs, IsBoolAt, Leads, SetupValue, first, width}
 use Rattle.verifying.specs.Needed.{AreIdle, IsSearched, needed_places, whole_row}
 use Rattle.verifying.specs.Verdicts.{AreVerdicts, IsVerdict}
-use Rattle.verifying.specs.Inputs.{AreFree, AreInputs, IsHeldInput}
+use Rattle.verifying.specs.Inputs.{AreFree, AreInputs}
 use Rattle.text_commands.specs.Stores.{IsStored, stored_places}
 use Rattle.verifying.specs.Premises.{HasTimer, IsTimed}
 use Rattle.verifying.specs.Questions.{HoldsAt, HoldsInput, HoldsNoInput, IsClaim, IsNoClaim, QuestionValue}

@@ -2,6 +2,7 @@
 //! it of a drawing, `verify`.
 #![tactic(auto)]
 
+mod all_inputs;
 mod asked;
 mod claims;
 mod fault_from;
@@ -27,8 +28,8 @@ mod verdict_lines;
 mod verdict_words;
 mod verify_command;
 mod verify_fault;
-mod whole_rows;
 
+pub use all_inputs::whole_rows;
 pub use laws::never_of_whole;
 pub use premises::push_premise_line;
 pub use prepared::Prepared;

@@ -17,6 +17,7 @@ ghost use Rattle.verifying.specs.Steps.Wholes.{AreGraphMarks, IsMadeOf, IsMarked
 ghost use Rattle.text_commands.specs.Rows.{texts};
 ghost use Rattle.verifying.specs.Steps.Asking.{AreHeldBy, IsAsked, IsToldAnswer, RefusesAnswering, RefusesAsking, RefusesHolding};
 
+use crate::all_inputs::whole_verdicts;
 use crate::asked::Asked;
 use crate::claims::{read_claims, read_given};
 use crate::first_scans::has_run;
@@ -32,7 +33,6 @@ use crate::summary::{Summary, summary_of};
 use crate::verdict::{Found, Tally};
 use crate::verdict_lines::verdict_texts;
 use crate::verify_fault::VerifyFault;
-use crate::whole_rows::whole_verdicts;
 use declared_names::Declarations;
 use drawings::{Drawing, Place};
 use ladder_text::ReadText;

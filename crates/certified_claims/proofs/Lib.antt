@@ -1,0 +1,6 @@
+pub mod Leading
+pub mod Answering
+pub mod Joining
+pub mod Telling
+pub mod Summing
+pub mod Naming

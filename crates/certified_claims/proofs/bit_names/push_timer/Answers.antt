@@ -1,0 +1,8 @@
+use Rattle.std.proofs.lemmas.Result.{on_ok_weaker}
+use Rattle.certified_claims.proofs.Naming.{three_more}
+use Rattle.certified_claims.proofs.bit_names.push_timer.Goals as goal
+
+pub returns : goal.returns
+returns c = on_ok_weaker c.push_digits.result
+    (λ last. three_more _ _ _ _ _ _ _ c.in_ok-push_part.ensures c.in_ok-push_part-2.ensures last)
+    (rw (c.as_str.ensures.value, c.in_ok-elapsed.ensures) at c.push_digits.ensures)

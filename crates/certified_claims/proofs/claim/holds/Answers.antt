@@ -1,0 +1,14 @@
+use Rattle.std.proofs.Common.{sym, subst}
+use Rattle.verifying.specs.Preparing.{searched_of}
+use Rattle.certified_claims.proofs.claim.holds.Goals as goal
+
+pub returns : goal.returns
+returns c =
+    let p = c.args.prepared.now in
+    let v = searched_of p.slice p.whole in
+    let wide = rw (c.ladder.ensures, c.searched.ensures) at c.declarations-wide.ensures.wide in
+    let never = c.never_bad_is_never.ensures v c.args.place c.args.system.now wide c.requires.system c.requires.whole c.requires.never in
+    let searched = c.requires.searched in (
+      c.never_of_whole.ensures p.whole v searched.0 p.idle.items searched.1 c.args.place searched.2 searched.3 never,
+      record { system = c.args.system.now; is = c.requires.system; inductive = c.requires.inductive; size = rw (c.deref.ensures.value, c.len.ensures) at c.size_of-size.ensures },
+    )

@@ -1,0 +1,32 @@
+use clauses::Literal;
+use verifying::Row;
+
+/// How large a certificate is.
+#[derive(Clone, Copy, Debug, PartialEq, Eq)]
+pub struct CertificateSize {
+    /// How many clauses it has.
+    pub clauses: usize,
+    /// How many state bits these name.
+    pub named: usize,
+    /// How many state bits there are.
+    pub bits: usize,
+}
+
+/// A certificate that was checked: clauses over state bits, by their numbers, that hold before the first scan and after each
+/// scan, and its size.
+#[derive(Debug, Drop)]
+pub struct Certified {
+    pub clauses: Vec<Vec<Literal>>,
+    pub size: CertificateSize,
+}
+
+/// What is told of a claim that a variable is never TRUE.
+#[derive(Debug, Drop)]
+pub enum CertifiedVerdict {
+    /// It never is: this shows it.
+    Holds(Certified),
+    /// It is after a run of these rows. There may be shorter ones.
+    Fails(Vec<Row>),
+    /// The search ended, and found neither.
+    Undecided,
+}

@@ -1,0 +1,94 @@
+//! The text of verdicts.
+
+ghost use Rattle.std.specs.Prelude.{◌≡◌, ◌++◌, ℕ, List, All, IfOk, OnOk, codes, length, string_bytes};
+ghost use Rattle.text_lines.specs.Growing.{GrowsBy};
+ghost use Rattle.text_commands.specs.Rows.{texts};
+ghost use Rattle.certified_claims.specs.CertifiedLines.{AreCertifiedTexts, holds_line, size_text, undecided_line};
+ghost use Rattle.certified_claims.specs.Steps.Adding.{AddsCertifiedText, FitsSetup};
+
+use crate::verdict::{CertificateSize, CertifiedVerdict};
+use std::alloc::{AllocError, Global};
+use std::fmt::Write;
+use verifying::{Setup, push_counted, push_needed_of, push_run};
+
+/// How large a certificate is.
+fn push_size(text: &mut String, size: CertificateSize) -> Result<(), AllocError>
+    ensures { OnOk result (GrowsBy text.old text.new (size_text size)) }
+{
+    push_counted(text, size.clauses, "clause")?;
+    write!(text, " over {} of ", size.named)?;
+    push_counted(text, size.bits, "bit")?;
+    Ok(())
+}
+
+/// Where the texts of the verdicts go, and what they tell of beside the verdict itself.
+#[derive(Clone, Copy)]
+pub(crate) struct Told<'a> {
+    pub(crate) setup: &'a Setup,
+    pub(crate) file: &'a str,
+    pub(crate) needed: usize,
+    pub(crate) networks: usize,
+}
+
+fn push_holds(
+    text: &mut String,
+    told: &Told<'_>,
+    name: &str,
+    size: CertificateSize,
+) -> Result<(), AllocError>
+    ensures { OnOk result (GrowsBy text.old text.new (holds_line told.now.needed told.now.networks name.now size)) }
+{
+    text.push_str("HOLDS ")?;
+    text.push_str(name)?;
+    text.push_str(" is never on: by induction, ")?;
+    push_size(text, size)?;
+    push_needed_of(text, told.needed, told.networks)?;
+    text.push_str("\n")?;
+    Ok(())
+}
+
+fn push_undecided(text: &mut String, name: &str) -> Result<(), AllocError>
+    ensures { OnOk result (GrowsBy text.old text.new (undecided_line name.now)) }
+{
+    text.push_str("UNDECIDED ")?;
+    text.push_str(name)?;
+    text.push_str(": by induction, no certificate and no run was found\n")?;
+    Ok(())
+}
+
+fn push_verdict(
+    alloc: Global,
+    text: &mut String,
+    told: &Told<'_>,
+    name: &str,
+    verdict: &CertifiedVerdict,
+) -> Result<(), AllocError>
+    requires { FitsSetup told.now.setup.now verdict.now }
+    ensures { OnOk result (AddsCertifiedText told.now.setup.now told.now.file.now told.now.needed told.now.networks name.now verdict.now
+        (string_bytes text.old) (string_bytes text.new)) }
+{
+    match verdict {
+        CertifiedVerdict::Holds(certified) => push_holds(text, told, name, certified.size),
+        CertifiedVerdict::Fails(rows) => push_run(alloc, text, told.setup, told.file, name, rows),
+        CertifiedVerdict::Undecided => push_undecided(text, name),
+    }
+}
+
+/// The texts of the verdicts, one behind the other, each with the name of its claim.
+pub(crate) fn verdict_texts(
+    alloc: Global,
+    told: &Told<'_>,
+    names: &[&str],
+    verdicts: &[CertifiedVerdict],
+) -> Result<String, AllocError>
+    requires long { length verdicts.now ≡ length names.now }
+    requires fits { All (FitsSetup told.now.setup.now) verdicts.now }
+    ensures { IfOk result (λ text. AreCertifiedTexts told.now.setup.now told.now.file.now told.now.needed told.now.networks
+        (texts names.now) verdicts.now (string_bytes text)) }
+{
+    let mut text = String::new(alloc);
+    for (k, verdict) in verdicts.iter().enumerate() {
+        push_verdict(alloc, &mut text, told, names[k], verdict)?;
+    }
+    Ok(text)
+}

@@ -1,0 +1,13 @@
+pub mod Results
+pub mod Parts
+pub mod Shapes
+pub mod Quiet
+pub mod Pushing
+pub mod FirstState
+pub mod Made
+pub mod Opened
+pub mod Scanned
+pub mod Truths
+pub mod NotOn
+pub mod Never
+pub mod Leading

@@ -1,0 +1,3 @@
+pub mod LadderSystems
+pub mod Remembering
+pub mod Steps

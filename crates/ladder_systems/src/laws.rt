@@ -1,0 +1,28 @@
+ghost use Rattle.std.specs.Prelude.{ℕ, Bool, List};
+ghost use Rattle.std.specs.Global.{Vec};
+ghost use Rattle.clauses.specs.declared.literal.Literal.{Literal};
+ghost use Rattle.power_flow.specs.Meaning.{Moment};
+ghost use Rattle.power_flow.specs.Scan.{AllAreWide};
+ghost use Rattle.transition_systems.specs.declared.system.TransitionSystem.{TransitionSystem};
+ghost use Rattle.transition_systems.specs.Certificates.{AreInductive};
+ghost use Rattle.transition_systems.specs.Systems.{IsWhole, NeverBad};
+ghost use Rattle.verifying.specs.Runs.{Runs, SetupValue};
+ghost use Rattle.verifying.specs.Verdicts.{Never};
+ghost use Rattle.ladder_systems.specs.LadderSystems.{HoldOfMoment, IsSystemOf};
+
+/// Clauses that are inductive in the system of a setup hold of what any run leads to.
+pub fn clauses_hold_of_runs()
+    ensures { (u : SetupValue) (place : ℕ) (t : TransitionSystem) (clauses : List (Vec Literal)) → AllAreWide u.ladder.networks
+        → (is : IsSystemOf u place t) → IsWhole t → AreInductive t clauses → (rows : List (List Bool)) (s : Moment) → Runs u rows s
+        → HoldOfMoment t is.before clauses s }
+{
+    power_flow::one_scan();
+}
+
+/// Where the system of a setup is never bad, no run whatsoever sets the variable.
+pub fn never_bad_is_never()
+    ensures { (u : SetupValue) (place : ℕ) (t : TransitionSystem) → AllAreWide u.ladder.networks
+        → IsSystemOf u place t → IsWhole t → NeverBad t → Never u place }
+{
+    power_flow::one_scan();
+}
