@@ -15,6 +15,8 @@ use Rattle.console.specs.declared.request.View.{View}
 use Rattle.console.specs.declared.request.View.TheVariants.{Rows, Drawings, Chart}
 use Rattle.console.specs.declared.request.Color.{Color}
 use Rattle.console.specs.declared.request.Color.TheVariants.{Always, Auto, Never}
+use Rattle.console.specs.declared.request.Way.{Way}
+use Rattle.console.specs.declared.request.Way.TheVariants.{States, Induction}
 use Rattle.console.specs.declared.request.Strictness.{Strictness}
 use Rattle.console.specs.declared.request.Strictness.TheVariants.{Told, Strict, Silent}
 use Rattle.console.specs.declared.request.Restarts.{Restarts}
@@ -160,6 +162,14 @@ most_states_rule = option_of (codes "most-states")
 abbrev pub most_waiting_rule : Rule
 most_waiting_rule = option_of (codes "most-waiting")
 
+-- an option `--by WAY`
+abbrev pub by_rule : Rule
+by_rule = option_of (codes "by")
+
+-- an option `--certificate FILE`
+abbrev pub certificate_rule : Rule
+certificate_rule = option_of (codes "certificate")
+
 -- an option `--given NAME`, any number of times
 abbrev pub given_rule : Rule
 given_rule = record (new_rule (codes "given")) { action = Some Append; long = Some (codes "given"); value_names = 1 }
@@ -201,9 +211,11 @@ claimed_app =
     let given = with_rule (with_rule (with_rule never given_rule) restarts_rule) no_restarts_rule in
     with_rule (with_rule (with_rule given dt_rule) most_states_rule) most_waiting_rule
 
--- .. `[--program P] [--with FILE] [--strict] [--no-warnings] [WORD]..`
+-- .. `[--program P] [--with FILE] [--by WAY] [--certificate FILE] [--strict] [--no-warnings] [WORD]..`
 abbrev pub verify_app : App
-verify_app = with_rule (warned (with_rule (with_rule claimed_app program_rule) with_file_rule)) words_rule
+verify_app =
+    let second = with_rule (with_rule claimed_app program_rule) with_file_rule in
+    with_rule (warned (with_rule (with_rule second by_rule) certificate_rule)) words_rule
 
 -- `check PLANT [--strict] [--no-warnings]`
 abbrev pub check_app : App
@@ -410,6 +422,17 @@ GivesColor word Always = word ≡ Some (codes "always")
 GivesColor word Auto = (word ≡ None) ⊎ (word ≡ Some (codes "auto"))
 GivesColor word Never = word ≡ Some (codes "never")
 
+-- the word behind `--by`; where there is none it is `states`
+abbrev pub GivesWay : Option (List ℕ) → Way → Type 0
+GivesWay word States = (word ≡ None) ⊎ (word ≡ Some (codes "states"))
+GivesWay word Induction = word ≡ Some (codes "induction")
+
+-- the file behind `--certificate`, which is given beside `--by induction` alone
+abbrev pub AsksCertificate : List Row → Option (Bor (List ℕ)) → Type 0
+AsksCertificate found None = first_of (codes "certificate") found ≡ None
+AsksCertificate found (Some file) =
+    (first_of (codes "certificate") found ≡ Some file.now) × (first_of (codes "by") found ≡ Some (codes "induction"))
+
 -- the files behind `--vcd` and `--svg`
 abbrev pub AsksFiles : List Row → TraceFiles → Type 0
 AsksFiles found files =
@@ -469,6 +492,7 @@ Asks found (Verify verify) =
     × (map (λ w. w.now) verify.words.items ≡ words_given found)
     × GivesStrictness (is_given (codes "strict") found) (is_given (codes "no-warnings") found) verify.strictness
     × AsksProgram found verify.program × AsksSecond found verify.second
+    × GivesWay (first_of (codes "by") found) verify.way × AsksCertificate found verify.certificate
 Asks found (Sim sim) =
     (sim.plant.now ≡ given_word (codes "PLANT") found) × (sim.schedule.now ≡ given_word (codes "SCHEDULE") found)
     × GivesNumber 4294967295 (first_of (codes "max-number") found) sim.max_number × AsksFiles found sim.files

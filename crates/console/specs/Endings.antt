@@ -34,6 +34,11 @@ use Rattle.console.specs.FieldWords.{one_text_of}
 use Rattle.console.specs.Giving.{command_fault}
 use Rattle.console.specs.Statuses.{status_of, status_of_fault, status_of_inputs, status_of_question, status_of_plant_question, status_of_schedule, status_of_lines}
 use Rattle.console.specs.TracedRun.{WritesTracedRun, WritesTracedLines}
+use Rattle.console.specs.declared.request.Way.{Way}
+use Rattle.console.specs.declared.request.Way.TheVariants.{States, Induction}
+use Rattle.console.specs.declared.verify_answer.Verified.{Verified}
+use Rattle.certified_claims.specs.CertifiedAnswers.{ExplainsCertified, WritesCertified}
+use Rattle.certified_claims.specs.declared.verify_command.CertifiedAnswer.{CertifiedAnswer}
 use Rattle.console.specs.declared.verify_answer.Subject.{Subject}
 use Rattle.console.specs.declared.verify_answer.Subject.TheVariants.{Drawing, Plant, Neither}
 use Rattle.console.specs.Verifying.{asked_question, asked_of_plant, eval_words, subject_of}
@@ -127,11 +132,40 @@ pub record IsDrawingVerified (request : VerifyRequest) (text : List ℕ) (other 
       MatchResult answered (WritesVerdicts source question old new) (ExplainsVerdicts source question old new)
   pub ended : EndsVerdicts request text answered status
 
+-- with this status, and no certificates
+abbrev pub EndsUncertified : ℕ → Verified → Type 0
+EndsUncertified status verified = verified ≡ record { status = status; certificates = None }
+
+-- the summary of what was answered by induction, and the certificates; or why there are none
+abbrev pub IsParted : Result CertifiedAnswer VerifyFault → Result Summary VerifyFault × Option (String Global) → Type 0
+IsParted (Ok answer) parts = (parts.0 ≡ Ok answer.summary) × (parts.1 ≡ Some answer.certificates)
+IsParted (Err fault) parts = (parts.0 ≡ Err fault) × (parts.1 ≡ None)
+
+-- the same by induction, with the certificates
+pub record IsDrawingCertified (request : VerifyRequest) (text : List ℕ) (other : Option (List ℕ)) (verified : Verified) : Type 0 where
+  pub old : Option (List ℕ)
+  pub new : Option (List ℕ)
+  pub answered : Result CertifiedAnswer VerifyFault
+  pub is : let question = asked_question (eval_words request) request in
+      let source = asked_source text request.program other in
+      MatchResult answered (λ a. WritesCertified source question old new (string_bytes a.certificates) a.summary) (ExplainsCertified source question old new)
+  pub summary : Result Summary VerifyFault
+  pub parts : IsParted answered (summary, verified.certificates)
+  pub ended : EndsVerdicts request text summary verified.status
+
+-- the claims about a drawing were answered, in the way that is asked; 3 is also for want of memory before
+abbrev pub IsAnsweredBy : VerifyRequest → List ℕ → Option (List ℕ) → Verified → Way → Type 0
+IsAnsweredBy request text other verified States =
+    (status : ℕ) × EndsUncertified status verified × ((status ≡ 3) ⊎ IsDrawingVerified request text other status)
+IsAnsweredBy request text other verified Induction = EndsUncertified 3 verified ⊎ IsDrawingCertified request text other verified
+
+abbrev pub IsDrawingAnswered : VerifyRequest → List ℕ → Option (List ℕ) → Verified → Type 0
+IsDrawingAnswered request text other verified = IsAnsweredBy request text other verified request.way
+
 -- so it ended, where there may be a second drawing, whose file is read
-abbrev pub AreDrawingsVerified : VerifyRequest → List ℕ → ℕ → Type 0
-AreDrawingsVerified request text status = IsOtherUnread request.second status
-    ⊎ ((other : Option (List ℕ)) × IsOther request.second other
-    × ((status ≡ 3) ⊎ IsDrawingVerified request text other status))
+abbrev pub AreDrawingsVerified : VerifyRequest → List ℕ → Verified → Type 0
+AreDrawingsVerified request text verified = ((status : ℕ) × EndsUncertified status verified × IsOtherUnread request.second status)
+    ⊎ ((other : Option (List ℕ)) × IsOther request.second other × IsDrawingAnswered request text other verified)
 
 -- how `plc verify` of a plant ends, by what came of it; verdicts are followed by warnings
 abbrev pub EndsPlantVerdicts : VerifyRequest → List ℕ → Result Summary VerifyPlantFault → ℕ → Type 0
@@ -150,16 +184,16 @@ pub record IsPlantVerified (request : VerifyRequest) (text : List ℕ) (status :
 
 -- how a question about such a thing ends: a file isn't read, or its text is answered; of a drawing 3 is also for want of
 -- memory before. A question about neither ends with 2.
-abbrev pub EndsAbout : VerifyRequest → Subject → ℕ → Type 0
-EndsAbout request Drawing status =
-    (status ≡ status_of_unread request.file.now) ⊎ ((text : List ℕ) × AreDrawingsVerified request text status)
-EndsAbout request Plant status =
-    (status ≡ status_of_unread request.file.now) ⊎ ((text : List ℕ) × IsPlantVerified request text status)
-EndsAbout request Neither status = status ≡ 2
+abbrev pub EndsAbout : VerifyRequest → Subject → Verified → Type 0
+EndsAbout request Drawing verified =
+    EndsUncertified (status_of_unread request.file.now) verified ⊎ ((text : List ℕ) × AreDrawingsVerified request text verified)
+EndsAbout request Plant verified = EndsUncertified (status_of_unread request.file.now) verified
+    ⊎ ((text : List ℕ) × (status : ℕ) × EndsUncertified status verified × IsPlantVerified request text status)
+EndsAbout request Neither verified = EndsUncertified 2 verified
 
 -- how `plc verify` ends
-abbrev pub EndsVerify : VerifyRequest → ℕ → Type 0
-EndsVerify request status = EndsAbout request (subject_of request) status
+abbrev pub EndsVerify : VerifyRequest → Verified → Type 0
+EndsVerify request verified = EndsAbout request (subject_of request) verified
 
 -- why there is no plant in a file
 abbrev pub IsNoPlantStatus : List ℕ → ℕ → Type 0

@@ -1,9 +1,11 @@
 -- What the words of `plc verify` ask.
-use Rattle.std.specs.Prelude.{◌==◌, ◌&&◌, ◌||◌, ◌++◌, ℕ, Bool, true, is_none, List, [], ◌∷◌, Option, Some, None, codes, not, unwrap_or, if◌then◌else◌}
+use Rattle.std.specs.Prelude.{◌==◌, ◌&&◌, ◌||◌, ◌++◌, ℕ, Bool, true, false, is_none, List, [], ◌∷◌, Option, Some, None, codes, not, unwrap_or, if◌then◌else◌}
 use Rattle.std.specs.Borrow.{Bor}
 use Rattle.std.specs.List.{list_any}
 use Rattle.console.specs.CommandLine.{are_asked, are_left_out}
 use Rattle.console.specs.declared.request.VerifyRequest.{VerifyRequest}
+use Rattle.console.specs.declared.request.Way.{Way}
+use Rattle.console.specs.declared.request.Way.TheVariants.{States, Induction}
 use Rattle.console.specs.ShellWord.{shell_word}
 use Rattle.console.specs.declared.verify_answer.Subject.{Subject}
 use Rattle.console.specs.declared.verify_answer.Subject.TheVariants.{Drawing, Plant, Neither}
@@ -29,12 +31,17 @@ are_plain (name ∷ names) = not (is_of_plant name) && are_plain names
 abbrev pub is_of_drawings : VerifyRequest → Bool
 is_of_drawings request = not (are_left_out request.restarts) && is_none request.most_waiting
 
--- neither a program type is asked about, nor is there a second drawing
-abbrev pub is_alone : VerifyRequest → Bool
-is_alone request = is_none request.program && is_none request.second
+-- state by state
+abbrev pub is_by_states : Way → Bool
+is_by_states States = true
+is_by_states Induction = false
 
--- it is about a plant where all words are of one, no program type is asked about and there is no second drawing; about a
--- drawing or a program type where none has a dot or comma, and nothing is asked of plants alone
+-- neither a program type is asked about, nor is there a second drawing, nor is it asked by induction
+abbrev pub is_alone : VerifyRequest → Bool
+is_alone request = is_none request.program && (is_none request.second && is_by_states request.way)
+
+-- it is about a plant where all words are of one, no program type is asked about, there is no second drawing, and it is asked
+-- state by state; about a drawing or a program type where none has a dot or comma, and nothing is asked of plants alone
 abbrev pub subject_of : VerifyRequest → Subject
 subject_of request =
     if are_of_plant (texts request.claims.items) && are_of_plant (texts request.given.items) && is_alone request then Plant

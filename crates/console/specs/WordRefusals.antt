@@ -37,5 +37,7 @@ word_refusal word.NoSubject =
     codes "plc: names without a dot are of a drawing, names R.P.V of a plant, and a question is about one of them; --no-restarts and --most-waiting are of plants, --with is of drawings"
 word_refusal word.NoProgramOfNames =
     codes "plc: --program asks about one program type: its names have no dot, and --no-restarts and --most-waiting are of plants"
+word_refusal word.NoInduction =
+    codes "plc: --by induction looks at drawings: their names have no dot, and --no-restarts and --most-waiting are of plants"
 word_refusal (word.WrittenOver path option) = written_over path.now option.now
 word_refusal (word.WrittenTwice path first option) = written_twice path.now first.now option.now

@@ -4,12 +4,12 @@ ghost use Rattle.std.specs.Str.Parse.{digits_value};
 ghost use Rattle.clap.specs.Words.{rows_of, found_of, first_of, subcommand_of};
 ghost use Rattle.clap.specs.Takes.{takes};
 ghost use Rattle.text_commands.specs.Restarts.{AreRestarts};
-ghost use Rattle.console.specs.CommandLine.{plc_app, IsNumber, GivesNumber, GivesOption, AsksFiles, AsksFor, AsksSecond, OnlyMemoryRefuses, given_word, words_given, claims_given, premises_given, restart_words, journals_given, is_given, GivesOneOf, GivesView, GivesColor, GivesStrictness, GivesRestarts, GivesPace, GivesEnd, GivesFull, GivesJournalFull, GivesJournalSize, plan_form};
+ghost use Rattle.console.specs.CommandLine.{plc_app, IsNumber, GivesNumber, GivesOption, AsksFiles, AsksFor, AsksCertificate, AsksSecond, OnlyMemoryRefuses, given_word, words_given, claims_given, premises_given, restart_words, journals_given, is_given, GivesOneOf, GivesView, GivesWay, GivesColor, GivesStrictness, GivesRestarts, GivesPace, GivesEnd, GivesFull, GivesJournalFull, GivesJournalSize, plan_form};
 
 use crate::commands::{command_of, commands};
 use crate::request::{
     AuditRequest, Color, JournalFull, NodeRequest, Pace, Request, Restarts, RunRequest, SimRequest,
-    Strictness, TextRequest, TraceFiles, VerifyRequest, View,
+    Strictness, TextRequest, TraceFiles, VerifyRequest, View, Way,
 };
 use clap::error::ErrorKind;
 use clap::{ArgMatches, Command, Error};
@@ -32,6 +32,8 @@ const SCANS_REFUSED: &str =
 const PACES_REFUSED: &str = "--paced and --clock can't be given both";
 
 const SECOND_REFUSED: &str = "--with and --program can't be given both";
+
+const CERTIFICATE_REFUSED: &str = "--certificate is given with --by induction";
 
 const SIZE_REFUSED: &str = "N of --journal-size is a number from 4096 to 4294967295";
 
@@ -296,6 +298,40 @@ fn color_of<'a>(command: &mut Command<'a>, word: Option<&'a str>) -> Result<Colo
     }
 }
 
+/// How claims are looked at, by the word behind `--by`.
+fn way_of<'a>(command: &mut Command<'a>, word: Option<&'a str>) -> Result<Way, Error>
+    ensures ok { IfOk result (GivesWay (option_map (λ w. w.now) word.entry)) }
+    ensures refused { IfErr result (OnlyMemoryRefuses (GivesWay (option_map (λ w. w.now) word.entry))) }
+{
+    match word {
+        None | Some("states") => Ok(Way::States),
+        Some("induction") => Ok(Way::Induction),
+        Some(_) => {
+            Err(command.error(
+                ErrorKind::InvalidValue,
+                "WAY of --by is states or induction",
+            )?)
+        }
+    }
+}
+
+/// The file of the certificates, where it is given: beside `--by induction` alone.
+fn certificate_of<'a>(
+    command: &mut Command<'a>,
+    matches: &ArgMatches<'a>,
+) -> Result<Option<&'a str>, Error>
+    ensures ok { IfOk result (AsksCertificate (rows_of (found_of matches.now))) }
+    ensures refused { IfErr result (OnlyMemoryRefuses (AsksCertificate (rows_of (found_of matches.now)))) }
+{
+    let Some(file) = word_of(matches, "certificate") else {
+        return Ok(None);
+    };
+    if let Some("induction") = word_of(matches, "by") {
+        return Ok(Some(file));
+    }
+    Err(command.error(ErrorKind::ArgumentConflict, CERTIFICATE_REFUSED)?)
+}
+
 /// The file of a second drawing, where it is given: not beside `--program`.
 fn second_of<'a>(
     command: &mut Command<'a>,
@@ -376,6 +412,8 @@ fn verify_request<'a>(
         words: words_given(alloc, inner)?,
         program: word_of(inner, "program"),
         second: second_of(command, inner)?,
+        way: way_of(command, word_of(inner, "by"))?,
+        certificate: certificate_of(command, inner)?,
     }))
 }
 

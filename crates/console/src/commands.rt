@@ -1,6 +1,6 @@
 ghost use Rattle.std.specs.Prelude.{◌≡◌, false, IfOk, codes};
 ghost use Rattle.clap.specs.Words.{app_of, new_app, rule_of};
-ghost use Rattle.console.specs.CommandLine.{needed_word, option_of, flag_of, words_rule, plant_rule, file_rule, until_rule, state_rule, journal_rule, journal_full_rule, journal_size_rule, as_schedule_rule, paced_rule, clock_rule, cycle_rule, node_field_rule, end_rule, show_rule, chart_rule, color_rule, program_rule, vcd_rule, with_file_rule, svg_rule, traced, strict_rule, no_warnings_rule, warned, kind_rule, never_rule, given_rule, restart_rule, journals_rule, shown_app, eval_app, claimed_app, verify_app, check_app, plan_app, limited_app, sim_app, paced_app, run_app, node_app, explain_app, audit_app, page_app, versioned, commanded, plc_app, text_app};
+ghost use Rattle.console.specs.CommandLine.{by_rule, certificate_rule, needed_word, option_of, flag_of, words_rule, plant_rule, file_rule, until_rule, state_rule, journal_rule, journal_full_rule, journal_size_rule, as_schedule_rule, paced_rule, clock_rule, cycle_rule, node_field_rule, end_rule, show_rule, chart_rule, color_rule, program_rule, vcd_rule, with_file_rule, svg_rule, traced, strict_rule, no_warnings_rule, warned, kind_rule, never_rule, given_rule, restart_rule, journals_rule, shown_app, eval_app, claimed_app, verify_app, check_app, plan_app, limited_app, sim_app, paced_app, run_app, node_app, explain_app, audit_app, page_app, versioned, commanded, plc_app, text_app};
 
 use crate::help::{
     AUDIT_HELP, CHECK_HELP, EVAL_HELP, EXPLAIN_HELP, FIRST_STEPS, NODE_HELP, PAGE_HELP, PLAN_HELP,
@@ -262,6 +262,30 @@ fn with_file_arg<'a>(alloc: Global) -> Arg<'a>
     )
 }
 
+fn by_arg<'a>(alloc: Global) -> Arg<'a>
+    ensures rule { rule_of result ≡ by_rule }
+    ensures local { result.global ≡ false }
+{
+    number_arg(
+        alloc,
+        "by",
+        "WAY",
+        "Of a drawing: how claims are looked at, by states, one by one, or by induction, for many of them [default: states]",
+    )
+}
+
+fn certificate_arg<'a>(alloc: Global) -> Arg<'a>
+    ensures rule { rule_of result ≡ certificate_rule }
+    ensures local { result.global ≡ false }
+{
+    number_arg(
+        alloc,
+        "certificate",
+        "FILE",
+        "With --by induction: writes why claims hold to FILE, a line for each clause",
+    )
+}
+
 fn vcd_arg<'a>(alloc: Global) -> Arg<'a>
     ensures rule { rule_of result ≡ vcd_rule }
     ensures local { result.global ≡ false }
@@ -448,7 +472,9 @@ fn verify_command<'a>(alloc: Global) -> Result<Command<'a>, AllocError>
 {
     let command = claimed_command(alloc)?
         .arg(program_arg(alloc))?
-        .arg(with_file_arg(alloc))?;
+        .arg(with_file_arg(alloc))?
+        .arg(by_arg(alloc))?
+        .arg(certificate_arg(alloc))?;
     warned_command(alloc, command)?.arg(words_arg(
         alloc,
         "WORD",

@@ -100,6 +100,16 @@ Example:
 
 With --with FILE the rungs of a second drawing stand behind the first's, as claims; they store at none of its names.
 
+With --by induction claims are looked at by clauses over state bits (a bit for each BOOL, SR, RS and memory of an edge, 16 for an
+INT, 32 for a TIME) that hold before the first scan and after each scan, however many states and free inputs there are:
+
+  HOLDS      such clauses were found and checked; how many, and how many of the bits they name
+  FAILS      a run was found and done; a shorter one may break the claim, too
+  UNDECIDED  the search ended, and found neither
+
+--certificate FILE writes them, a line for each: not (LIFT and LOWER). C.CV.3 is bit 3 of the count of C (the lowest one is 0), and
+X at 12:5 what the edge of X in row 12, column 5 remembers.
+
 With --program P the file is a plant, and the names are variables of its program type P, tried by its declarations. An input
 is a BOOL that nothing stores, of whatever section.
 

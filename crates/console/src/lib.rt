@@ -45,8 +45,8 @@ pub use refusals::{
 };
 pub use request::{
     AuditRequest, Color, JournalFull, NodeRequest, Pace, Request, Restarts, RunRequest, SimRequest,
-    Strictness, TextRequest, TraceFiles, VerifyRequest, View,
+    Strictness, TextRequest, TraceFiles, VerifyRequest, View, Way,
 };
 pub use schedules::{answer_schedule, obey_lines, obey_schedule};
 pub use status::FAILED;
-pub use verify_answer::{answer_verify, obey_verify};
+pub use verify_answer::{Verified, answer_verify, obey_certify, obey_verify};

@@ -272,6 +272,8 @@ pub enum WordRefusal<'a> {
     NoSubject,
     /// Names are of a plant, or what is asked of a program type is asked of plants alone.
     NoProgramOfNames,
+    /// What is asked by induction is of a plant, or of neither.
+    NoInduction,
     /// A file is read, and would be written for an option.
     WrittenOver {
         path: &'a str,
@@ -358,6 +360,9 @@ pub fn write_word_refusal<W: fmt::Write>(
         ),
         WordRefusal::NoProgramOfNames => f.write_str(
             "plc: --program asks about one program type: its names have no dot, and --no-restarts and --most-waiting are of plants",
+        ),
+        WordRefusal::NoInduction => f.write_str(
+            "plc: --by induction looks at drawings: their names have no dot, and --no-restarts and --most-waiting are of plants",
         ),
         WordRefusal::WrittenOver { path, option } => write_written_over(f, path, option),
         WordRefusal::WrittenTwice {

@@ -34,6 +34,15 @@ pub enum Strictness {
     Silent,
 }
 
+/// How claims are looked at.
+#[derive(Clone, Copy, Debug, PartialEq, Eq)]
+pub enum Way {
+    /// State by state.
+    States,
+    /// By clauses over state bits that hold before the first scan and after each scan.
+    Induction,
+}
+
 /// Whether runs with restarts are looked at.
 #[derive(Clone, Copy, Debug, PartialEq, Eq)]
 pub enum Restarts {
@@ -198,6 +207,9 @@ pub struct VerifyRequest<'a> {
     pub words: Vec<&'a str>,
     pub program: Option<&'a str>,
     pub second: Option<&'a str>,
+    pub way: Way,
+    /// The file of the certificates.
+    pub certificate: Option<&'a str>,
 }
 
 /// What each event of a schedule does to a plant; in one incarnation a task is evaluated `max_number` times at most.

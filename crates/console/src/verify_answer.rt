@@ -3,11 +3,12 @@ ghost use Rattle.std.specs.Option.{option_map};
 ghost use Rattle.text_lines.specs.Growing.{GrowsBy};
 ghost use Rattle.text_commands.specs.Rows.{texts};
 ghost use Rattle.verifying.specs.VerifyText.{ExplainsAnswer, WritesAnswer};
+ghost use Rattle.certified_claims.specs.CertifiedAnswers.{ExplainsCertified, WritesCertified};
 ghost use Rattle.verifying_plants.specs.VerifyPlant.{ExplainsAnswer as ExplainsPlantAnswer, WritesAnswer as WritesPlantAnswer};
 ghost use Rattle.console.specs.Statuses.{status_of, status_of_question, status_of_plant_question};
 ghost use Rattle.console.specs.Answers.{asked_source};
-ghost use Rattle.console.specs.Verifying.{are_of_plant, are_plain, asked_question, asked_of_plant, eval_words, is_alone, is_of_plant, is_of_drawings, program_words, second_words, subject_of};
-ghost use Rattle.console.specs.Endings.{AreDrawingsVerified, EndsVerify, IsDrawingVerified, IsPlantVerified, EndsPlantVerdicts, EndsVerdicts};
+ghost use Rattle.console.specs.Verifying.{are_of_plant, are_plain, asked_question, asked_of_plant, eval_words, is_alone, is_by_states, is_of_plant, is_of_drawings, program_words, second_words, subject_of};
+ghost use Rattle.console.specs.Endings.{AreDrawingsVerified, EndsUncertified, EndsVerify, IsDrawingAnswered, IsDrawingCertified, IsDrawingVerified, IsParted, IsPlantVerified, EndsPlantVerdicts, EndsVerdicts};
 
 use crate::answers::file_of_text;
 use crate::command_fault::CommandFault;
@@ -18,11 +19,12 @@ use crate::faults::{
 use crate::files::{file_text, second_text, text_of};
 use crate::piped::Piped;
 use crate::refusals::WordRefusal;
-use crate::request::VerifyRequest;
+use crate::request::{VerifyRequest, Way};
 use crate::shell_word::shell_word;
 use crate::status::{CLAIM_FAILS, DONE, UNDECIDED, WORD_REFUSED};
 use crate::warned::{warn_of_a_ladder, warn_of_a_plant};
 use guidance::Meant;
+use certified_claims::{CertifiedAnswer, certify_text};
 use std::alloc::{AllocError, Global};
 use std::io;
 use std::io::Write;
@@ -74,11 +76,21 @@ fn is_of_drawings(request: &VerifyRequest<'_>) -> bool
     !request.restarts.are_left_out() && request.most_waiting.is_none()
 }
 
-/// Whether neither a program type is asked about, nor is there a second drawing.
+/// Whether claims are looked at state by state.
+fn is_by_states(way: Way) -> bool
+    ensures { result ≡ is_by_states way }
+{
+    match way {
+        Way::States => true,
+        Way::Induction => false,
+    }
+}
+
+/// Whether neither a program type is asked about, nor is there a second drawing, nor is it asked by induction.
 fn is_alone(request: &VerifyRequest<'_>) -> bool
     ensures { result ≡ is_alone request.now }
 {
-    request.program.is_none() && request.second.is_none()
+    request.program.is_none() && request.second.is_none() && is_by_states(request.way)
 }
 
 /// What a question is about: all names have dots in a plant, none in a drawing or a program type, of which neither restarts
@@ -128,6 +140,39 @@ pub fn obey_verify<W: Write, P: Progress>(
         second,
     };
     verify_text(alloc, source, &question, writer, progress)
+}
+
+/// How many queries the search by induction may make for a claim.
+const MOST_QUERIES: u64 = 1_000_000;
+
+/// Writes what is true of the claims about the drawing in the text, and a second one, if there is one, or about a program type,
+/// as far as induction tells it. The file is the words that stand for it before those for `plc eval`.
+pub fn obey_certify<W: Write>(
+    alloc: Global,
+    request: &VerifyRequest<'_>,
+    file: &str,
+    text: &str,
+    second: Option<&str>,
+    writer: &mut W,
+) -> Result<CertifiedAnswer, VerifyFault>
+    ensures ok { IfOk result (λ a. WritesCertified (asked_source text.now request.now.program (option_map (λ t. t.now) second.entry)) (asked_question file.now request.now) (W.contents writer.old) (W.contents writer.new) (string_bytes a.certificates) a.summary) }
+    ensures fault { IfErr result (ExplainsCertified (asked_source text.now request.now.program (option_map (λ t. t.now) second.entry)) (asked_question file.now request.now) (W.contents writer.old) (W.contents writer.new)) }
+{
+    let question = Question {
+        file,
+        claims: &request.claims,
+        given: &request.given,
+        words: &request.words,
+        dt: request.dt.unwrap_or(0),
+        restarts: request.restarts.are_asked(),
+        most_states: request.most_states,
+    };
+    let source = LadderSource {
+        text,
+        program: request.program,
+        second,
+    };
+    certify_text(alloc, source, &question, MOST_QUERIES, writer)
 }
 
 /// The status after all claims were answered.
@@ -330,9 +375,66 @@ fn eval_words(alloc: Global, request: &VerifyRequest<'_>) -> Result<String, Allo
     Ok(words)
 }
 
+/// The status of `plc verify`, and the text for the file of its certificates.
+#[derive(Drop)]
+pub struct Verified {
+    pub status: u8,
+    pub certificates: Option<String>,
+}
+
+impl Verified {
+    ghost use Rattle.console.specs.Endings.{EndsUncertified};
+
+    /// A status, and no certificates.
+    pub fn with(status: u8) -> Verified
+        ensures { EndsUncertified status result }
+    {
+        Verified {
+            status,
+            certificates: None,
+        }
+    }
+}
+
+/// The summary of what was answered by induction, or why there is none; and the certificates.
+fn parted(
+    answered: Result<CertifiedAnswer, VerifyFault>,
+) -> (Result<Summary, VerifyFault>, Option<String>)
+    ensures { IsParted answered result }
+{
+    match answered {
+        Ok(answer) => (Ok(answer.summary), Some(answer.certificates)),
+        Err(fault) => (Err(fault), None),
+    }
+}
+
+/// Writes what is true of the claims about the drawing in the text, and a second one, if there is one, or about a program type,
+/// as far as induction tells it; the status, and the certificates.
+fn answer_by_induction<R: Clock + Print + Eprint + AllocGlobal>(
+    rt: &R,
+    request: &VerifyRequest<'_>,
+    text: &str,
+    second: Option<&str>,
+) -> io::Result<Verified>
+    ensures { IfOk result
+        (λ verified. (EndsUncertified 3 verified) ⊎ IsDrawingCertified request.now text.now (option_map (λ t. t.now) second.entry) verified) }
+{
+    let Ok(file) = eval_words(rt.alloc(), request) else {
+        return Ok(Verified::with(print_failure(rt, CommandFault::Memory)?));
+    };
+    let mut writer = Piped::new(io::writer(rt));
+    let answered = obey_certify(rt.alloc(), request, file.as_str(), text, second, &mut writer);
+    let (answered, certificates) = parted(answered);
+    let status = tell_verdicts(rt, request, text, second, writer.is_closed, answered)?;
+    Ok(Verified {
+        status,
+        certificates,
+    })
+}
+
 /// Writes what is true of the claims about the drawing in the text, and a second one, if there is one, or about a program type;
 /// the status.
-fn answer_drawing<R: Clock + Print + Eprint + AllocGlobal>(
+fn answer_by_states<R: Clock + Print + Eprint + AllocGlobal>(
     rt: &R,
     told: bool,
     request: &VerifyRequest<'_>,
@@ -360,6 +462,26 @@ fn answer_drawing<R: Clock + Print + Eprint + AllocGlobal>(
     tell_verdicts(rt, request, text, second, writer.is_closed, answered)
 }
 
+/// Writes what is true of the claims about the drawing in the text, and a second one, if there is one, or about a program type,
+/// in the way that is asked; the status, and the certificates.
+fn answer_drawing<R: Clock + Print + Eprint + AllocGlobal>(
+    rt: &R,
+    told: bool,
+    request: &VerifyRequest<'_>,
+    text: &str,
+    second: Option<&str>,
+) -> io::Result<Verified>
+    ensures { IfOk result (IsDrawingAnswered request.now text.now (option_map (λ t. t.now) second.entry)) }
+{
+    match request.way {
+        Way::States => {
+            let status = answer_by_states(rt, told, request, text, second)?;
+            Ok(Verified::with(status))
+        }
+        Way::Induction => answer_by_induction(rt, request, text, second),
+    }
+}
+
 /// Writes what is true of the claims about the plant in the text; the status.
 fn answer_plant<R: Clock + Print + Eprint + AllocGlobal>(
     rt: &R,
@@ -378,46 +500,47 @@ fn answer_plant<R: Clock + Print + Eprint + AllocGlobal>(
 
 /// Why a question is about nothing.
 fn no_subject(request: &VerifyRequest<'_>) -> WordRefusal<'static> {
-    match request.program {
-        None => WordRefusal::NoSubject,
-        Some(_) => WordRefusal::NoProgramOfNames,
+    match (request.program, request.way) {
+        (Some(_), _) => WordRefusal::NoProgramOfNames,
+        (None, Way::Induction) => WordRefusal::NoInduction,
+        (None, Way::States) => WordRefusal::NoSubject,
     }
 }
 
 /// Reads a second drawing, if there is one, and writes what is true of the claims about the drawing in the text and it, or about
-/// a program type; the status.
+/// a program type; the status, and the certificates.
 fn answer_drawings<R: Files + Clock + Print + Eprint + AllocGlobal>(
     rt: &R,
     told: bool,
     request: &VerifyRequest<'_>,
     text: &str,
-) -> io::Result<u8>
+) -> io::Result<Verified>
     ensures { IfOk result (AreDrawingsVerified request.now text.now) }
 {
     match second_text(rt, request.second)? {
         Ok(other) => answer_drawing(rt, told, request, text, text_of(&other)),
-        Err(status) => Ok(status),
+        Err(status) => Ok(Verified::with(status)),
     }
 }
 
-/// Reads a drawing or a plant, and writes what is true of the claims about it; the status. `told` is whether the search tells
-/// on standard error how far it is.
+/// Reads a drawing or a plant, and writes what is true of the claims about it; the status, and the certificates. `told` is
+/// whether the search tells on standard error how far it is.
 pub fn answer_verify<R: Files + Clock + Print + Eprint + AllocGlobal>(
     rt: &R,
     told: bool,
     request: &VerifyRequest<'_>,
-) -> io::Result<u8>
+) -> io::Result<Verified>
     ensures { IfOk result (EndsVerify request.now) }
 {
     match subject_of(request) {
         Subject::Drawing => match file_text(rt, request.file)? {
             Ok(text) => answer_drawings(rt, told, request, text.as_str()),
-            Err(status) => Ok(status),
+            Err(status) => Ok(Verified::with(status)),
         },
         Subject::Plant => match file_text(rt, request.file)? {
-            Ok(text) => answer_plant(rt, told, request, text.as_str()),
-            Err(status) => Ok(status),
+            Ok(text) => Ok(Verified::with(answer_plant(rt, told, request, text.as_str())?)),
+            Err(status) => Ok(Verified::with(status)),
         },
-        Subject::Neither => print_word_refusal(rt, no_subject(request)),
+        Subject::Neither => Ok(Verified::with(print_word_refusal(rt, no_subject(request))?)),
     }
 }

@@ -40,7 +40,8 @@ traces files = written files.vcd (codes "--vcd") ++ written files.svg (codes "--
 -- A node reads standard input too.
 abbrev pub files_of : Request → List NamedFile
 files_of (OfText request) = read (file_of request) ++ read_if_given (second_in request) ++ traces (files_in request)
-files_of (Verify request) = []
+files_of (Verify request) =
+    read request.file.now ++ read_if_given request.second ++ written request.certificate (codes "--certificate")
 files_of (Sim request) = read request.plant.now ++ read_any request.schedule.now ++ traces request.files
 files_of (Run request) =
     read request.plant.now ++ written request.state (codes "--state") ++ traces request.files

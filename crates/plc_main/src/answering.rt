@@ -7,11 +7,11 @@ ghost use Rattle.console.specs.declared.request.Request.TheVariants as asked;
 use crate::clashes::{FileUse, first_clash, first_nameless};
 use crate::node_command::answer_node;
 use crate::running_alone::Inputs;
-use crate::trace_files::{TextFiles, write_files};
+use crate::trace_files::{TextFiles, write_certificates, write_files};
 use crate::used_files::files_of;
 use crate::{answer_audit, answer_run};
 use console::{
-    Request, RunRequest, SimRequest, TextRequest, WordRefusal, answer_kind, answer_kinds,
+    Request, RunRequest, SimRequest, TextRequest, VerifyRequest, WordRefusal, answer_kind, answer_kinds,
     answer_page, answer_schedule, answer_text, answer_verify, print_usage, print_word_refusal,
     read_words,
 };
@@ -95,6 +95,20 @@ fn obey_threads<
     write_files(to, request.files, answered)
 }
 
+/// Answers claims, and writes the file of their certificates; the status.
+fn obey_verify<R: Files + Clock + Print + Eprint + AllocGlobal, F: TextFiles>(
+    rt: &R,
+    terminals: Terminals,
+    request: &VerifyRequest<'_>,
+    to: &mut F,
+) -> io::Result<u8>
+    ensures { IfOk result
+        (EndsRequest terminals.colors (asked.Verify request.now) (F.came to.old) (F.came to.new)) }
+{
+    let verified = answer_verify(rt, terminals.errors, request)?;
+    write_certificates(to, request.certificate, verified)
+}
+
 /// Obeys a request; the status.
 fn obey_request<
     R: Files + Clock + Input + Print + Eprint + AllocGlobal + Threads + Wait + Sync,
@@ -113,7 +127,7 @@ fn obey_request<
 {
     match request {
         Request::Text(request) => obey_text(rt, terminals, request, to),
-        Request::Verify(request) => answer_verify(rt, terminals.errors, request),
+        Request::Verify(request) => obey_verify(rt, terminals, request, to),
         Request::Sim(request) => obey_sim(rt, terminals, request, to),
         Request::Run(request) => obey_threads(rt, host, terminals, request, to),
         Request::Node(request) => answer_node(rt, host, request, readers),

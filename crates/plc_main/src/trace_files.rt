@@ -1,12 +1,12 @@
 //! The files of a trace.
 
-ghost use Rattle.std.specs.Prelude.{◌≡◌, ◌++◌, [], ◌∷◌, IfOk, List, None, Option, string_bytes};
+ghost use Rattle.std.specs.Prelude.{◌≡◌, ◌⊎◌, ◌++◌, [], ◌∷◌, IfOk, List, None, Option, string_bytes};
 ghost use Rattle.std.specs.Option.{option_map};
 ghost use Rattle.plc_main.specs.Files.{EndsFiles, FileText, due, files_due, with_files};
 ghost use Rattle.plc_main.specs.Steps.Replacing.{IsFreeName, IsReplacedBeside, name_beside};
 
 use crate::new_beside::NewBeside;
-use console::{Answered, FAILED, TraceFiles};
+use console::{Answered, FAILED, TraceFiles, Verified};
 use keepers::{Folder, FolderFault};
 use std::alloc::{AllocError, Global};
 use std::io;
@@ -122,6 +122,27 @@ fn put_texts<F: TextFiles>(to: &mut F, files: TraceFiles<'_>, texts: TraceTexts)
     let is_dumped = put_text(to, files.vcd, dump)?;
     let is_drawn = put_text(to, files.svg, diagram)?;
     Ok(is_dumped && is_drawn)
+}
+
+/// Writes the file of the certificates; the status.
+pub fn write_certificates<F: TextFiles>(
+    to: &mut F,
+    file: Option<&str>,
+    verified: Verified,
+) -> io::Result<u8>
+    ensures { IfOk result (λ status.
+        (F.came to.new ≡ with_files (F.came to.old) (due file.entry (option_map (λ t. string_bytes t) verified.certificates)))
+        × ((status ≡ verified.status) ⊎ (status ≡ 3))) }
+{
+    let Verified {
+        status,
+        certificates,
+    } = verified;
+    Ok(if put_text(to, file, certificates)? {
+        status
+    } else {
+        FAILED
+    })
 }
 
 /// Writes the files of a trace; the status.

@@ -6,7 +6,9 @@ ghost use Rattle.plc_main.specs.UsedFiles.{files_of, named, read, read_any, read
 
 use crate::clashes::{FileUse, Identity};
 use crate::trace_files::folder_and_name;
-use console::{NodeRequest, Request, RunRequest, SimRequest, TextRequest, TraceFiles};
+use console::{
+    NodeRequest, Request, RunRequest, SimRequest, TextRequest, TraceFiles, VerifyRequest,
+};
 use std::alloc::{AllocError, Global};
 use std::fs;
 use std::fs::Metadata;
@@ -222,6 +224,21 @@ fn files_of_node<'a, R: Files>(
     Ok(files)
 }
 
+fn files_of_verify<'a, R: Files>(
+    rt: &R,
+    alloc: Global,
+    request: &VerifyRequest<'a>,
+) -> Result<Vec<FileUse<'a>>, AllocError>
+    ensures { IfOk result (λ files. map named files.items
+        ≡ read request.now.file.now ++ read_if_given request.now.second ++ written request.now.certificate (codes "--certificate")) }
+{
+    let mut files = Vec::new(alloc);
+    push_read(rt, &mut files, request.file)?;
+    push_read_if_given(rt, &mut files, request.second)?;
+    push_written(rt, &mut files, request.certificate, "--certificate")?;
+    Ok(files)
+}
+
 /// The files that a command reads, and then those that it writes; none, where it never writes any.
 pub fn files_of<'a, R: Files>(
     rt: &R,
@@ -235,7 +252,8 @@ pub fn files_of<'a, R: Files>(
         Request::Sim(request) => files_of_sim(rt, alloc, request),
         Request::Run(request) => files_of_run(rt, alloc, request),
         Request::Node(request) => files_of_node(rt, alloc, request),
-        Request::Verify(_) | Request::Explain(_) | Request::Page(_) | Request::Audit(_) => {
+        Request::Verify(request) => files_of_verify(rt, alloc, request),
+        Request::Explain(_) | Request::Page(_) | Request::Audit(_) => {
             Ok(Vec::new(alloc))
         }
     }
