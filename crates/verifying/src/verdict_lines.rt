@@ -56,7 +56,7 @@ fn push_names(
 }
 
 /// Writes that no run meets what is given, and a line feed.
-fn push_unmet(text: &mut String, setup: &Setup) -> Result<(), AllocError>
+pub fn push_unmet(text: &mut String, setup: &Setup) -> Result<(), AllocError>
     ensures { OnOk result (GrowsBy text.old text.new (unmet setup.now)) }
 {
     text.push_str(": no run meets ")?;
