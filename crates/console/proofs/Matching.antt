@@ -15,6 +15,7 @@ use Rattle.clap.specs.declared.parser.matches.ArgMatches.{ArgMatches}
 use Rattle.clap.proofs.SimpleLemmas.{plain_fields}
 use Rattle.console.specs.declared.request.TextRequest.TheVariants.{Eval, Check, Plan}
 use Rattle.console.specs.declared.request.View.{View}
+use Rattle.console.specs.declared.request.Way.{Way}
 use Rattle.console.specs.declared.request.Color.{Color}
 use Rattle.console.specs.declared.request.Strictness.{Strictness}
 use Rattle.console.specs.declared.request.JournalFull.{JournalFull}
@@ -23,7 +24,7 @@ use Rattle.console.specs.declared.request.Restarts.{Restarts}
 use Rattle.console.specs.declared.request.Request.{Request}
 use Rattle.console.specs.declared.request.Request.TheVariants.{Text as OfText, Verify, Sim, Run, Node, Explain, Audit, Page}
 use Rattle.text_commands.specs.Restarts.{AreRestarts}
-use Rattle.console.specs.CommandLine.{AsksFor, AsksSecond, GivesColor, GivesEnd, GivesJournalFull, GivesJournalSize, GivesNumber, GivesOption, GivesPace, GivesRestarts, GivesStrictness, GivesView, IsNumber, OnlyMemoryRefuses, is_given, plc_app, restart_words}
+use Rattle.console.specs.CommandLine.{AsksCertificate, AsksFor, AsksSecond, GivesColor, GivesEnd, GivesJournalFull, GivesJournalSize, GivesNumber, GivesOption, GivesPace, GivesRestarts, GivesStrictness, GivesView, GivesWay, IsNumber, OnlyMemoryRefuses, is_given, plc_app, restart_words}
 
 -- a plus is no digit
 pub plus_is_none : (text : List ℕ) → (slice_index text 0 == 43) ≡ true → IsNumber text → ⊥
@@ -158,10 +159,11 @@ check_parts found (Page file) asked = absurd (unlike (codes "check") (codes "pag
 pub verify_parts : (found : List Row) (r : Request) → AsksFor (Some (codes "verify", found)) r
     → (n : Option ℕ) × (m : ℕ) × (k : Option ℕ) × (s : Strictness) × GivesOption (first_of (codes "dt") found) n × GivesNumber 1000000 (first_of (codes "most-states") found) m × GivesOption (first_of (codes "most-waiting") found) k
     × GivesStrictness (is_given (codes "strict") found) (is_given (codes "no-warnings") found) s × (r : Restarts) × GivesRestarts (is_given (codes "restarts") found) (is_given (codes "no-restarts") found) r × (w : Option (Bor (List ℕ))) × AsksSecond found w
+    × (way : Way) × GivesWay (first_of (codes "by") found) way × (file : Option (Bor (List ℕ))) × AsksCertificate found file
 verify_parts found (OfText (Eval drawing dt view color files strictness words program restarts second)) asked = absurd (unlike (codes "verify") (codes "eval") refl refl asked.0)
 verify_parts found (OfText (Check plant strictness)) asked = absurd (unlike (codes "verify") (codes "check") refl refl asked.0)
 verify_parts found (OfText (Plan plant until form)) asked = absurd (unlike (codes "verify") (codes "plan") refl refl asked.0)
-verify_parts found (Verify verify) asked = (verify.dt, verify.most_states, verify.most_waiting, verify.strictness, asked.1.4, asked.1.5, asked.1.6, asked.1.8, verify.restarts, asked.1.3, verify.second, asked.1.10)
+verify_parts found (Verify verify) asked = (verify.dt, verify.most_states, verify.most_waiting, verify.strictness, asked.1.4, asked.1.5, asked.1.6, asked.1.8, verify.restarts, asked.1.3, verify.second, asked.1.10, verify.way, asked.1.11, verify.certificate, asked.1.12)
 verify_parts found (Sim sim) asked = absurd (unlike (codes "verify") (codes "sim") refl refl asked.0)
 verify_parts found (Run run) asked = absurd (unlike (codes "verify") (codes "run") refl refl asked.0)
 verify_parts found (Node node) asked = absurd (unlike (codes "verify") (codes "node") refl refl asked.0)

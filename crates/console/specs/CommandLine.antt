@@ -427,12 +427,6 @@ abbrev pub GivesWay : Option (List ℕ) → Way → Type 0
 GivesWay word States = (word ≡ None) ⊎ (word ≡ Some (codes "states"))
 GivesWay word Induction = word ≡ Some (codes "induction")
 
--- the file behind `--certificate`, which is given beside `--by induction` alone
-abbrev pub AsksCertificate : List Row → Option (Bor (List ℕ)) → Type 0
-AsksCertificate found None = first_of (codes "certificate") found ≡ None
-AsksCertificate found (Some file) =
-    (first_of (codes "certificate") found ≡ Some file.now) × (first_of (codes "by") found ≡ Some (codes "induction"))
-
 -- the files behind `--vcd` and `--svg`
 abbrev pub AsksFiles : List Row → TraceFiles → Type 0
 AsksFiles found files =
@@ -453,6 +447,17 @@ abbrev pub AsksSecond : List Row → Option (Bor (List ℕ)) → Type 0
 AsksSecond found second =
     (option_map (λ f. f.now) second ≡ first_of (codes "with") found)
     × IsBesideNone (first_of (codes "program") found) (first_of (codes "with") found)
+
+-- a file of certificates stands beside `--by induction` alone
+abbrev pub IsByInduction : Option Text → Option Text → Type 0
+IsByInduction way None = Unit {0}
+IsByInduction way (Some file) = way ≡ Some (codes "induction")
+
+-- the file behind `--certificate`
+abbrev pub AsksCertificate : List Row → Option (Bor (List ℕ)) → Type 0
+AsksCertificate found certificate =
+    (option_map (λ f. f.now) certificate ≡ first_of (codes "certificate") found)
+    × IsByInduction (first_of (codes "by") found) (first_of (codes "certificate") found)
 
 -- the subcommand that asks for it
 abbrev pub command_of : Request → Text

@@ -38,6 +38,6 @@ word_refusal word.NoSubject =
 word_refusal word.NoProgramOfNames =
     codes "plc: --program asks about one program type: its names have no dot, and --no-restarts and --most-waiting are of plants"
 word_refusal word.NoInduction =
-    codes "plc: --by induction looks at drawings: their names have no dot, and --no-restarts and --most-waiting are of plants"
+    codes "plc: --by induction is of drawings and program types, whose names have no dot: leave it out for a plant, of which --no-restarts and --most-waiting are"
 word_refusal (word.WrittenOver path option) = written_over path.now option.now
 word_refusal (word.WrittenTwice path first option) = written_twice path.now first.now option.now

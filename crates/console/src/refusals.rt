@@ -362,7 +362,7 @@ pub fn write_word_refusal<W: fmt::Write>(
             "plc: --program asks about one program type: its names have no dot, and --no-restarts and --most-waiting are of plants",
         ),
         WordRefusal::NoInduction => f.write_str(
-            "plc: --by induction looks at drawings: their names have no dot, and --no-restarts and --most-waiting are of plants",
+            "plc: --by induction is of drawings and program types, whose names have no dot: leave it out for a plant, of which --no-restarts and --most-waiting are",
         ),
         WordRefusal::WrittenOver { path, option } => write_written_over(f, path, option),
         WordRefusal::WrittenTwice {

@@ -2,6 +2,8 @@ ghost use Rattle.std.specs.Prelude.{◌≡◌, ◌⊎◌, IfOk, IfErr, OnOk, Res
 ghost use Rattle.std.specs.Option.{option_map};
 ghost use Rattle.text_lines.specs.Growing.{GrowsBy};
 ghost use Rattle.text_commands.specs.Rows.{texts};
+ghost use Rattle.text_commands.specs.Sources.{source_of};
+ghost use Rattle.verifying.specs.Questions.{question_of};
 ghost use Rattle.verifying.specs.VerifyText.{ExplainsAnswer, WritesAnswer};
 ghost use Rattle.certified_claims.specs.CertifiedAnswers.{ExplainsCertified, WritesCertified};
 ghost use Rattle.verifying_plants.specs.VerifyPlant.{ExplainsAnswer as ExplainsPlantAnswer, WritesAnswer as WritesPlantAnswer};
@@ -110,9 +112,38 @@ fn subject_of(request: &VerifyRequest<'_>) -> Subject
 /// Of how many waiting images the order is kept, unless the words say it.
 const MOST_WAITING: u32 = 8;
 
+/// What is asked about a drawing or a program type. The file is the words that stand for it before those for `plc eval`.
+fn asked_question<'a>(request: &'a VerifyRequest<'_>, file: &'a str) -> Question<'a>
+    ensures { question_of result ≡ asked_question file.now request.now }
+{
+    Question {
+        file,
+        claims: &request.claims,
+        given: &request.given,
+        words: &request.words,
+        dt: request.dt.unwrap_or(0),
+        restarts: request.restarts.are_asked(),
+        most_states: request.most_states,
+    }
+}
+
+/// What it is asked of: the drawing in the text, and a second one, if there is one, or a program type.
+fn asked_source<'a>(
+    request: &VerifyRequest<'a>,
+    text: &'a str,
+    second: Option<&'a str>,
+) -> LadderSource<'a>
+    ensures { source_of result ≡ asked_source text.now request.now.program (option_map (λ t. t.now) second.entry) }
+{
+    LadderSource {
+        text,
+        program: request.program,
+        second,
+    }
+}
+
 /// Writes what is true of the claims about the drawing in the text, and a second one, if there is one, or about a program type.
-/// The file is the words that stand
-/// for it before those for `plc eval`. How far the search is is told meanwhile.
+/// The file is the words that stand for it before those for `plc eval`. How far the search is is told meanwhile.
 pub fn obey_verify<W: Write, P: Progress>(
     alloc: Global,
     request: &VerifyRequest<'_>,
@@ -125,20 +156,8 @@ pub fn obey_verify<W: Write, P: Progress>(
     ensures ok { IfOk result (WritesAnswer (asked_source text.now request.now.program (option_map (λ t. t.now) second.entry)) (asked_question file.now request.now) (W.contents writer.old) (W.contents writer.new)) }
     ensures fault { IfErr result (ExplainsAnswer (asked_source text.now request.now.program (option_map (λ t. t.now) second.entry)) (asked_question file.now request.now) (W.contents writer.old) (W.contents writer.new)) }
 {
-    let question = Question {
-        file,
-        claims: &request.claims,
-        given: &request.given,
-        words: &request.words,
-        dt: request.dt.unwrap_or(0),
-        restarts: request.restarts.are_asked(),
-        most_states: request.most_states,
-    };
-    let source = LadderSource {
-        text,
-        program: request.program,
-        second,
-    };
+    let question = asked_question(request, file);
+    let source = asked_source(request, text, second);
     verify_text(alloc, source, &question, writer, progress)
 }
 
@@ -158,20 +177,8 @@ pub fn obey_certify<W: Write>(
     ensures ok { IfOk result (λ a. WritesCertified (asked_source text.now request.now.program (option_map (λ t. t.now) second.entry)) (asked_question file.now request.now) (W.contents writer.old) (W.contents writer.new) (string_bytes a.certificates) a.summary) }
     ensures fault { IfErr result (ExplainsCertified (asked_source text.now request.now.program (option_map (λ t. t.now) second.entry)) (asked_question file.now request.now) (W.contents writer.old) (W.contents writer.new)) }
 {
-    let question = Question {
-        file,
-        claims: &request.claims,
-        given: &request.given,
-        words: &request.words,
-        dt: request.dt.unwrap_or(0),
-        restarts: request.restarts.are_asked(),
-        most_states: request.most_states,
-    };
-    let source = LadderSource {
-        text,
-        program: request.program,
-        second,
-    };
+    let question = asked_question(request, file);
+    let source = asked_source(request, text, second);
     certify_text(alloc, source, &question, MOST_QUERIES, writer)
 }
 
@@ -237,7 +244,11 @@ fn print_verify_fault<R: Eprint + AllocGlobal>(
         VerifyFault::Claim(fault) => print_claim_fault(rt, source, &request.claims, fault),
         VerifyFault::Given(fault) => print_claim_fault(rt, source, &request.given, fault),
         VerifyFault::Held(fault) => { print_fault_of_word(rt, &request.words, fault.number, fault) }
-        VerifyFault::TooManyInputs(_) | VerifyFault::NoTime => {
+        VerifyFault::TooManyInputs(_) => {
+            eprintln!(rt; "plc: {fault}, or ask --by induction")?;
+            Ok(WORD_REFUSED)
+        }
+        VerifyFault::NoTime => {
             eprintln!(rt; "plc: {fault}")?;
             Ok(WORD_REFUSED)
         }
@@ -432,6 +443,14 @@ fn answer_by_induction<R: Clock + Print + Eprint + AllocGlobal>(
     })
 }
 
+/// Tells what else may decide a claim, where states were too many.
+fn print_way_out<R: Eprint>(rt: &R, answered: &Result<Summary, VerifyFault>) -> io::Result<()> {
+    if let Ok(Summary::OneUndecided) = answered {
+        eprintln!(rt; "plc: where states are too many, --by induction may decide")?;
+    }
+    Ok(())
+}
+
 /// Writes what is true of the claims about the drawing in the text, and a second one, if there is one, or about a program type;
 /// the status.
 fn answer_by_states<R: Clock + Print + Eprint + AllocGlobal>(
@@ -459,6 +478,7 @@ fn answer_by_states<R: Clock + Print + Eprint + AllocGlobal>(
         &mut progress,
     );
     progress.end();
+    print_way_out(rt, &answered)?;
     tell_verdicts(rt, request, text, second, writer.is_closed, answered)
 }
 

@@ -12,7 +12,6 @@ use Rattle.console.specs.declared.answered.Answered.{Answered}
 use Rattle.console.specs.declared.request.Request.{Request}
 use Rattle.console.specs.declared.request.Request.TheVariants.{Text as OfText, Verify, Sim, Run, Node, Explain, Audit, Page}
 use Rattle.console.specs.declared.request.TextRequest.{TextRequest}
-use Rattle.console.specs.declared.request.VerifyRequest.{VerifyRequest}
 use Rattle.console.specs.declared.verify_answer.Verified.{Verified}
 use Rattle.console.specs.declared.request.TraceFiles.{TraceFiles}
 use Rattle.console.specs.CommandLine.{AsksFor, OnlyMemoryRefuses, files_in, plc_app}
@@ -49,8 +48,8 @@ pub record EndsFiles (files : TraceFiles) (answered : Answered) (old new : Optio
 
 -- the certificates came, where there are some and a file for them; the status is that of the verdicts, or 3 where the file can't
 -- be written
-pub record EndsCertificate (request : VerifyRequest) (verified : Verified) (old new : Option (List FileText)) (status : ℕ) : Type 0 where
-  pub came : new ≡ with_files old (due request.certificate (option_map (λ t. string_bytes t) verified.certificates))
+pub record EndsCertificate (file : Option (Bor (List ℕ))) (verified : Verified) (old new : Option (List FileText)) (status : ℕ) : Type 0 where
+  pub came : new ≡ with_files old (due file (option_map (λ t. string_bytes t) verified.certificates))
   pub status_is : (status ≡ verified.status) ⊎ (status ≡ 3)
 
 -- how the program ends for what was asked of it
@@ -58,7 +57,7 @@ abbrev pub EndsRequest : Bool → Request → Option (List FileText) → Option 
 EndsRequest terminal (OfText request) old new status =
     (answered : Answered) × EndsText terminal request answered × EndsFiles (files_in request) answered old new status
 EndsRequest terminal (Verify request) old new status =
-    (verified : Verified) × EndsVerify request verified × EndsCertificate request verified old new status
+    (verified : Verified) × EndsVerify request verified × EndsCertificate request.certificate verified old new status
 EndsRequest terminal (Sim request) old new status =
     (answered : Answered) × EndsSim request answered × EndsFiles request.files answered old new status
 EndsRequest terminal (Run request) old new status =

@@ -1,8 +1,8 @@
 //! The files of a trace.
 
-ghost use Rattle.std.specs.Prelude.{◌≡◌, ◌⊎◌, ◌++◌, [], ◌∷◌, IfOk, List, None, Option, string_bytes};
+ghost use Rattle.std.specs.Prelude.{◌≡◌, ◌++◌, [], ◌∷◌, IfOk, List, None, Option, string_bytes};
 ghost use Rattle.std.specs.Option.{option_map};
-ghost use Rattle.plc_main.specs.Files.{EndsFiles, FileText, due, files_due, with_files};
+ghost use Rattle.plc_main.specs.Files.{EndsCertificate, EndsFiles, FileText, due, files_due, with_files};
 ghost use Rattle.plc_main.specs.Steps.Replacing.{IsFreeName, IsReplacedBeside, name_beside};
 
 use crate::new_beside::NewBeside;
@@ -130,9 +130,7 @@ pub fn write_certificates<F: TextFiles>(
     file: Option<&str>,
     verified: Verified,
 ) -> io::Result<u8>
-    ensures { IfOk result (λ status.
-        (F.came to.new ≡ with_files (F.came to.old) (due file.entry (option_map (λ t. string_bytes t) verified.certificates)))
-        × ((status ≡ verified.status) ⊎ (status ≡ 3))) }
+    ensures { IfOk result (EndsCertificate file.entry verified (F.came to.old) (F.came to.new)) }
 {
     let Verified {
         status,

@@ -2,7 +2,7 @@
 use Rattle.std.proofs.Common.{codes, Some}
 use Rattle.lists.proofs.Results.{kept_fault}
 use Rattle.clap.specs.Words.{first_of, found_of, rows_of}
-use Rattle.console.specs.CommandLine.{AsksFor, AsksSecond, GivesNumber, GivesOption, GivesRestarts, GivesStrictness, OnlyMemoryRefuses, is_given}
+use Rattle.console.specs.CommandLine.{AsksCertificate, AsksFor, AsksSecond, GivesNumber, GivesOption, GivesRestarts, GivesStrictness, GivesWay, OnlyMemoryRefuses, is_given}
 use Rattle.console.proofs.Matching.{memory_refused, part_refused, verify_parts}
 use Rattle.console.proofs.command_words.verify_request.Goals as goal
 
@@ -50,3 +50,15 @@ returns-in_err-second_of-clause-refused c =
     let found = rows_of (found_of c.args.inner.now) in
     kept_fault c.in_err-second_of.field-0.0 (OnlyMemoryRefuses (AsksFor (Some (codes "verify", rows_of (found_of c.args.inner.now))))) _ c.from_residual-in_err-second_of.ensures.1
     (part_refused (AsksFor (Some (codes "verify", rows_of (found_of c.args.inner.now)))) (AsksSecond found) c.in_err-second_of.field-0.0 (λ r asked. let parts = verify_parts found r asked in (parts.10, parts.11)) c.in_err-second_of.ensures.refused)
+
+pub returns-in_err-way_of-clause-refused : goal.returns-in_err-way_of-clause-refused
+returns-in_err-way_of-clause-refused c =
+    let found = rows_of (found_of c.args.inner.now) in
+    kept_fault c.in_err-way_of.field-0.0 (OnlyMemoryRefuses (AsksFor (Some (codes "verify", rows_of (found_of c.args.inner.now))))) _ c.from_residual-in_err-way_of.ensures.1
+    (part_refused (AsksFor (Some (codes "verify", rows_of (found_of c.args.inner.now)))) (GivesWay (first_of (codes "by") found)) c.in_err-way_of.field-0.0 (λ r asked. let parts = verify_parts found r asked in (parts.12, parts.13)) (rw c.word_of-2.ensures at c.in_err-way_of.ensures.refused))
+
+pub returns-in_err-certificate_of-clause-refused : goal.returns-in_err-certificate_of-clause-refused
+returns-in_err-certificate_of-clause-refused c =
+    let found = rows_of (found_of c.args.inner.now) in
+    kept_fault c.in_err-certificate_of.field-0.0 (OnlyMemoryRefuses (AsksFor (Some (codes "verify", rows_of (found_of c.args.inner.now))))) _ c.from_residual-in_err-certificate_of.ensures.1
+    (part_refused (AsksFor (Some (codes "verify", rows_of (found_of c.args.inner.now)))) (AsksCertificate found) c.in_err-certificate_of.field-0.0 (λ r asked. let parts = verify_parts found r asked in (parts.14, parts.15)) c.in_err-certificate_of.ensures.refused)
