@@ -270,7 +270,7 @@ fn by_arg<'a>(alloc: Global) -> Arg<'a>
         alloc,
         "by",
         "WAY",
-        "Of a drawing: how claims are looked at, by states, one by one, or by induction, for many of them [default: states]",
+        "Of a drawing: whether each state is looked at (states), or clauses that hold in all (induction) [default: states]",
     )
 }
 
@@ -282,7 +282,7 @@ fn certificate_arg<'a>(alloc: Global) -> Arg<'a>
         alloc,
         "certificate",
         "FILE",
-        "With --by induction: writes why claims hold to FILE, a line for each clause",
+        "With --by induction: writes why claims hold to FILE, each clause a line",
     )
 }
 

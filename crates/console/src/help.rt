@@ -76,8 +76,8 @@ unless a word NAME=BIT holds it at 0 or 1. An INT or TIME that nothing stores is
 a rung: draw a coil that turns ON where what must not happen has happened. --given NAME leaves out all runs in which a scan
 leaves NAME FALSE: what is known of the inputs is a rung, too.
 Looked at are the networks that store what claims and givens read, those that store what these read, and so on; of the inputs
-that they read at most 20 may be free. Each scan comes --dt MS after the one before; a drawing with a timer (TON, TOF, TP)
-needs it, above 0. With --restarts it may restart before any scan, as plc eval --restart has it.
+that they read at most 20 may be free, with --by induction any number. Each scan comes --dt MS after the one before; a drawing
+with a timer (TON, TOF, TP) needs it, above 0. With --restarts it may restart before any scan, as plc eval --restart has it.
 
 A line is written for each claim, in the order given:
 
@@ -100,15 +100,21 @@ Example:
 
 With --with FILE the rungs of a second drawing stand behind the first's, as claims; they store at none of its names.
 
-With --by induction claims are looked at by clauses over state bits (a bit for each BOOL, SR, RS and memory of an edge, 16 for an
-INT, 32 for a TIME) that hold before the first scan and after each scan, however many states and free inputs there are:
+With --by induction clauses over state bits are looked for that hold before the first scan and after each scan, and from which
+the claim follows, however many states and free inputs there are:
 
-  HOLDS      such clauses were found and checked; how many, and how many of the bits they name
+  HOLDS      such clauses were found and checked; how many, and how many of the bits they name; or that no run meets what
+             is given
   FAILS      a run was found and done; a shorter one may break the claim, too
-  UNDECIDED  the search ended, and found neither
+  UNDECIDED  the search ended, and found neither; the claim is broken in no run of so many scans or fewer
 
---certificate FILE writes them, a line for each: not (LIFT and LOWER). C.CV.3 is bit 3 of the count of C (the lowest one is 0), and
-X at 12:5 what the edge of X in row 12, column 5 remembers.
+--certificate FILE writes the clauses, a line for each: not (LIFT and LOWER). C.CV.3 is bit 3 of the count of C (the lowest one is
+0), and X at 12:5 what the edge of X in row 12, column 5 remembers.
+
+Example, for a drawing whose coils LIFT and LOWER are set and reset:
+
+  $ plc verify latched.ladder --never CLASH --by induction --certificate why
+  HOLDS CLASH is never on: by induction, 1 clause over 2 of 6 bits
 
 With --program P the file is a plant, and the names are variables of its program type P, tried by its declarations. An input
 is a BOOL that nothing stores, of whatever section.
@@ -132,7 +138,7 @@ as there.
 
 The exit status is 0 if all claims hold; 4 if one fails; 5 if none fails and one is undecided; 1 if the text of the file
 is refused, with FILE:LINE:COLUMN: Kind on standard error, or with --strict where all hold and there is a warning; 2 if a
-word is refused; 3 if the file can't be read, the output
+word is refused; 3 if the file can't be read, the output or a file
 can't be written or there is no memory left.";
 
 /// What `plc check --help` tells behind the words.
