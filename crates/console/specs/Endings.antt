@@ -1,6 +1,7 @@
 -- How commands end: with which status, and with which texts for the files of a trace. What stood in a file no contract can
 -- say, so that is some text.
-use Rattle.std.specs.Prelude.{◌≡◌, ◌⊎◌, ℕ, if◌then◌else◌, List, Bool, bytes_eq, codes, Option, Some, None, Result, Ok, Err, MatchResult, unwrap_or}
+use Rattle.std.specs.Prelude.{◌≡◌, ◌⊎◌, ℕ, if◌then◌else◌, List, Bool, bytes_eq, codes, Option, Some, None, Result, Ok, Err, String, MatchResult, string_bytes, unwrap_or}
+use Rattle.std.specs.Global.{Global}
 use Rattle.std.specs.Borrow.{Bor}
 use Rattle.std.specs.Option.{is_some}
 use Rattle.clap.specs.declared.error.kind.ErrorKind.{ErrorKind}
