@@ -33,7 +33,7 @@ const PACES_REFUSED: &str = "--paced and --clock can't be given both";
 
 const SECOND_REFUSED: &str = "--with and --program can't be given both";
 
-const CERTIFICATE_REFUSED: &str = "--certificate needs --by induction";
+const CERTIFICATE_REFUSED: &str = "--certificate is of --by induction: give that, too";
 
 const SIZE_REFUSED: &str = "N of --journal-size is a number from 4096 to 4294967295";
 
