@@ -25,8 +25,8 @@ use crate::request::{VerifyRequest, Way};
 use crate::shell_word::shell_word;
 use crate::status::{CLAIM_FAILS, DONE, UNDECIDED, WORD_REFUSED};
 use crate::warned::{warn_of_a_ladder, warn_of_a_plant};
-use guidance::Meant;
 use certified_claims::{CertifiedAnswer, certify_text};
+use guidance::Meant;
 use std::alloc::{AllocError, Global};
 use std::io;
 use std::io::Write;
@@ -434,7 +434,14 @@ fn answer_by_induction<R: Clock + Print + Eprint + AllocGlobal>(
         return Ok(Verified::with(print_failure(rt, CommandFault::Memory)?));
     };
     let mut writer = Piped::new(io::writer(rt));
-    let answered = obey_certify(rt.alloc(), request, file.as_str(), text, second, &mut writer);
+    let answered = obey_certify(
+        rt.alloc(),
+        request,
+        file.as_str(),
+        text,
+        second,
+        &mut writer,
+    );
     let (answered, certificates) = parted(answered);
     let status = tell_verdicts(rt, request, text, second, writer.is_closed, answered)?;
     Ok(Verified {

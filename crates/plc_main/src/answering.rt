@@ -11,9 +11,9 @@ use crate::trace_files::{TextFiles, write_certificates, write_files};
 use crate::used_files::files_of;
 use crate::{answer_audit, answer_run};
 use console::{
-    Request, RunRequest, SimRequest, TextRequest, VerifyRequest, WordRefusal, answer_kind, answer_kinds,
-    answer_page, answer_schedule, answer_text, answer_verify, print_usage, print_word_refusal,
-    read_words,
+    Request, RunRequest, SimRequest, TextRequest, VerifyRequest, WordRefusal, answer_kind,
+    answer_kinds, answer_page, answer_schedule, answer_text, answer_verify, print_usage,
+    print_word_refusal, read_words,
 };
 use node_loop::ReaderEnds;
 use std::io;

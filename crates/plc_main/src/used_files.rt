@@ -253,8 +253,6 @@ pub fn files_of<'a, R: Files>(
         Request::Run(request) => files_of_run(rt, alloc, request),
         Request::Node(request) => files_of_node(rt, alloc, request),
         Request::Verify(request) => files_of_verify(rt, alloc, request),
-        Request::Explain(_) | Request::Page(_) | Request::Audit(_) => {
-            Ok(Vec::new(alloc))
-        }
+        Request::Explain(_) | Request::Page(_) | Request::Audit(_) => { Ok(Vec::new(alloc)) }
     }
 }
