@@ -43,9 +43,10 @@ def plc(words):
     return subprocess.run([PLC, *words], **how)
 
 
-def ask(words, *wanted, names, networks="", given="", status=None, warned=""):
+def ask(words, *wanted, names, networks="", given="", unmet="", status=None, warned=""):
     """Asks claims with these words. A verdict that is wanted is `HOLDS NAME`, `FAILS NAME` or `FAILS NAME N`, where no run of fewer than N
-    scans breaks it; `names` are the bits, `networks` and `given` what is told at the end of a line and as the last one."""
+    scans breaks it; `names` are the bits, `networks` and `given` what is told at the end of a line and as the last one; `unmet` is what no
+    run meets."""
     asked = ["verify", *shlex.split(words), "--by", "induction", "--certificate", "why.txt"]
     ran = plc(asked)
     certificates = read("why.txt")
@@ -60,7 +61,7 @@ def ask(words, *wanted, names, networks="", given="", status=None, warned=""):
         if not line.startswith(f"{kind} {name} "):
             faults.append(f"no {verdict}")
         elif kind == "HOLDS":
-            faults += faults_of_holds(name, line, run, names, networks, certificates)
+            faults += faults_of_holds(name, line, run, names, networks, unmet, certificates)
         else:
             faults += faults_of_fails(name, line, run, int((least or ["1"])[0]), given)
     faults += lines + certificates
@@ -90,22 +91,24 @@ def taken(lines):
     return found
 
 
-def faults_of_holds(name, line, run, names, networks, certificates):
-    found = re.fullmatch(r"HOLDS \S+ is never on: by induction, (\d+) clauses? over (\d+) of (\d+) bits?(.*)", line)
-    if not found or run:
-        return [line, *run]
-    clauses, named, all_bits = map(int, found.groups()[:3])
-    faults = [] if all_bits == len(names) and found[4] == networks else [f"{line}: {len(names)} bits, not {all_bits}{networks}"]
-    head = f"{name} is never on: {clauses} clause{'s' * (clauses != 1)}"
-    rows, certificates[:] = certificates[: clauses + 1], certificates[clauses + 1 :]
-    if rows[:1] != [head] or len(rows) != clauses + 1:
-        return [*faults, f"certificate {rows}"]
-    inner = [re.fullmatch(r"not \((.+)\)", it) for it in rows[1:]]
-    if not all(inner):
-        return [*faults, f"certificate {rows}"]
-    in_them = {bit.removeprefix("not ") for it in inner for bit in it[1].split(" and ")}
-    faults += [] if len(in_them) == named and in_them <= set(names) else [f"{named} bits, and these are {sorted(in_them)}"]
-    return faults
+def faults_of_holds(name, line, run, names, networks, unmet, certificates):
+    """Where no run meets what is given this is told in place of how large a certificate is, which is written all the same."""
+    head = re.fullmatch(r"(\S+) is never on: (\d+) clauses?", certificates.pop(0) if certificates else "")
+    if not head or head[0] != f"{name} is never on: {counted(int(head[2]), 'clause')}":
+        return [f"no certificate of {name}"]
+    rows, certificates[:] = certificates[: int(head[2])], certificates[int(head[2]) :]
+    inner = [re.fullmatch(r"not \((.+)\)", it) for it in rows]
+    if len(rows) != int(head[2]) or not all(inner):
+        return [f"certificate {rows}"]
+    named = {bit.removeprefix("not ") for it in inner for bit in it[1].split(" and ")}
+    size = f"by induction, {counted(len(rows), 'clause')} over {len(named)} of {counted(len(names), 'bit')}{networks}"
+    wanted = [f"HOLDS {name} is never on: {f'no run meets {unmet}' if unmet else size}"]
+    faults = [] if [line, *run] == wanted else [f"not {wanted[0]}", line, *run]
+    return faults + [f"{it} is no bit" for it in sorted(named - set(names))]
+
+
+def counted(count, what):
+    return f"{count} {what}" + "s" * (count != 1)
 
 
 def faults_of_fails(name, line, run, least, given):

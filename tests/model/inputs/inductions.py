@@ -10,7 +10,7 @@ from dataclasses import dataclass
 from rules import words
 from rules.commands import SHAPES, Files, Refused, answer_of, looked_at, question_of_drawing, read_words
 from rules.scan import State
-from rules.verify import Row, copied, counted, networks_told
+from rules.verify import Row, copied, counted, given_names, networks_told
 from rules.words import Duration
 
 from .claims import Texts, claims
@@ -38,7 +38,9 @@ REFUSED = [
 SIZES = {"BOOL": [""], "INT": [f".{k}" for k in range(16)], "TIME": [f".{k}" for k in range(32)]}
 COUNT, TIMER = [f".CV.{k}" for k in range(16)], [".IN", ".Q", *(f".ET.{k}" for k in range(32))]
 BLOCKS = {"SR": [".Q1"], "RS": [".Q1"], "CTU": [".CU", ".Q", *COUNT], "CTD": [".CD", ".Q", *COUNT], "CTUD": [".CU", ".CD", ".QU", ".QD", *COUNT]}
-HOLDS = re.compile(r"HOLDS (\S+) is never on: by induction, (\d+) clauses? over (\d+) of (\d+) bits?(?:, \d+ of \d+ networks)?")
+HOLDS = re.compile(r"HOLDS \S+ is never on: by induction, (\d+ clauses? over \d+) of \d+ bits?.*")
+UNFOUND = "UNDECIDED {} is not on within {}: by induction, no certificate and no run was found"
+UNDECIDED = re.compile(UNFOUND.format(r"\S+", r"(\d+) scans?"))
 CERTIFIED = re.compile(r"(\S+) is never on: (\d+ clauses?)")
 # How many runs are done, of how many scans, how many states are drawn, and how often one is changed until clauses hold of it.
 RUNS, SCANS, STATES, CHANGES = 12, 25, 40, 60
@@ -229,8 +231,15 @@ class Judge:
         elif lines[0].startswith(f"FAILS {name} "):
             found, faults = f"FAILS {name}", self.faults_of_fails(name, lines)
         else:
-            found, faults = lines[0], [] if lines == [f"UNDECIDED {name}: by induction, no certificate and no run was found"] else lines
+            found, faults = lines[0], self.faults_of_undecided(name, lines)
         return "; but ".join([found if is_known else verdict, *faults])
+
+    def faults_of_undecided(self, name, lines):
+        """No run of so many scans breaks it."""
+        told, shortest = UNDECIDED.fullmatch(lines[0]), self.asked.found.runs.get(words.fold(name))
+        if not told or len(lines) > 1 or lines[0] != UNFOUND.format(name, counted(int(told[1]), "scan")):
+            return lines
+        return [f"a run of {len(shortest)} scans breaks it"] if shortest and len(shortest) <= int(told[1]) else []
 
     # Runs.
 
@@ -259,24 +268,25 @@ class Judge:
     # Certificates.
 
     def faults_of_holds(self, name, lines):
+        """Where no run meets what is given this is told in place of how large a certificate is, which is written all the same."""
+        found, names = self.asked.found, bit_names(self.asked.found.ladder)
+        rows = self.certificates.pop(0) if self.certificates else []
+        clauses = [clause_of(it) for it in rows[1:]]
+        named = {name for it in clauses for name, _ in it.bits}
         told = HOLDS.fullmatch(lines[0])
-        if not told or len(lines) > 1:
-            return lines
-        clauses, named, bits = map(int, told.groups()[1:])
-        names = bit_names(self.asked.found.ladder)
-        looked = f"{counted(clauses, 'clause')} over {named} of {counted(len(names), 'bit')}{networks_told(self.asked.found)}"
-        if lines[0] != f"HOLDS {name} is never on: by induction, {looked}" or named > len(names):
-            return [f"{lines[0]}, and there are {len(names)} bits{networks_told(self.asked.found)}"]
+        if found.depth is None and not found.is_met:
+            wanted = f"HOLDS {name} is never on: no run meets {', '.join(given_names(self.asked.question))}"
+        elif self.certificates is not None:
+            wanted = f"HOLDS {name} is never on: by induction, {counted(len(clauses), 'clause')} over {len(named)} of {counted(len(names), 'bit')}{networks_told(found)}"
+        else:
+            wanted = f"HOLDS {name} is never on: by induction, {told and told[1]} of {counted(len(names), 'bit')}{networks_told(found)}"
+        if lines != [wanted]:
+            return [*lines, f"not {wanted}"]
         if self.certificates is None:
             return self.faults_of_clauses(name, [])
-        head, *rows = self.certificates.pop(0) if self.certificates else ["nothing"]
-        if head != f"{name} is never on: {counted(clauses, 'clause')}" or len(rows) != clauses:
-            return [f"its certificate is {head} with {len(rows)} lines"]
-        found = [clause_of(it) for it in rows]
-        in_them = {name for it in found for name, _ in it.bits}
-        if len(in_them) != named or not in_them <= set(names):
-            return [f"its clauses name {len(in_them)} bits, {sorted(in_them - set(names))}"]
-        return self.faults_of_clauses(name, found, True)
+        if rows[:1] != [f"{name} is never on: {counted(len(clauses), 'clause')}"] or not named <= set(names):
+            return [f"its certificate is {rows}"]
+        return self.faults_of_clauses(name, clauses, True)
 
     def faults_of_clauses(self, name, clauses, are_all=False):
         """What is wrong with clauses, by runs from the first state, and by a scan from drawn states of which they hold, where these are all

@@ -16,6 +16,7 @@ ask("hoist_bug.ladder --never CLASH UP=0", "HOLDS CLASH", names=NAMES, given="UP
 ask("hoist_lever.ladder --never CLASH", "FAILS CLASH 1", names=LEVER, networks=", 3 of 4 networks")
 ask("hoist_lever.ladder --never CLASH --given ONE", "HOLDS CLASH", names=LEVER, given="ONE")
 ask("hoist_lever.ladder --never LIFT --given ONE", "FAILS LIFT", names=LEVER, given="ONE", networks=", 2 of 4 networks")
-# No run meets ONE and CLASH: what is told by induction doesn't say so.
-ask("hoist_lever.ladder --never CLASH --never LIFT --given ONE --given clash", "HOLDS CLASH", "HOLDS LIFT", names=LEVER, given="ONE, CLASH")
+# No run meets ONE and CLASH.
+ask("hoist_lever.ladder --never CLASH --never LIFT --given ONE --given clash", "HOLDS CLASH", "HOLDS LIFT", names=LEVER, given="ONE, CLASH", unmet="ONE, CLASH")
+ask("hoist_lever.ladder --never LIFT --given CLASH STOP=1", "HOLDS LIFT", names=LEVER, given="STOP=1, CLASH", unmet="CLASH", networks=", 3 of 4 networks")
 done()
