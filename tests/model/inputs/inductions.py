@@ -167,8 +167,8 @@ def judged_induction(given, folder, written, who):
     """The verdicts, whether what is told behind them is so, and what they depend on; the program's file of certificates isn't left."""
     if not written:
         return written
-    names = [it for it in os.listdir(folder) if it in ("it.ladder", "it.plant", "second.ladder")]
-    asked = asked_of(Texts(tuple((it, Files(folder).text(it)) for it in sorted(names)), folder), tuple(given))
+    names = sorted(it for it in os.listdir(folder) if it.endswith((".ladder", ".plant")))
+    asked = asked_of(Texts(tuple((it, Files(folder).text(it)) for it in names), folder), tuple(given))
     claimed, told = claimed_in(given), written.splitlines()
     if who == "model":
         return "".join(f"{it}\n" for it in [*map(asked.verdict, claimed), *premises_in(told)])
