@@ -67,12 +67,12 @@ class Shape:
 COLORS = ("always", "auto", "never")
 MOST_SCANS = 1_000_000
 LEAST_SIZE = 4096
+# So many scans are looked at in place of an induction.
+MOST_BY_INDUCTION = 6000
 WARNING_FLAGS = ("--strict", "--no-warnings")
-WRITTEN = ("--vcd", "--svg", "--state", "--journal")
-
 SHAPES = {
     "eval": Shape(1, ("--dt",), {"--color": COLORS}, ("--vcd", "--svg", "--program", "--with"), ("--show", "--chart", *WARNING_FLAGS), scans=("--restart",), has_more=True),
-    "verify": Shape(1, ("--dt", "--most-states", "--most-waiting"), names=("--program", "--with"), flags=("--restarts", "--no-restarts", *WARNING_FLAGS), lists=("--never", "--given"), needed=("--never",), has_more=True),
+    "verify": Shape(1, ("--dt", "--most-states", "--most-waiting"), {"--by": ("states", "induction")}, ("--program", "--with", "--certificate"), flags=("--restarts", "--no-restarts", *WARNING_FLAGS), lists=("--never", "--given"), needed=("--never",), has_more=True),
     "check": Shape(1, flags=WARNING_FLAGS),
     "plan": Shape(1, numbers=("--until",), flags=("--schedule",), needed=("--until",)),
     "sim": Shape(2, numbers=("--max-number",), names=("--vcd", "--svg")),
@@ -123,7 +123,7 @@ def read_words(shape, given):
             elif option in shape.choices:
                 options[option] = one_of(shape.choices[option], value)
             elif option in shape.names:
-                options[option] = name_written(value) if option in WRITTEN else value
+                options[option] = name_written(value) if option in NO_SIGN_ALONE else value
             else:
                 raise Refused(REFUSED_WORDS)
     if len(plain) < shape.files or (len(plain) > shape.files and not shape.has_more) or not set(shape.needed) <= set(options):
@@ -131,7 +131,8 @@ def read_words(shape, given):
     return plain[: shape.files], options, plain[shape.files :]
 
 
-WRITTEN = ("--vcd", "--svg", "--journal")
+WRITTEN = ("--vcd", "--svg", "--journal", "--certificate")
+NO_SIGN_ALONE = (*WRITTEN, "--state")
 # What the files of a folder of state are called.
 OF_STATE = (".inc", ".ret", ".lock", ".tmp")
 
@@ -421,14 +422,20 @@ def verify(write, files, paths, options, more):
     """Names without a dot make the file a drawing, others a plant."""
     if set(WARNING_FLAGS) <= set(options) or {"--restarts", "--no-restarts"} <= set(options):
         raise Refused(REFUSED_WORDS)
+    if "--certificate" in options and not is_by_induction(options):
+        raise Refused(REFUSED_WORDS)
     names = [name for claim in options["--never"] for name in claim.split(",")]
     are_dotted = {"." in it for it in [*names, *options.get("--given", ())]}
-    if are_dotted == {True} and not {"--program", "--with"} & set(options):
+    if are_dotted == {True} and not {"--program", "--with"} & set(options) and not is_by_induction(options):
         verify_plants(write, files, paths[0], options, more)
     elif are_dotted == {False} and not OF_PLANTS & set(options):
         verify_drawing(write, files, paths, options, more)
     else:
         raise Refused(REFUSED_WORDS)
+
+
+def is_by_induction(options):
+    return options.get("--by") == "induction"
 
 
 def verify_plants(write, files, path, options, more):
@@ -468,14 +475,28 @@ def question_of(plant, options, more):
 def verify_drawing(write, files, paths, options, more):
     tried = files.tried(paths[0], options)
     question = question_of_drawing(tried.ladder, options, more, tried.kept)
-    found = Search(question, question.part(), options.get("--most-states", MOST_STATES)).search()
+    found = looked_at(question, options)
     for name in options["--never"]:
-        for line in verdict_lines(found, name, tried.eval_words):
+        for line in told_of_claim(found, name, tried.eval_words, options):
             write(line)
     if told := premises(question):
         write("given " + ", ".join(told))
     warnings = tried.warnings(question.elapsed)
     end_with_warnings(paths[0], warnings, options, CLAIM_FAILS if found.runs else UNDECIDED if found.depth is not None else 0)
+
+
+def looked_at(question, options):
+    """All states, as far as is asked; by induction, which asks for no bound, as far as this doesn't take long."""
+    part = question.part()
+    most = MOST_BY_INDUCTION >> question.width_in(part) if is_by_induction(options) else options.get("--most-states", MOST_STATES)
+    return Search(question, part, most).search()
+
+
+def told_of_claim(found, name, path, options):
+    """What is told of a claim. How claims hold by induction isn't told here, nor is any verdict where too many states are left."""
+    if not is_by_induction(options) or words.fold(name) in found.runs:
+        return verdict_lines(found, name, path)
+    return [f"HOLDS {name} is never on: by induction" if found.depth is None else f"{name}: HOLDS, FAILS or UNDECIDED"]
 
 
 def question_of_drawing(ladder, options, more, kept):
@@ -491,7 +512,7 @@ def question_of_drawing(ladder, options, more, kept):
     if stored & set(held) or not {*claims, *given} <= stored & set(bits) or not is_timed:
         raise Refused(REFUSED_WORDS)
     question = Question(ladder, options.get("--dt", 0), free, held, claims, given, kept if "--restarts" in options else None)
-    if len(question.free_in(question.part())) > MOST_INPUTS:
+    if len(question.free_in(question.part())) > MOST_INPUTS and not is_by_induction(options):
         raise Refused(REFUSED_WORDS)
     return question
 
