@@ -11,3 +11,4 @@ pub mod Truths
 pub mod NotOn
 pub mod Never
 pub mod Leading
+pub mod NeverOn

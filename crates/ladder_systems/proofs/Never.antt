@@ -1,5 +1,5 @@
 -- Where a system of state bits does what something else does, and is never bad, that is never bad.
-use Rattle.std.proofs.Common.{◌≡◌, ℕ, List, [], ◌∷◌, Bool, true, false, length, sym, ◌∙◌, subst}
+use Rattle.std.proofs.Common.{◌≡◌, ℕ, ◌<◌, List, [], ◌∷◌, Bool, true, false, length, sym, ◌∙◌, subst, arith}
 use Rattle.std.proofs.lemmas.List.{length-map}
 use Rattle.std.specs.Global.{Vec}
 use Rattle.clauses.specs.declared.literal.Literal.{Literal}
@@ -7,7 +7,7 @@ use Rattle.transition_systems.specs.Certificates.{AreInductive, HoldOf}
 use Rattle.gates.specs.Signals.{signal_value}
 use Rattle.gates.specs.Gates.{Agrees}
 use Rattle.transition_systems.specs.declared.system.TransitionSystem.{TransitionSystem}
-use Rattle.transition_systems.specs.Systems.{bits_at, NeverBadFrom, NeverBad, IsWhole}
+use Rattle.transition_systems.specs.Systems.{bits_at, NeverBadFrom, IsWhole}
 
 -- the rows lead from one state to the other, each by a step after which what is given is so
 abbrev pub Leads : (M : Type 0) → (List Bool → M → M → Type 0) → (M → Type 0) → M → List (List Bool) → M → Type 0
@@ -50,7 +50,7 @@ off_after M Steps Given Bad t before after one wide step goes given claim whole 
     off_after M Steps Given Bad t before after one wide step goes given claim whole rows next (bits_at v t.next.items) between last
     (subst Stand (sym is) (goes v agrees)) (length-map t.next.items (signal_value v) ∙ whole.next_fits) rest leads bad
 
--- so it is after any rows, if it isn't bad at first
+-- so it is after some rows under which the system is never bad, if it isn't bad at first
 pub never_bad : (M : Type 0) (Steps : List Bool → M → M → Type 0) (Given Bad : M → Type 0) (t : TransitionSystem) (before after : (ℕ → Bool) → M) (first : M)
     → ((row : List Bool) (s a b : M) → Steps row s a → Steps row s b → a ≡ b)
     → ((row : List Bool) (s a : M) → Steps row s a → length row ≡ length t.inputs.items)
@@ -58,11 +58,12 @@ pub never_bad : (M : Type 0) (Steps : List Bool → M → M → Type 0) (Given B
     → ((v : ℕ → Bool) → Agrees v t.gates → StandFor M t before (bits_at v t.next.items) (after v))
     → ((v : ℕ → Bool) → Agrees v t.gates → Given (after v) → signal_value v t.constraint ≡ true)
     → ((v : ℕ → Bool) → Agrees v t.gates → Bad (after v) → signal_value v t.bad ≡ true)
-    → IsWhole t → StandFor M t before t.first.items first → (Bad first → ⊥) → NeverBad t
-    → (rows : List (List Bool)) (last : M) → Leads M Steps Given first rows last → Bad last → ⊥
-never_bad M Steps Given Bad t before after first one wide step goes given claim whole stand off never [] last same bad = off (subst Bad (sym same) bad)
-never_bad M Steps Given Bad t before after first one wide step goes given claim whole stand off never (row ∷ rows) last leads bad =
-    off_after M Steps Given Bad t before after one wide step goes given claim whole rows row t.first.items first last stand whole.first_fits (never (row ∷ rows)) leads bad
+    → StandFor M t before t.first.items first → (Bad first → ⊥) → (rows : List (List Bool)) → (0 < length rows → IsWhole t) → NeverBadFrom t t.first.items rows
+    → (last : M) → Leads M Steps Given first rows last → Bad last → ⊥
+never_bad M Steps Given Bad t before after first one wide step goes given claim stand off [] is never last same bad = off (subst Bad (sym same) bad)
+never_bad M Steps Given Bad t before after first one wide step goes given claim stand off (row ∷ rows) is never last leads bad =
+    let whole : IsWhole t = is (omega arith) in
+    off_after M Steps Given Bad t before after one wide step goes given claim whole rows row t.first.items first last stand whole.first_fits never leads bad
 
 -- where clauses are inductive, they hold of bits that stand for what rows lead to
 pub held_after : (M : Type 0) (Steps : List Bool → M → M → Type 0) (Given : M → Type 0) (t : TransitionSystem) (before after : (ℕ → Bool) → M) (clauses : List (Vec Literal))

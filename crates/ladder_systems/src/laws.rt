@@ -1,13 +1,13 @@
-ghost use Rattle.std.specs.Prelude.{ℕ, Bool, List};
+ghost use Rattle.std.specs.Prelude.{◌<◌, ℕ, Bool, List};
 ghost use Rattle.std.specs.Global.{Vec};
 ghost use Rattle.clauses.specs.declared.literal.Literal.{Literal};
 ghost use Rattle.power_flow.specs.Meaning.{Moment};
 ghost use Rattle.power_flow.specs.Scan.{AllAreWide};
 ghost use Rattle.transition_systems.specs.declared.system.TransitionSystem.{TransitionSystem};
 ghost use Rattle.transition_systems.specs.Certificates.{AreInductive};
-ghost use Rattle.transition_systems.specs.Systems.{IsWhole, NeverBad};
+ghost use Rattle.transition_systems.specs.Systems.{IsWhole, NeverBad, NeverBadWithin};
 ghost use Rattle.verifying.specs.Runs.{Runs, SetupValue};
-ghost use Rattle.verifying.specs.Verdicts.{Never};
+ghost use Rattle.verifying.specs.Verdicts.{Never, NeverWithin};
 ghost use Rattle.ladder_systems.specs.LadderSystems.{HoldOfMoment, IsSystemOf};
 
 /// Clauses that are inductive in the system of a setup hold of what any run leads to.
@@ -23,6 +23,14 @@ pub fn clauses_hold_of_runs()
 pub fn never_bad_is_never()
     ensures { (u : SetupValue) (place : ℕ) (t : TransitionSystem) → AllAreWide u.ladder.networks
         → IsSystemOf u place t → IsWhole t → NeverBad t → Never u place }
+{
+    power_flow::one_scan();
+}
+
+/// Where it is never bad under so many rows or fewer, no run of so many scans or fewer sets the variable.
+pub fn never_bad_within_is_never_within()
+    ensures { (u : SetupValue) (place : ℕ) (t : TransitionSystem) (depth : ℕ) → AllAreWide u.ladder.networks
+        → IsSystemOf u place t → (0 < depth → IsWhole t) → NeverBadWithin t depth → NeverWithin u depth place }
 {
     power_flow::one_scan();
 }

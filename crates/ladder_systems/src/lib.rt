@@ -13,6 +13,6 @@ mod state_signals;
 mod systems;
 mod variables;
 
-pub use laws::{clauses_hold_of_runs, never_bad_is_never};
+pub use laws::{clauses_hold_of_runs, never_bad_is_never, never_bad_within_is_never_within};
 pub use remembering::{is_edge_coil, is_edge_contact};
 pub use systems::system_of;

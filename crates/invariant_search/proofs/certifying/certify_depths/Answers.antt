@@ -4,8 +4,8 @@ use Rattle.transition_systems.specs.declared.certificate.Certificate.{Certificat
 use Rattle.transition_systems.specs.Systems.{NeverBadWithin}
 use Rattle.invariant_search.proofs.certifying.certify_depths.Goals as goal
 
-pub returns : goal.returns
-returns c =
+pub returns-clause-never : goal.returns-clause-never
+returns-clause-never c =
     subst (λ (n : ℕ). NeverBadWithin c.args.system.now n)
     (ap (λ (cs : List Certificate). length cs) c.as_slice.ensures.value
     ∙ ap (λ (cs : List Certificate). length cs) c.reverse.ensures.items
