@@ -30,9 +30,10 @@ IsOpen (Holds certified) = ⊥
 IsOpen (Fails rows) = ⊥
 IsOpen (Undecided depth) = Unit {0}
 
--- A text that answers the question by induction: the ladder with its inputs, the claims at their places, what is looked at in
--- its place, how much that is and whether a run meets what is given, and a verdict for each claim that is proved of all runs
--- of the whole ladder; their texts, and behind them a line of what the answers depend on. Beside it the certificates, in words of what is looked at; and what comes of all claims.
+-- A text that answers the question by induction: the ladder with its inputs, the claims at their places, what is looked at
+-- in its place, how much that is and whether a run meets what is given, and a verdict for each claim that is proved of all
+-- runs of the whole ladder; their texts, and behind them a line of what the answers depend on. Beside it the certificates,
+-- in words of what is looked at; and what comes of all claims.
 pub record IsCertifiedAnswer (source : SourceValue) (q : QuestionValue) (text certificates : List ℕ) (summary : Summary) : Type 0 where
   pub setup : SetupValue
   pub idle : List Bool

@@ -32,7 +32,8 @@ holds_line u scope name size = codes "HOLDS " ++ name ++ codes " is never on" ++
 -- neither a certificate nor a run was found
 abbrev pub undecided_line : List ℕ → ℕ → List ℕ
 undecided_line name depth =
-    codes "UNDECIDED " ++ name ++ codes " is not on within " ++ counted depth (codes "scan") ++ codes ": by induction, no certificate and no run was found\n"
+    codes "UNDECIDED " ++ name ++ codes " is not on within " ++ counted depth (codes "scan")
+    ++ codes ": by induction, no certificate and no run was found\n"
 
 -- the text of a verdict; a run that breaks a claim is written as it is without induction
 abbrev pub IsCertifiedText : SetupValue → List ℕ → Scope → List ℕ → CertifiedVerdict → List ℕ → Type 0

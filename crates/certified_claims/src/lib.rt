@@ -1,6 +1,6 @@
-//! Claims of a ladder that are looked at by induction: a certificate is searched, and checked before anything is told, or a
-//! run, which is done before it is told. In this order: verdicts, how large a certificate is, runs, claims, whether a run
-//! meets what is given, their text, and what `plc verify --by induction` writes.
+//! Claims of a ladder that are looked at by induction: a certificate is searched, and checked before anything is told, or
+//! a run, which is done before it is told. In this order: verdicts, how large a certificate is, runs, claims, whether a
+//! run meets what is given, their text, and what `plc verify --by induction` writes.
 #![tactic(auto)]
 
 mod bit_names;
