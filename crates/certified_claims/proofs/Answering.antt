@@ -1,5 +1,5 @@
 -- Verdicts on claims, one after the other.
-use Rattle.std.proofs.Common.{◌≡◌, ◌<◌, ◌+◌, ◌++◌, ℕ, zero, suc, List, [], ◌∷◌, Bool, All, Some, length, get_or, slice_get, take, refl, sym, ap, ◌∙◌, subst}
+use Rattle.std.proofs.Common.{◌≡◌, ◌<◌, ◌+◌, ◌++◌, ℕ, List, [], ◌∷◌, All, Some, length, get_or, slice_get, take, sym, ap, ◌∙◌}
 use Rattle.std.specs.List.{AllByRecursion, AllZip}
 use Rattle.std.proofs.lemmas.List.Elements.{All-from_recursion}
 use Rattle.std.proofs.lemmas.List.{take_more}
@@ -36,7 +36,7 @@ certified_more u v places i d verdicts later verdict lt before is pushed =
 fits_one : (u v : SetupValue) (place : ℕ) (verdict : CertifiedVerdict) → IsCertified u v place verdict → FitsSetup u verdict
 fits_one u v place (Holds certified) is = tt
 fits_one u v place (Fails rows) is = rows_whole u rows.items (first u) is.last is.run
-fits_one u v place Undecided is = tt
+fits_one u v place (Undecided depth) is = tt
 
 each_fits : (u v : SetupValue) (places : List ℕ) (verdicts : List CertifiedVerdict) → AreCertified u v places verdicts → AllByRecursion (FitsSetup u) verdicts
 each_fits u v places [] are = tt

@@ -24,12 +24,3 @@ five_parts t a b c d e t1 t2 t3 t4 t5 p q r s w =
   where
     group : (t a b c d e : List ℕ) → ((((t ++ a) ++ b) ++ c) ++ d) ++ e ≡ t ++ (a ++ b ++ c ++ d ++ e)
     group t a b c d e = simp append_assoc
-
-pub six_parts : (t a b c d e f t1 t2 t3 t4 t5 t6 : List ℕ) → t1 ≡ t ++ a → t2 ≡ t1 ++ b → t3 ≡ t2 ++ c → t4 ≡ t3 ++ d → t5 ≡ t4 ++ e → t6 ≡ t5 ++ f
-    → t6 ≡ t ++ (a ++ b ++ c ++ d ++ e ++ f)
-six_parts t a b c d e f t1 t2 t3 t4 t5 t6 p q r s w x =
-    let whole : t6 ≡ (((((t ++ a) ++ b) ++ c) ++ d) ++ e) ++ f = x ∙ ap (λ y. y ++ f) (w ∙ ap (λ y. y ++ e) (s ∙ ap (λ y. y ++ d) (r ∙ ap (λ y. y ++ c) (q ∙ ap (λ y. y ++ b) p)))) in
-    whole ∙ group t a b c d e f
-  where
-    group : (t a b c d e f : List ℕ) → (((((t ++ a) ++ b) ++ c) ++ d) ++ e) ++ f ≡ t ++ (a ++ b ++ c ++ d ++ e ++ f)
-    group t a b c d e f = simp append_assoc

@@ -1,11 +1,13 @@
 -- Runs that are done scan by scan.
-use Rattle.std.proofs.Common.{◌≡◌, ◌<◌, ◌+◌, ◌++◌, ℕ, zero, suc, List, [], ◌∷◌, Bool, All, Some, length, get_or, slice_get, take, refl, sym, ap, ◌∙◌, subst}
+use Rattle.std.proofs.Common.{◌≡◌, ◌<◌, ◌+◌, ◌++◌, ℕ, List, [], ◌∷◌, Bool, length, get_or, take, refl, sym, subst, arith}
 use Rattle.std.proofs.lemmas.List.{take_more}
 use Rattle.std.specs.List.{AllByRecursion}
 use Rattle.std.proofs.lemmas.List.Elements.{All-from_recursion}
 use Rattle.power_flow.specs.Meaning.{Moment}
-use Rattle.verifying.specs.Runs.{Leads, SetupValue, StepsWith, first, width}
+use Rattle.verifying.specs.Runs.{IsOn, Leads, SetupValue, StepsWith, width}
+use Rattle.verifying.specs.Verdicts.{NeverWithin}
 use Rattle.verifying.specs.Steps.Adding.{AreWholeRows}
+use Rattle.ladder_systems.proofs.NotOn.{first_not_on}
 
 -- one more scan
 leads_more : (u : SetupValue) (rows : List (List Bool)) (row : List Bool) (s between t : Moment) → Leads u s rows between → StepsWith u row between t → Leads u s (rows ++ row ∷ []) t
@@ -24,3 +26,8 @@ rows_long u (r ∷ rows) s t (between, step, leads) = (step.scan.whole, rows_lon
 
 pub rows_whole : (u : SetupValue) (rows : List (List Bool)) (s t : Moment) → Leads u s rows t → AreWholeRows u rows
 rows_whole u rows s t leads = All-from_recursion (λ (row : List Bool). length row ≡ width u) rows (rows_long u rows s t leads)
+
+-- a run of no scans sets nothing
+pub never_at_once : (u : SetupValue) (place : ℕ) → NeverWithin u 0 place
+never_at_once u place [] s few same on = first_not_on u.ladder.declarations place (subst (λ m. IsOn m place) (sym same) on)
+never_at_once u place (row ∷ rows) s few run on = absurd (omega arith)

@@ -4,3 +4,4 @@ pub mod Joining
 pub mod Telling
 pub mod Summing
 pub mod Naming
+pub mod RunsMet

@@ -9,25 +9,26 @@ use Rattle.certified_claims.specs.CertifiedLines.AreCertifiedTexts.{none, more}
 use Rattle.certified_claims.specs.CertificateLines.{certificate_text, certificates_text}
 use Rattle.certified_claims.specs.Steps.Adding.{AddsCertifiedText}
 use Rattle.certified_claims.specs.declared.verdict.CertifiedVerdict.{CertifiedVerdict}
+use Rattle.certified_claims.specs.declared.verdict.Scope.{Scope}
 
 -- no text yet
-pub texts_none : (u : SetupValue) (file : List ℕ) (needed networks : ℕ) (text : List ℕ) → text ≡ [] → AreCertifiedTexts u file needed networks [] [] text
-texts_none u file needed networks text empty = subst (AreCertifiedTexts u file needed networks [] []) (sym empty) none
+pub texts_none : (u : SetupValue) (file : List ℕ) (scope : Scope) (text : List ℕ) → text ≡ [] → AreCertifiedTexts u file scope [] [] text
+texts_none u file scope text empty = subst (AreCertifiedTexts u file scope [] []) (sym empty) none
 
 -- the text of the next verdict
-pub texts_more : (u : SetupValue) (file : List ℕ) (needed networks : ℕ) (names : List (Bor (List ℕ))) (verdicts : List CertifiedVerdict) (k : ℕ) (d : Bor (List ℕ)) (e : CertifiedVerdict) (old new : List ℕ)
-    → k < length names → k < length verdicts → AreCertifiedTexts u file needed networks (take k (texts names)) (take k verdicts) old
-    → AddsCertifiedText u file needed networks (get_or names k d).now (get_or verdicts k e) old new
-    → AreCertifiedTexts u file needed networks (take (k + 1) (texts names)) (take (k + 1) verdicts) new
-texts_more u file needed networks names verdicts k d e old new inside also before adds =
+pub texts_more : (u : SetupValue) (file : List ℕ) (scope : Scope) (names : List (Bor (List ℕ))) (verdicts : List CertifiedVerdict) (k : ℕ) (d : Bor (List ℕ)) (e : CertifiedVerdict) (old new : List ℕ)
+    → k < length names → k < length verdicts → AreCertifiedTexts u file scope (take k (texts names)) (take k verdicts) old
+    → AddsCertifiedText u file scope (get_or names k d).now (get_or verdicts k e) old new
+    → AreCertifiedTexts u file scope (take (k + 1) (texts names)) (take (k + 1) verdicts) new
+texts_more u file scope names verdicts k d e old new inside also before adds =
     let long = length-map names (λ (w : Bor (List ℕ)). w.now) in
     let name = (get_or names k d).now in
     let within : k < length (texts names) = omega arith in
     let ns : take (k + 1) (texts names) ≡ take k (texts names) ++ name ∷ [] = take_more (texts names) k [] within ∙ ap (λ w. take k (texts names) ++ w ∷ []) (get_or-map (λ (w : Bor (List ℕ)). w.now) names k d [] inside) in
     let vs = take_more verdicts k e also in
-    subst (λ x. AreCertifiedTexts u file needed networks (take (k + 1) (texts names)) (take (k + 1) verdicts) x) (sym adds.added)
-    (subst (λ n. AreCertifiedTexts u file needed networks n (take (k + 1) verdicts) (old ++ adds.text)) (sym ns)
-    (subst (λ v. AreCertifiedTexts u file needed networks (take k (texts names) ++ name ∷ []) v (old ++ adds.text)) (sym vs)
+    subst (λ x. AreCertifiedTexts u file scope (take (k + 1) (texts names)) (take (k + 1) verdicts) x) (sym adds.added)
+    (subst (λ n. AreCertifiedTexts u file scope n (take (k + 1) verdicts) (old ++ adds.text)) (sym ns)
+    (subst (λ v. AreCertifiedTexts u file scope (take k (texts names) ++ name ∷ []) v (old ++ adds.text)) (sym vs)
     (more (take k (texts names)) name (take k verdicts) (get_or verdicts k e) old adds.text before adds.is)))
 
 -- certificates of one more claim

@@ -20,7 +20,7 @@ abbrev pub certificate_text : List (List ℕ) → List ℕ → CertifiedVerdict 
 certificate_text names name (Holds certified) = name ++ codes " is never on: "
     ++ counted certified.size.clauses (codes "clause") ++ codes "\n" ++ flat_map (clause_line names) certified.clauses.items
 certificate_text names name (Fails rows) = []
-certificate_text names name Undecided = []
+certificate_text names name (Undecided depth) = []
 
 -- those of several claims, one behind the other
 abbrev pub certificates_text : List (List ℕ) → List (List ℕ) → List CertifiedVerdict → List ℕ

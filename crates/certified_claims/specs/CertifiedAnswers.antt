@@ -1,12 +1,10 @@
 -- What `plc verify --by induction` writes.
-use Rattle.std.specs.Prelude.{◌≡◌, ◌⊎◌, ℕ, ◌++◌, List, Bool, Option, length}
-use Rattle.std.specs.List.{AllZip}
+use Rattle.std.specs.Prelude.{◌≡◌, ℕ, ◌++◌, List, Bool, Option}
 use Rattle.std.specs.Io.KnownBytes.{Appends, Keeps}
 use Rattle.text_lines.specs.Sending.{SendsLess}
 use Rattle.text_commands.specs.Sources.{SourceValue}
 use Rattle.text_commands.specs.declared.text_command_fault.TextCommandFault.TheVariants.{Text, Word, Write, Memory}
-use Rattle.verifying.specs.Needed.{IsSearched}
-use Rattle.verifying.specs.Premises.{AreConstants, IsTimed, premise_line, premises}
+use Rattle.verifying.specs.Premises.{premise_line, premises}
 use Rattle.verifying.specs.Preparing.{IsPrepared, RefusesPreparing}
 use Rattle.verifying.specs.Questions.{QuestionValue}
 use Rattle.verifying.specs.Runs.{SetupValue}
@@ -15,38 +13,40 @@ use Rattle.verifying.specs.declared.summary.Summary.{Summary}
 use Rattle.verifying.specs.declared.verify_fault.VerifyFault.{VerifyFault}
 use Rattle.verifying.specs.declared.verify_fault.VerifyFault.TheVariants.{Command, Claim, Given, Held, TooManyInputs, NoTime}
 use Rattle.certified_claims.specs.BitNames.{bit_names}
-use Rattle.certified_claims.specs.Certified.{AreCertified}
+use Rattle.certified_claims.specs.Certified.{AreCertified, IsMeeting}
 use Rattle.certified_claims.specs.CertificateLines.{certificates_text}
 use Rattle.certified_claims.specs.CertifiedLines.{AreCertifiedTexts}
 use Rattle.certified_claims.specs.declared.verdict.CertifiedVerdict.{CertifiedVerdict}
 use Rattle.certified_claims.specs.declared.verdict.CertifiedVerdict.TheVariants.{Holds, Fails, Undecided}
+use Rattle.certified_claims.specs.declared.verdict.Scope.{Scope}
 
 abbrev pub IsFailure : CertifiedVerdict → Type 0
 IsFailure (Holds certified) = ⊥
 IsFailure (Fails rows) = Unit {0}
-IsFailure Undecided = ⊥
+IsFailure (Undecided depth) = ⊥
 
 abbrev pub IsOpen : CertifiedVerdict → Type 0
 IsOpen (Holds certified) = ⊥
 IsOpen (Fails rows) = ⊥
-IsOpen Undecided = Unit {0}
+IsOpen (Undecided depth) = Unit {0}
 
--- A text that answers the question by induction: the ladder with its inputs, the claims at their places, what is looked at in
--- its place, and a verdict for each claim that is proved of all runs of the whole ladder; their texts, and behind them a line
--- of what the answers depend on. Beside it the certificates, in words of what is looked at; and what comes of all claims.
+-- A text that answers the question by induction: the ladder with its inputs, the claims at their places, what is looked at
+-- in its place, how much that is and whether a run meets what is given, and a verdict for each claim that is proved of all
+-- runs of the whole ladder; their texts, and behind them a line of what the answers depend on. Beside it the certificates,
+-- in words of what is looked at; and what comes of all claims.
 pub record IsCertifiedAnswer (source : SourceValue) (q : QuestionValue) (text certificates : List ℕ) (summary : Summary) : Type 0 where
   pub setup : SetupValue
   pub idle : List Bool
   pub searched : SetupValue
   pub places : List ℕ
   pub constants : List ℕ
-  pub needed : ℕ
-  pub networks : ℕ
-  pub prepared : IsPrepared source q setup idle searched places constants needed networks
+  pub scope : Scope
+  pub prepared : IsPrepared source q setup idle searched places constants scope.needed scope.networks
+  pub meeting : IsMeeting setup scope.meeting
   pub verdicts : List CertifiedVerdict
   pub proved : AreCertified setup searched places verdicts
   pub lines : List ℕ
-  pub texts : AreCertifiedTexts setup q.file needed networks q.claims verdicts lines
+  pub texts : AreCertifiedTexts setup q.file scope q.claims verdicts lines
   pub whole : text ≡ lines ++ premise_line (premises setup constants)
   pub certified : certificates
       ≡ certificates_text (bit_names searched.ladder.declarations searched.ladder.networks) q.claims verdicts

@@ -97,7 +97,7 @@ fn push_certificate(
 {
     match verdict {
         CertifiedVerdict::Holds(certified) => push_certified(text, names, claim, certified),
-        CertifiedVerdict::Fails(_) | CertifiedVerdict::Undecided => Ok(()),
+        CertifiedVerdict::Fails(_) | CertifiedVerdict::Undecided(_) => Ok(()),
     }
 }
 

@@ -1,6 +1,6 @@
-//! Claims of a ladder that are looked at by induction: a certificate is searched, and checked before anything is told, or a
-//! run, which is done before it is told. In this order: verdicts, how large a certificate is, runs, claims, their text, and
-//! what `plc verify --by induction` writes.
+//! Claims of a ladder that are looked at by induction: a certificate is searched, and checked before anything is told, or
+//! a run, which is done before it is told. In this order: verdicts, how large a certificate is, runs, claims, whether a
+//! run meets what is given, their text, and what `plc verify --by induction` writes.
 #![tactic(auto)]
 
 mod bit_names;
@@ -8,6 +8,7 @@ mod certificate_lines;
 mod certificate_size;
 mod claim;
 mod claims;
+mod meeting;
 mod replay;
 mod verdict;
 mod verdict_lines;
@@ -15,5 +16,6 @@ mod verify_command;
 
 pub use claim::certify_claim;
 pub use claims::certify_claims;
-pub use verdict::{CertificateSize, Certified, CertifiedVerdict};
+pub use meeting::meeting_of;
+pub use verdict::{CertificateSize, Certified, CertifiedVerdict, Meeting, Scope};
 pub use verify_command::{CertifiedAnswer, certify_text};

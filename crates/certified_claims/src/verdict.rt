@@ -20,6 +20,25 @@ pub struct Certified {
     pub size: CertificateSize,
 }
 
+/// Whether a run of a scan or more meets what is given.
+#[derive(Clone, Copy, Debug, PartialEq, Eq)]
+pub enum Meeting {
+    /// One does, or nothing is given.
+    Met,
+    /// None does.
+    Unmet,
+    /// The search ended, and found neither.
+    Unknown,
+}
+
+/// What was looked at: so many networks, since the claims need no others, of so many; and whether a run meets what is given.
+#[derive(Clone, Copy, Debug, PartialEq, Eq)]
+pub struct Scope {
+    pub needed: usize,
+    pub networks: usize,
+    pub meeting: Meeting,
+}
+
 /// What is told of a claim that a variable is never TRUE.
 #[derive(Debug, Drop)]
 pub enum CertifiedVerdict {
@@ -27,6 +46,6 @@ pub enum CertifiedVerdict {
     Holds(Certified),
     /// It is after a run of these rows. There may be shorter ones.
     Fails(Vec<Row>),
-    /// The search ended, and found neither.
-    Undecided,
+    /// The search ended, and found neither; it isn't after a run of so many scans or fewer.
+    Undecided(usize),
 }

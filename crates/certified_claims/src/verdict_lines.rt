@@ -3,13 +3,13 @@
 ghost use Rattle.std.specs.Prelude.{◌≡◌, ◌++◌, ℕ, List, All, IfOk, OnOk, codes, length, string_bytes};
 ghost use Rattle.text_lines.specs.Growing.{GrowsBy};
 ghost use Rattle.text_commands.specs.Rows.{texts};
-ghost use Rattle.certified_claims.specs.CertifiedLines.{AreCertifiedTexts, holds_line, size_text, undecided_line};
+ghost use Rattle.certified_claims.specs.CertifiedLines.{AreCertifiedTexts, held_by, holds_line, shown_by, size_text, undecided_line};
 ghost use Rattle.certified_claims.specs.Steps.Adding.{AddsCertifiedText, FitsSetup};
 
-use crate::verdict::{CertificateSize, CertifiedVerdict};
+use crate::verdict::{CertificateSize, CertifiedVerdict, Meeting, Scope};
 use std::alloc::{AllocError, Global};
 use std::fmt::Write;
-use verifying::{Setup, push_counted, push_needed_of, push_run};
+use verifying::{Setup, push_counted, push_needed_of, push_run, push_unmet};
 
 /// How large a certificate is.
 fn push_size(text: &mut String, size: CertificateSize) -> Result<(), AllocError>
@@ -26,8 +26,33 @@ fn push_size(text: &mut String, size: CertificateSize) -> Result<(), AllocError>
 pub(crate) struct Told<'a> {
     pub(crate) setup: &'a Setup,
     pub(crate) file: &'a str,
-    pub(crate) needed: usize,
-    pub(crate) networks: usize,
+    pub(crate) scope: Scope,
+}
+
+/// Writes what shows that a claim holds, and how many networks were needed.
+fn push_shown_by(text: &mut String, scope: Scope, size: CertificateSize) -> Result<(), AllocError>
+    ensures { OnOk result (GrowsBy text.old text.new (shown_by scope size)) }
+{
+    text.push_str(": by induction, ")?;
+    push_size(text, size)?;
+    push_needed_of(text, scope.needed, scope.networks)
+}
+
+/// Writes what shows that a claim holds, or that no run meets what is given, and a line feed.
+fn push_held_by(text: &mut String, told: &Told<'_>, size: CertificateSize) -> Result<(), AllocError>
+    ensures { OnOk result (GrowsBy text.old text.new (held_by told.now.setup.now told.now.scope told.now.scope.meeting size)) }
+{
+    match told.scope.meeting {
+        Meeting::Met => {
+            push_shown_by(text, told.scope, size)?;
+            text.push_str("\n")
+        }
+        Meeting::Unmet => push_unmet(text, told.setup),
+        Meeting::Unknown => {
+            push_shown_by(text, told.scope, size)?;
+            text.push_str(", and no run was found that meets what is given\n")
+        }
+    }
 }
 
 fn push_holds(
@@ -36,22 +61,21 @@ fn push_holds(
     name: &str,
     size: CertificateSize,
 ) -> Result<(), AllocError>
-    ensures { OnOk result (GrowsBy text.old text.new (holds_line told.now.needed told.now.networks name.now size)) }
+    ensures { OnOk result (GrowsBy text.old text.new (holds_line told.now.setup.now told.now.scope name.now size)) }
 {
     text.push_str("HOLDS ")?;
     text.push_str(name)?;
-    text.push_str(" is never on: by induction, ")?;
-    push_size(text, size)?;
-    push_needed_of(text, told.needed, told.networks)?;
-    text.push_str("\n")?;
-    Ok(())
+    text.push_str(" is never on")?;
+    push_held_by(text, told, size)
 }
 
-fn push_undecided(text: &mut String, name: &str) -> Result<(), AllocError>
-    ensures { OnOk result (GrowsBy text.old text.new (undecided_line name.now)) }
+fn push_undecided(text: &mut String, name: &str, depth: usize) -> Result<(), AllocError>
+    ensures { OnOk result (GrowsBy text.old text.new (undecided_line name.now depth)) }
 {
     text.push_str("UNDECIDED ")?;
     text.push_str(name)?;
+    text.push_str(" is not on within ")?;
+    push_counted(text, depth, "scan")?;
     text.push_str(": by induction, no certificate and no run was found\n")?;
     Ok(())
 }
@@ -64,13 +88,13 @@ fn push_verdict(
     verdict: &CertifiedVerdict,
 ) -> Result<(), AllocError>
     requires { FitsSetup told.now.setup.now verdict.now }
-    ensures { OnOk result (AddsCertifiedText told.now.setup.now told.now.file.now told.now.needed told.now.networks name.now verdict.now
+    ensures { OnOk result (AddsCertifiedText told.now.setup.now told.now.file.now told.now.scope name.now verdict.now
         (string_bytes text.old) (string_bytes text.new)) }
 {
     match verdict {
         CertifiedVerdict::Holds(certified) => push_holds(text, told, name, certified.size),
         CertifiedVerdict::Fails(rows) => push_run(alloc, text, told.setup, told.file, name, rows),
-        CertifiedVerdict::Undecided => push_undecided(text, name),
+        CertifiedVerdict::Undecided(depth) => push_undecided(text, name, *depth),
     }
 }
 
@@ -83,7 +107,7 @@ pub(crate) fn verdict_texts(
 ) -> Result<String, AllocError>
     requires long { length verdicts.now ≡ length names.now }
     requires fits { All (FitsSetup told.now.setup.now) verdicts.now }
-    ensures { IfOk result (λ text. AreCertifiedTexts told.now.setup.now told.now.file.now told.now.needed told.now.networks
+    ensures { IfOk result (λ text. AreCertifiedTexts told.now.setup.now told.now.file.now told.now.scope
         (texts names.now) verdicts.now (string_bytes text)) }
 {
     let mut text = String::new(alloc);

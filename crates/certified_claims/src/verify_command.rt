@@ -7,7 +7,8 @@ ghost use Rattle.certified_claims.specs.CertifiedAnswers.{ExplainsCertified, IsC
 
 use crate::certificate_lines::certificates_text;
 use crate::claims::certify_claims;
-use crate::verdict::CertifiedVerdict;
+use crate::meeting::meeting_of;
+use crate::verdict::{CertifiedVerdict, Scope};
 use crate::verdict_lines::{Told, verdict_texts};
 use std::alloc::Global;
 use std::io::Write;
@@ -24,7 +25,7 @@ fn is_failure(verdict: &CertifiedVerdict) -> bool
 fn is_open(verdict: &CertifiedVerdict) -> bool
     ensures { IsTrue result ↔ IsOpen verdict.now }
 {
-    matches!(verdict, CertifiedVerdict::Undecided)
+    matches!(verdict, CertifiedVerdict::Undecided(_))
 }
 
 fn has_failure(verdicts: &[CertifiedVerdict]) -> bool
@@ -67,11 +68,15 @@ fn certified_answer(
 {
     let prepared = prepare(alloc, source, question)?;
     let verdicts = certify_claims(alloc, &prepared, effort)?;
+    let meeting = meeting_of(alloc, &prepared, effort)?;
     let told = Told {
         setup: &prepared.whole,
         file: question.file,
-        needed: prepared.needed,
-        networks: prepared.networks,
+        scope: Scope {
+            needed: prepared.needed,
+            networks: prepared.networks,
+            meeting,
+        },
     };
     let mut text = verdict_texts(alloc, &told, question.claims, &verdicts)?;
     push_premise_line(alloc, &mut text, &prepared.whole, &prepared.constants)?;

@@ -1,4 +1,4 @@
-use Rattle.std.proofs.Common.{ℕ, map, string_bytes}
+use Rattle.std.proofs.Common.{ℕ}
 use Rattle.std.specs.Fmt.{decimal}
 use Rattle.certified_claims.specs.BitNames.{part}
 use Rattle.certified_claims.proofs.Naming.{digit_more}

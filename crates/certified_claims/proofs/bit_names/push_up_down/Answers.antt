@@ -1,6 +1,5 @@
-use Rattle.std.proofs.Common.{[], ◌∷◌}
 use Rattle.std.proofs.lemmas.Result.{on_ok_weaker}
-use Rattle.certified_claims.proofs.Naming.{three_more, two_more}
+use Rattle.certified_claims.proofs.Naming.{three_more}
 use Rattle.certified_claims.proofs.bit_names.push_up_down.Goals as goal
 
 pub returns : goal.returns

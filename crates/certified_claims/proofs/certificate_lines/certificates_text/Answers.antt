@@ -9,4 +9,4 @@ loop-k-preserved c =
     let also : k < length items = c.loop-k-test.true in
     let inside : k < length c.args.claims.now = let long = c.requires in omega arith in
     certificates_more (map (λ n. string_bytes n) c.in_ok-names.names.items) c.args.claims.now items k _ c.index-verdicts-k.result (string_bytes c.loop-k.text) (string_bytes c.push_certificate.new.text)
-    inside c.requires c.loop-k.invariant (rw c.index-verdicts-k.is at c.in_ok-push_certificate.ensures)
+    inside c.requires c.loop-k.invariant (rw (c.index-verdicts-k.is, c.deref.ensures.value) at c.in_ok-push_certificate.ensures)

@@ -6,15 +6,15 @@ use Rattle.certified_claims.proofs.claims.certify_claims.Goals as goal
 pub certify_claim-requires : goal.certify_claim-requires
 certify_claim-requires c =
     let inside = rw c.deref-place-items.ensures.value at c.loop-place-test.true in
-    rw (c.place-item.is, c.deref-place-items.ensures.value)
-        (c.args.prepared.now.claims.items, c.loop-place.place-index, c.requires, there c.args.prepared.now.claims.items c.loop-place.place-index _ inside)
+    rw c.deref-place-items.ensures.value
+    (c.args.prepared.now.claims.items, c.loop-place.place-index, c.requires, there c.args.prepared.now.claims.items c.loop-place.place-index _ inside)
 
 pub loop-place-preserved : goal.loop-place-preserved
 loop-place-preserved c =
     let p = c.args.prepared.now in
     let inside = rw c.deref-place-items.ensures.value at c.loop-place-test.true in
     certified_more p.whole (searched_of p.slice p.whole) p.claims.items c.loop-place.place-index _ c.loop-place.verdicts.items _ c.in_ok-verdict.verdict inside
-    c.loop-place.invariant (rw (c.place-item.is, c.deref-place-items.ensures.value) at c.in_ok-verdict.ensures) c.in_ok-push.ensures.items
+    c.loop-place.invariant (rw c.deref-place-items.ensures.value at c.in_ok-verdict.ensures) c.in_ok-push.ensures.items
 
 pub returns : goal.returns
 returns c = rw (take_all c.loop-place.place-index c.args.prepared.now.claims.items (rw c.deref-place-items.ensures.value at c.loop-place-test.false)) at c.loop-place.invariant

@@ -1,4 +1,4 @@
-use Rattle.std.proofs.Common.{List, ℕ, length, string_bytes, sym, ap, ◌∙◌, subst}
+use Rattle.std.proofs.Common.{List, ℕ, length, string_bytes, ap, ◌∙◌}
 use Rattle.std.specs.Borrow.{Bor}
 use Rattle.std.proofs.lemmas.List.{length-map}
 use Rattle.lists.proofs.Results.{kept_fault}
@@ -29,6 +29,13 @@ returns-in_err-push_premise_line-clause-err c =
 pub returns-in_err-certificates-clause-err : goal.returns-in_err-certificates-clause-err
 returns-in_err-certificates-clause-err c =
     kept_fault no_memory (RefusesPreparing (source_of c.args.source) (question_of c.args.question.now)) _ c.from_residual-in_err-certificates.ensures.1 tt
+
+pub returns-in_err-meeting-clause-err : goal.returns-in_err-meeting-clause-err
+returns-in_err-meeting-clause-err c =
+    kept_fault no_memory (RefusesPreparing (source_of c.args.source) (question_of c.args.question.now)) _ c.from_residual-in_err-meeting.ensures.1 tt
+
+pub meeting_of-requires : goal.meeting_of-requires
+meeting_of-requires c = let p = c.in_ok-prepared.prepared in (p.claims.items, c.in_ok-prepared.ensures.ok.searched)
 
 pub certify_claims-requires : goal.certify_claims-requires
 certify_claims-requires c = c.in_ok-prepared.ensures.ok.searched
@@ -66,8 +73,8 @@ returns-clause-ok c =
       searched = v;
       places = p.claims.items;
       constants = p.constants.items;
-      needed = p.needed;
-      networks = p.networks;
+      scope = record { needed = p.needed; networks = p.networks; meeting = c.in_ok-meeting.meeting };
+      meeting = c.in_ok-meeting.ensures;
       prepared = c.in_ok-prepared.ensures.ok;
       verdicts = c.in_ok-verdicts.verdicts.items;
       proved = c.in_ok-verdicts.ensures;
