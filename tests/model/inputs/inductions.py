@@ -168,7 +168,10 @@ def judged_induction(given, folder, written, who):
     if not written:
         return written
     names = sorted(it for it in os.listdir(folder) if it.endswith((".ladder", ".plant")))
-    asked = asked_of(Texts(tuple((it, Files(folder).text(it)) for it in names), folder), tuple(given))
+    try:
+        asked = asked_of(Texts(tuple((it, Files(folder).text(it)) for it in names), folder), tuple(given))
+    except Refused:
+        return written
     claimed, told = claimed_in(given), written.splitlines()
     if who == "model":
         return "".join(f"{it}\n" for it in [*map(asked.verdict, claimed), *premises_in(told)])

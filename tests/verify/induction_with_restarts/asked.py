@@ -30,9 +30,9 @@ with open("watchdog.plant", encoding="ascii") as file:
 ask(f"forgets.plant {belt}", "HOLDS BY_ITSELF", names=BELT, given="dt 100 ms", networks=", 7 of 8 networks")
 ask(f"forgets.plant {belt} --restarts", "FAILS BY_ITSELF 5", names=BELT, given="dt 100 ms, restarts before any scan", networks=", 7 of 8 networks")
 
-# A restart forgets what the contact in row 7 of the file remembers, and not M.
+# A restart forgets what the contact in row 4 of its drawing remembers, and not M.
 write("it.plant", EDGE)
-edge = bits("GO", "GHOST", "TWICE", "M", "M at 7:4")
+edge = bits("GO", "GHOST", "TWICE", "M", "M at 4:4")
 ask("it.plant --program P --never GHOST", "HOLDS GHOST", names=edge, networks=", 2 of 3 networks")
 ask("it.plant --program P --never GHOST --restarts", "FAILS GHOST 2", names=edge, given="restarts before any scan", networks=", 2 of 3 networks")
 ask("it.plant --program P --never TWICE --restarts", "HOLDS TWICE", names=edge, given="restarts before any scan")
