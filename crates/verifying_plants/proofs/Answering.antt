@@ -1,5 +1,5 @@
 -- From what was prepared and found to an answer.
-use Rattle.std.proofs.Common.{◌≡◌, ◌++◌, ℕ, List, [], ◌∷◌, ap, ◌∙◌}
+use Rattle.std.proofs.Common.{◌≡◌, ◌++◌, ℕ, List, [], ◌∷◌, ap, subst, ◌∙◌}
 use Rattle.std.specs.Global.{Vec}
 use Rattle.std.specs.List.{AllZip, flat_map, zip}
 use Rattle.task_codes.specs.CodeValue.{lists_of}
@@ -12,6 +12,7 @@ use Rattle.verifying.specs.declared.summary.Summary.{Summary}
 use Rattle.verifying_plants.specs.Questions.{QuestionValue}
 use Rattle.verifying_plants.specs.Summaries.{IsSummary}
 use Rattle.verifying_plants.specs.VerdictTexts.{premise_line, verdict_text}
+use Rattle.verifying_plants.specs.ZeroWords.{AreZeroWords}
 use Rattle.verifying_plants.specs.Steps.Answering.{AreVerdicts, IsPrepared, IsTold, IsToldAnswer}
 
 by_items : {A B : Type 0} (R : List A → B → Type 0) (xs : List (Vec A)) (ys : List B) → AllZip (λ (x : Vec A) y. R x.items y) xs ys → AllZip R (lists_of xs) ys
@@ -34,9 +35,11 @@ told_answer file v asked q claims verdicts text summary prepared same proved tol
     unmet = told.unmet;
     states = told.states;
     steps = told.steps;
+    zeros = told.zeros;
+    zero = subst (λ (x : Question). AreZeroWords x (lists_of claims) told.zeros) same told.zero;
     whole = told.whole
-        ∙ ap (λ (x : Question). flat_map (λ (e : List Output × PlantVerdict). verdict_text x.plant v.most_states told.unmet told.states told.steps e.0 e.1) (zip (lists_of claims) verdicts) ++ premise_line x) same
-        ∙ ap (λ (p : PlantValue). flat_map (λ (e : List Output × PlantVerdict). verdict_text p v.most_states told.unmet told.states told.steps e.0 e.1) (zip (lists_of claims) verdicts) ++ premise_line asked) (prepared.asked).plant_is;
+        ∙ ap (λ (x : Question). flat_map (λ (e : List Output × PlantVerdict). verdict_text x.plant v.most_states told.unmet told.states told.steps e.0 e.1) (zip (lists_of claims) verdicts) ++ premise_line x told.zeros) same
+        ∙ ap (λ (p : PlantValue). flat_map (λ (e : List Output × PlantVerdict). verdict_text p v.most_states told.unmet told.states told.steps e.0 e.1) (zip (lists_of claims) verdicts) ++ premise_line asked told.zeros) (prepared.asked).plant_is;
   };
   summed = summed;
 }

@@ -2,6 +2,7 @@ pub mod Giving
 pub mod Names
 pub mod Ranges
 pub mod Questions
+pub mod ZeroWords
 pub mod VerdictTexts
 pub mod Summaries
 pub mod VerifyPlant

@@ -1,3 +1,4 @@
 -- Steps of the proofs. Only contracts inside this crate cite them, so no reader has to believe them.
 pub mod Reading
+pub mod Reaching
 pub mod Answering

@@ -85,14 +85,20 @@ range_text (Bit n v) = codes "%IX" ++ decimal n ++ codes "=" ++ value_text (Bool
 range_text (Word n least greatest) =
     codes "%IW" ++ decimal n ++ codes "=" ++ value_text (IntValue least) ++ greatest_text least greatest
 
+-- a word of the field that is 0
+abbrev pub zero_text : ℕ → List ℕ
+zero_text n = codes "%IW" ++ decimal n ++ codes "=0"
+
 abbrev pub restart_premises : Bool → List (List ℕ)
 restart_premises true = []
 restart_premises false = codes "no restarts" ∷ []
 
--- what the verdicts depend on
-abbrev pub premises : Question → List (List ℕ)
-premises q = time_premise q.dt ∷ (map range_text q.ranges ++ (restart_premises q.restarts ++ map (output_text q.plant) q.given))
+-- what the verdicts depend on, where these words of the field are 0
+abbrev pub premises : Question → List ℕ → List (List ℕ)
+premises q zeros =
+    time_premise q.dt ∷ (map range_text q.ranges
+    ++ (map zero_text zeros ++ (restart_premises q.restarts ++ map (output_text q.plant) q.given)))
 
 -- the last line
-abbrev pub premise_line : Question → List ℕ
-premise_line q = codes "given " ++ join_by (λ (p : List ℕ). p) (codes ", ") (premises q) ++ codes "\n"
+abbrev pub premise_line : Question → List ℕ → List ℕ
+premise_line q zeros = codes "given " ++ join_by (λ (p : List ℕ). p) (codes ", ") (premises q zeros) ++ codes "\n"

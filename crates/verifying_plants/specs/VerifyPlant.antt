@@ -16,6 +16,7 @@ use Rattle.verifying_plants.specs.declared.verify_plant_fault.VerifyPlantFault.T
 use Rattle.verifying_plants.specs.Questions.{QuestionValue, IsAsked, IsFirstNameFault, IsFirstGivenFault, IsFirstRangeFault}
 use Rattle.verifying_plants.specs.Summaries.{IsSummary}
 use Rattle.verifying_plants.specs.VerdictTexts.{verdict_text, premise_line}
+use Rattle.verifying_plants.specs.ZeroWords.{AreZeroWords}
 
 -- A text that answers the question about the plant: a verdict on each claim that is proved of all its runs, the text of
 -- each, and a line of what they depend on. (Which output that is given no run meets, and the numbers of states and steps,
@@ -29,8 +30,10 @@ pub record IsAnswer (plant : PlantValue) (v : QuestionValue) (text : List ℕ) :
   pub unmet : Option Output
   pub states : ℕ
   pub steps : ℕ
+  pub zeros : List ℕ
+  pub zero : AreZeroWords question claims zeros
   pub whole : text ≡ flat_map (λ (e : List Output × PlantVerdict). verdict_text plant v.most_states unmet states steps e.0 e.1) (zip claims verdicts)
-      ++ premise_line question
+      ++ premise_line question zeros
 
 -- the text of the plant was read, and such a text was written; this is its summary
 pub record WritesAnswer (file : List ℕ) (v : QuestionValue) (old new : Option (List ℕ)) (summary : Summary) : Type 0 where

@@ -8,9 +8,11 @@ mod plant_command;
 mod plant_question;
 mod premise_texts;
 mod range_words;
+mod reached_tasks;
 mod summary;
 mod verdict_texts;
 mod verify_plant_fault;
+mod zero_words;
 
 pub use plant_command::verify_plant_text;
 pub use plant_question::PlantQuestion;

@@ -13,6 +13,7 @@ use crate::range_words::read_ranges;
 use crate::summary::summary_of;
 use crate::verdict_texts::{counted_of, verdict_texts};
 use crate::verify_plant_fault::VerifyPlantFault;
+use crate::zero_words::zero_words;
 use plant::Plant;
 use plant_claims::{Limits, Output, PlantOutcome, Question, verify_plant};
 use std::alloc::{AllocError, Global};
@@ -80,7 +81,8 @@ fn tell(
         claims,
         verdicts,
     )?;
-    push_premise_line(alloc, &mut text, question)?;
+    let zeros = zero_words(alloc, question, claims)?;
+    push_premise_line(alloc, &mut text, question, &zeros)?;
     Ok((text, summary_of(verdicts)))
 }
 

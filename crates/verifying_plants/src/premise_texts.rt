@@ -3,7 +3,7 @@
 ghost use Rattle.std.specs.Prelude.{◌≡◌, ◌++◌, IfOk, OnOk, map, string_bytes};
 ghost use Rattle.text_lines.specs.Growing.{GrowsBy};
 ghost use Rattle.verifying_plants.specs.Names.{output_text};
-ghost use Rattle.verifying_plants.specs.VerdictTexts.{greatest_text, premise_line, premises, range_text, restart_premises, time_premise};
+ghost use Rattle.verifying_plants.specs.VerdictTexts.{greatest_text, premise_line, premises, range_text, restart_premises, time_premise, zero_text};
 
 use crate::output_names::push_output;
 use plant::Plant;
@@ -70,6 +70,23 @@ fn push_ranges(
     Ok(())
 }
 
+/// A word of the field that is 0.
+fn zero_text(alloc: Global, number: u16) -> Result<String, AllocError>
+    ensures { IfOk result (λ text. string_bytes text ≡ zero_text number) }
+{
+    format!(in alloc; "%IW{number}=0")
+}
+
+fn push_zeros(alloc: Global, made: &mut Vec<String>, zeros: &[u16]) -> Result<(), AllocError>
+    ensures { OnOk result (map (λ p. string_bytes p) made.new.items
+        ≡ map (λ p. string_bytes p) made.old.items ++ map zero_text zeros.now) }
+{
+    for number in zeros {
+        made.push(zero_text(alloc, *number)?)?;
+    }
+    Ok(())
+}
+
 fn push_restarts(alloc: Global, made: &mut Vec<String>, restarts: bool) -> Result<(), AllocError>
     ensures { OnOk result (map (λ p. string_bytes p) made.new.items
         ≡ map (λ p. string_bytes p) made.old.items ++ restart_premises restarts) }
@@ -103,13 +120,14 @@ fn push_given(
     Ok(())
 }
 
-/// What verdicts depend on.
-fn premises(alloc: Global, question: &Question) -> Result<Vec<String>, AllocError>
-    ensures { IfOk result (λ made. map (λ p. string_bytes p) made.items ≡ premises question.now) }
+/// What verdicts depend on, where these words of the field are 0.
+fn premises(alloc: Global, question: &Question, zeros: &[u16]) -> Result<Vec<String>, AllocError>
+    ensures { IfOk result (λ made. map (λ p. string_bytes p) made.items ≡ premises question.now zeros.now) }
 {
     let mut made = Vec::new(alloc);
     made.push(time_premise(alloc, question.dt)?)?;
     push_ranges(alloc, &mut made, &question.ranges)?;
+    push_zeros(alloc, &mut made, zeros)?;
     push_restarts(alloc, &mut made, question.restarts)?;
     push_given(alloc, &mut made, &question.plant, &question.given)?;
     Ok(made)
@@ -120,10 +138,11 @@ pub(crate) fn push_premise_line(
     alloc: Global,
     text: &mut String,
     question: &Question,
+    zeros: &[u16],
 ) -> Result<(), AllocError>
-    ensures { OnOk result (GrowsBy text.old text.new (premise_line question.now)) }
+    ensures { OnOk result (GrowsBy text.old text.new (premise_line question.now zeros.now)) }
 {
-    let made = premises(alloc, question)?;
+    let made = premises(alloc, question, zeros)?;
     let joined = made.join(alloc, ", ")?;
     text.push_str("given ")?;
     text.push_str(joined.as_str())?;

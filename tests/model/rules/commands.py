@@ -448,7 +448,7 @@ def verify_plants(write, files, path, options, more):
     for search, name in zip(searches, options["--never"]):
         for line in verify_plant.verdict_lines(search):
             write(line)
-    write("given " + ", ".join(verify_plant.premises(question)))
+    write("given " + ", ".join(verify_plant.premises(question, claims)))
     is_undecided = any(it.loose_steps or not it.is_whole for it in searches)
     status = CLAIM_FAILS if any(it.steps for it in searches) else UNDECIDED if is_undecided else 0
     end_with_warnings(path, warnings_of_plant(plant, options.get("--dt", 0)), options, status)

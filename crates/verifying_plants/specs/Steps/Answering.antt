@@ -15,6 +15,7 @@ use Rattle.verifying_plants.specs.declared.verify_plant_fault.VerifyPlantFault.T
 use Rattle.verifying_plants.specs.Questions.{QuestionValue, IsAsked, IsFirstNameFault, IsFirstGivenFault, IsFirstRangeFault}
 use Rattle.verifying_plants.specs.Summaries.{IsSummary}
 use Rattle.verifying_plants.specs.VerdictTexts.{verdict_text, premise_line}
+use Rattle.verifying_plants.specs.ZeroWords.{AreZeroWords}
 use Rattle.verifying_plants.specs.VerifyPlant.{IsAnswer, IsOfPlant}
 
 -- the plant of the text, and what is asked of it
@@ -33,8 +34,10 @@ pub record IsTold (q : Question) (most_states : ℕ) (claims : List (List Output
   pub unmet : Option Output
   pub states : ℕ
   pub steps : ℕ
+  pub zeros : List ℕ
+  pub zero : AreZeroWords q claims zeros
   pub whole : text ≡ flat_map (λ (e : List Output × PlantVerdict). verdict_text q.plant most_states unmet states steps e.0 e.1) (zip claims verdicts)
-      ++ premise_line q
+      ++ premise_line q zeros
 
 -- an answer about the plant of the text, and what comes of its verdicts
 pub record IsToldAnswer (file : List ℕ) (v : QuestionValue) (text : List ℕ) (summary : Summary) : Type 0 where

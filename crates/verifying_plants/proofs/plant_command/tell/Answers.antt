@@ -21,8 +21,10 @@ returns-clause-text c =
       unmet = told.unmet;
       states = told.states;
       steps = told.steps;
-      whole = c.in_ok-push_premise_line.ensures
-          ∙ ap (λ t. t ++ premise_line c.args.outcome.now.question)
+      zeros = c.in_ok-zeros.zeros.items;
+      zero = c.in_ok-zeros.ensures;
+      whole = rw c.deref.ensures.value at c.in_ok-push_premise_line.ensures
+          ∙ ap (λ t. t ++ premise_line c.args.outcome.now.question c.in_ok-zeros.zeros.items)
           (c.in_ok-text.ensures
           ∙ ap (λ (p : PlantValue). flat_map (λ (e : List Output × PlantVerdict). verdict_text p c.args.most_states told.unmet told.states told.steps e.0 e.1) (zip (lists_of c.args.claims.now) c.as_slice-verdicts.result.now)) c.plant_of.ensures
           ∙ ap (λ vs. flat_map (λ (e : List Output × PlantVerdict). verdict_text c.args.outcome.now.question.plant c.args.most_states told.unmet told.states told.steps e.0 e.1) (zip (lists_of c.args.claims.now) vs)) c.as_slice-verdicts.ensures.value);

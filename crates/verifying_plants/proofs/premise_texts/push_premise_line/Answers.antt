@@ -8,4 +8,4 @@ returns c =
     let made = c.in_ok-made.made in
     let joined = rw c.deref.ensures.value at c.in_ok-joined.ensures.ok in
     let added = rw c.as_str.ensures.value at c.in_ok-push_str-2.ensures.bytes in
-    line_written (λ p. string_bytes p) made.items (premises c.args.question.now) (string_bytes c.args.text.now) _ _ _ _ c.in_ok-made.ensures joined c.in_ok-push_str.ensures.bytes added c.in_ok-push_str-3.ensures.bytes
+    line_written (λ p. string_bytes p) made.items (premises c.args.question.now c.args.zeros.now) (string_bytes c.args.text.now) _ _ _ _ c.in_ok-made.ensures joined c.in_ok-push_str.ensures.bytes added c.in_ok-push_str-3.ensures.bytes
