@@ -29,3 +29,6 @@ returns-clause-text c =
           ∙ ap (λ (p : PlantValue). flat_map (λ (e : List Output × PlantVerdict). verdict_text p c.args.most_states told.unmet told.states told.steps e.0 e.1) (zip (lists_of c.args.claims.now) c.as_slice-verdicts.result.now)) c.plant_of.ensures
           ∙ ap (λ vs. flat_map (λ (e : List Output × PlantVerdict). verdict_text c.args.outcome.now.question.plant c.args.most_states told.unmet told.states told.steps e.0 e.1) (zip (lists_of c.args.claims.now) vs)) c.as_slice-verdicts.ensures.value);
     }
+
+pub returns-clause-summary : goal.returns-clause-summary
+returns-clause-summary c = rw c.as_slice-verdicts.ensures.value at c.summary_of.ensures
