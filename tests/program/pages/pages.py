@@ -2,7 +2,7 @@
 
 Each link to a file of the repository leads to one, and one to a heading to that heading. The table of crates is made of
 crates.txt and the crates, the text of a page of what stands in crates/page/page, and each crate of the program that promises
-something has its heading among what is proved.
+something has its heading among what is proved, alone or beside others.
 """
 import os
 import re
@@ -53,7 +53,7 @@ def main():
         for name in sorted(os.listdir(os.path.join(ROOT, folder))):
             if name.endswith(".md"):
                 try_links(os.path.join(folder, name))
-    titles = re.findall(r"(?m)^### (\w+)", read("docs/PROVED.md"))
+    titles = re.findall(r"\w+", " ".join(re.findall(r"(?m)^### (.+)$", read("docs/PROVED.md"))))
     for crate in sorted(crates_of(PROGRAM).keys() - PROMISE_NOTHING ^ set(titles)):
         told.append(f"docs/PROVED.md: {crate} is a crate of the program or a heading, and not both")
     for script in ("crate_table.py", "page_text.py"):
