@@ -69,3 +69,14 @@ def ring(steps):
     made.append(rung("S0", f"S{steps // 2}", coils=[("TWO", "( )")]))
     made.append(rung(last, coils=[("LAST", "( )")]))
     return "\n".join(made) + "\n"
+
+
+def chain(latches):
+    """Each latch comes on by the one before, and the first one by GO or the last one; each is read before it is stored, so that a scan
+    brings the next one on. The claim is that the last one is on though GO never was."""
+    names = [f"L{k}" for k in range(latches)]
+    made = [rung(names[k - 1], f"I{k % 3}", coils=[(names[k], SET)]) for k in reversed(range(1, latches))]
+    made += [rung(it, coils=[("L0", SET)]) for it in ("GO", names[-1])]
+    made.append(rung("GO", coils=[("SEEN", SET)]))
+    made.append(rung(names[-1], "/SEEN", coils=[("EARLY", "( )")]))
+    return "\n".join(made) + "\n"

@@ -277,8 +277,9 @@ class Judge:
         clauses = [clause_of(it) for it in rows[1:]]
         named = {name for it in clauses for name, _ in it.bits}
         told = HOLDS.fullmatch(lines[0])
-        if found.depth is None and not found.is_met:
-            wanted = f"HOLDS {name} is never on: no run meets {', '.join(given_names(self.asked.question))}"
+        unmet = f"HOLDS {name} is never on: no run meets {', '.join(given_names(self.asked.question))}"
+        if not found.is_met and (found.depth is None or lines == [unmet]):
+            wanted = unmet
         elif self.certificates is not None:
             wanted = f"HOLDS {name} is never on: by induction, {counted(len(clauses), 'clause')} over {len(named)} of {counted(len(names), 'bit')}{networks_told(found)}"
         else:
