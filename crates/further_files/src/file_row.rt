@@ -9,9 +9,9 @@ use live_node::{FileNotes, JournalFault, NoteFault, Notes};
 use std::alloc::{AllocError, Global};
 use std::fs::{File, OpenFile, OpenOptions};
 use std::io::{ErrorKind, Read, Write};
-use std::os::unix::fs::OpenOptionsExt;
+use std::os::unix::fs::{MetadataExt, OpenOptionsExt};
 use std::rt::Files;
-use std::{fs, io};
+use std::{fs, io, mem};
 use thiserror::Error;
 
 /// Why the files of a journal aren't opened.
@@ -26,6 +26,9 @@ pub enum RowFault {
     /// The file of the greatest number goes on from no other.
     #[error("the last file of this number isn't one of the journal's")]
     NotFurther,
+    /// The file was to be the journal by itself, and further ones go on from it.
+    #[error("it goes on in further files: give --journal-size, or another name to --journal")]
+    Further,
     /// There was no memory left.
     #[error("there is no memory left")]
     Memory,
@@ -52,11 +55,13 @@ impl From<io::Error> for RowFault {
     }
 }
 
-/// The files of a journal, of which the last one is used by no other program meanwhile that locks it.
+/// The files of a journal, of which the first and the last one are used by no other program meanwhile that locks them.
 #[derive(Drop)]
 pub struct FileRow<R: Files<File = File> + Alloc<A = Global> + Clone + Drop> {
     rt: R,
     path: String,
+    /// The first file, whose lock is kept, where it is there and another one is the last.
+    first: Option<FileNotes>,
     notes: FileNotes,
 }
 
@@ -78,22 +83,37 @@ fn number_in(first: &str, name: &str) -> Option<u64> {
     digits.parse::<u64>().ok()
 }
 
-/// The greatest number of a further file that is there; 0 where there is none.
-fn last_number<R: Files + Alloc<A = Global> + Clone + Drop>(rt: &R, path: &str) -> io::Result<u64> {
+/// The numbers of what stands in the place of further files.
+fn numbers_there<R: Files + Alloc<A = Global> + Clone + Drop>(
+    rt: &R,
+    path: &str,
+) -> io::Result<Vec<u64>> {
     let (folder, first) = folder_and_name(path);
-    let mut last = 0;
-    for entry in fs::read_dir(rt, folder)? {
+    let mut numbers = Vec::new(rt.alloc());
+    let entries = match fs::read_dir(rt, folder) {
+        Ok(entries) => entries,
+        Err(error) if error.kind() == ErrorKind::NotFound => return Ok(numbers),
+        Err(error) => return Err(error),
+    };
+    for entry in entries {
         match entry {
             Ok(entry) => {
-                let number = number_in(first, entry.file_name()).unwrap_or(0);
-                last = number.max(last);
+                if let Some(number) = number_in(first, entry.file_name()) {
+                    numbers.push(number)?;
+                }
             }
             // A name that is no text is no journal's.
             Err(error) if error.kind() == ErrorKind::InvalidFilename => {}
             Err(error) => return Err(error),
         }
     }
-    Ok(last)
+    Ok(numbers)
+}
+
+/// The greatest number of a further file that is there; 0 where there is none.
+fn last_number<R: Files + Alloc<A = Global> + Clone + Drop>(rt: &R, path: &str) -> io::Result<u64> {
+    let numbers = numbers_there(rt, path)?;
+    Ok(numbers.iter().fold(0, |last, number| last.max(*number)))
 }
 
 /// The path of the file of this number.
@@ -114,6 +134,45 @@ fn begins_as_further<R: Files + Alloc<A = Global>>(rt: &R, path: &str) -> io::Re
     let file = fs::open(rt, path)?;
     file.take(10).read_to_end(&mut head)?;
     Ok(is_further(head.as_slice()))
+}
+
+/// Whether files are there that go on from the one of this path.
+fn has_further<R: Files + Alloc<A = Global> + Clone + Drop>(
+    rt: &R,
+    path: &str,
+) -> io::Result<bool> {
+    for number in numbers_there(rt, path)? {
+        let further = path_of(rt.alloc(), path, number)?;
+        if begins_as_further(rt, further.as_str())? {
+            return Ok(true);
+        }
+    }
+    Ok(false)
+}
+
+/// Whether two paths are of one file.
+fn are_one<R: Files>(rt: &R, path: &str, other: &str) -> bool {
+    match (fs::metadata(rt, path), fs::metadata(rt, other)) {
+        (Ok(found), Ok(other)) => {
+            found.is_file() && found.dev() == other.dev() && found.ino() == other.ino()
+        }
+        _ => false,
+    }
+}
+
+/// Which further file of the journal at a path the file of another path is.
+pub fn further_file<R: Files + Alloc<A = Global> + Clone + Drop>(
+    rt: &R,
+    path: &str,
+    other: &str,
+) -> io::Result<Option<String>> {
+    for number in numbers_there(rt, path)? {
+        let further = path_of(rt.alloc(), path, number)?;
+        if are_one(rt, further.as_str(), other) {
+            return Ok(Some(further));
+        }
+    }
+    Ok(None)
 }
 
 /// Reads a file to its end; `last` is what it is before its first byte.
@@ -174,8 +233,8 @@ fn new_file<R: Files>(rt: &R, path: &str) -> io::Result<R::File> {
     }
 }
 
-/// Makes a file that holds these bytes, all of them, up to the disk. Where one is there already, it fails.
-fn make_file<R: Files>(rt: &R, path: &str, beside: &str, bytes: &[u8]) -> io::Result<()> {
+/// Writes these bytes to a new file, all of them, up to the disk, and gives it its path. Where one is there already, it fails.
+fn put_file<R: Files>(rt: &R, path: &str, beside: &str, bytes: &[u8]) -> io::Result<()> {
     let mut file = new_file(rt, beside)?;
     file.write_all(bytes)?;
     file.sync_all()?;
@@ -185,11 +244,48 @@ fn make_file<R: Files>(rt: &R, path: &str, beside: &str, bytes: &[u8]) -> io::Re
     fs::rename(rt, beside, path)
 }
 
+/// Makes a file that holds these bytes. Where that can't be, nothing is left beside.
+fn make_file<R: Files>(rt: &R, path: &str, beside: &str, bytes: &[u8]) -> io::Result<()> {
+    let made = put_file(rt, path, beside, bytes);
+    if made.is_err() {
+        let _ = fs::remove_file(rt, beside);
+    }
+    made
+}
+
+/// The file of this path, to note to it alone. Where further ones go on from it, it isn't opened; nor is it made.
+pub fn open_single<R: Files<File = File> + Alloc<A = Global> + Clone + Drop>(
+    rt: &R,
+    path: &str,
+) -> Result<FileNotes, RowFault> {
+    if !is_there(rt, path)? && has_further(rt, path)? {
+        return Err(RowFault::Further);
+    }
+    let notes = FileNotes::open(rt, path)?;
+    if has_further(rt, path)? {
+        return Err(RowFault::Further);
+    }
+    Ok(notes)
+}
+
+/// The lock of the first file of a row whose last one has this number, where that is another one, and the first is there.
+fn lock_first<R: Files<File = File>>(
+    rt: &R,
+    path: &str,
+    number: u64,
+) -> Result<Option<FileNotes>, RowFault> {
+    if number == 0 || !is_there(rt, path)? {
+        return Ok(None);
+    }
+    Ok(Some(FileNotes::open(rt, path)?))
+}
+
 impl<R: Files<File = File> + Alloc<A = Global> + Clone + Drop> FileRow<R> {
     /// The files of the journal at this path, to note to the last one; where there is none the first is made. What the last one
     /// is comes with them.
     pub fn open(rt: R, path: &str) -> Result<(FileRow<R>, LastFile), RowFault> {
         let number = last_number(&rt, path)?;
+        let first = lock_first(&rt, path, number)?;
         let last_path = path_of(rt.alloc(), path, number)?;
         if number > 0 && !begins_as_further(&rt, last_path.as_str())? {
             return Err(RowFault::NotFurther);
@@ -201,7 +297,13 @@ impl<R: Files<File = File> + Alloc<A = Global> + Clone + Drop> FileRow<R> {
         }
         let last = last_file(&rt, last_path.as_str(), number)?;
         let path = String::from_str(rt.alloc(), path)?;
-        Ok((FileRow { rt, path, notes }, last))
+        let row = FileRow {
+            rt,
+            path,
+            first,
+            notes,
+        };
+        Ok((row, last))
     }
 
     /// Makes the file of this number, which holds this line, and opens it.
@@ -233,7 +335,10 @@ impl<R: Files<File = File> + Alloc<A = Global> + Clone + Drop> JournalFiles for 
         self.notes.sync()?;
         match self.begin(number, line) {
             Ok(notes) => {
-                self.notes = notes;
+                let before = mem::replace(&mut self.notes, notes);
+                if self.first.is_none() {
+                    self.first = Some(before);
+                }
                 Ok(())
             }
             Err(_) => Err(NoteFault),

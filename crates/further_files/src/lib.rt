@@ -8,7 +8,7 @@ mod last_file;
 mod row_notes;
 mod told_incarnation;
 
-pub use file_row::{FileRow, RowFault};
+pub use file_row::{FileRow, RowFault, further_file, open_single};
 pub use journal_files::JournalFiles;
 pub use last_file::LastFile;
 pub use row_notes::RowNotes;

@@ -1,10 +1,12 @@
 -- Files that go on from one another.
-use Rattle.std.proofs.Common.{◌≡◌, ℕ, ◌+◌, ◌++◌, ◌∷◌, [], List, Option, Some, true, false, refl, sym, ap, ◌∙◌, subst, add-one, slice_get, slice_index_or, length, ◌<◌, inl, inr}
+use Rattle.std.proofs.Common.{◌≡◌, ℕ, ◌+◌, ◌++◌, ◌∷◌, [], List, Option, Some, true, false, refl, sym, ap, ◌∙◌, subst, add-one, slice_get, slice_index_or, length, ◌<◌, ◌≤◌, inl, inr}
 use Rattle.std.specs.Borrow.{Bor}
 use Rattle.std.specs.List.{position}
+use Rattle.std.proofs.lemmas.List.Sums.{count_by-le-length, sum_by-append}
 use Rattle.std.proofs.lemmas.Option.{slice_get-get_or}
-use Rattle.journal_rows.specs.ContinuesLine.{continues_front, digest_of}
-use Rattle.journal_rows.specs.Rows.{Texts, begins_with, behind_first_line, is_further, line_ends, next_of, GoOn, HaveRows, IsRow}
+use Rattle.journal_rows.specs.ContinuesLine.{begins_with, continues_front, digest_of}
+use Rattle.journal_rows.specs.LooseFiles.{Texts}
+use Rattle.journal_rows.specs.Rows.{behind_first_line, is_further, line_ends, next_of, GoOn, HaveRows, IsRow}
 use Rattle.journal_rows.specs.declared.rows.Row.{Row}
 
 -- the text at a place
@@ -36,3 +38,11 @@ rows_more texts k before rows text row have at first is rows_are =
 pub rows_same : (texts : Texts) (k : ℕ) (rows : List Row) (text : Bor (List ℕ)) → HaveRows texts k rows → slice_get texts k ≡ Some text → is_further text.now ≡ true → HaveRows texts (k + 1) rows
 rows_same texts k rows text have at further =
     subst (λ n. HaveRows texts n rows) (sym (add-one k)) (rows, text, have, at, inl (further, refl))
+
+-- lines that end in two texts
+pub lines_more : (text more : List ℕ) → line_ends (text ++ more) ≡ line_ends text + line_ends more
+lines_more text more = sum_by-append _ text more
+
+-- lines are no more than bytes
+pub lines_fit : (text : List ℕ) → line_ends text ≤ length text
+lines_fit text = count_by-le-length _ text

@@ -1,7 +1,13 @@
 -- The line with which a further file of a journal begins.
-use Rattle.std.specs.Prelude.{ℕ, ◌++◌, List, codes}
+use Rattle.std.specs.Prelude.{ℕ, ◌++◌, ◌==◌, ◌&&◌, Bool, true, false, List, [], ◌∷◌, codes}
 use Rattle.std.specs.Fmt.{decimal}
 use Rattle.scan_steps.specs.Digests.{all_mixed}
+
+-- a text begins with these bytes
+abbrev pub begins_with : List ℕ → List ℕ → Bool
+begins_with [] text = true
+begins_with (b ∷ bytes) [] = false
+begins_with (b ∷ bytes) (c ∷ text) = b == c && begins_with bytes text
 
 -- a number that is the same for equal texts, and mostly another one for others
 abbrev pub digest_of : List ℕ → ℕ

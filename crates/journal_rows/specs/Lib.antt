@@ -1,2 +1,3 @@
 pub mod ContinuesLine
+pub mod LooseFiles
 pub mod Rows

@@ -1,15 +1,11 @@
 -- Which files go on from which, and what is noted in them.
-use Rattle.std.specs.Prelude.{◌≡◌, ◌⊎◌, ℕ, zero, suc, ◌+◌, ◌++◌, ◌==◌, ◌&&◌, Bool, true, false, List, [], ◌∷◌, Option, Some, None, codes, length, slice_get, if◌then◌else◌}
+use Rattle.std.specs.Prelude.{◌≡◌, ◌⊎◌, ℕ, zero, suc, ◌+◌, ◌++◌, ◌==◌, map, Bool, true, false, List, [], ◌∷◌, Option, Some, None, codes, length, slice_get, if◌then◌else◌}
 use Rattle.std.specs.Borrow.{Bor}
 use Rattle.std.specs.List.{count_by, list_any, position}
-use Rattle.journal_rows.specs.ContinuesLine.{digest_of, continues_front}
+use Rattle.journal_rows.specs.ContinuesLine.{begins_with, digest_of, continues_front}
+use Rattle.journal_rows.specs.LooseFiles.{Texts, loose_file}
+use Rattle.journal_rows.specs.declared.loose_files.LooseFile.{LooseFile}
 use Rattle.journal_rows.specs.declared.rows.Row.{Row}
-
--- a text begins with these bytes
-abbrev pub begins_with : List ℕ → List ℕ → Bool
-begins_with [] text = true
-begins_with (b ∷ bytes) [] = false
-begins_with (b ∷ bytes) (c ∷ text) = b == c && begins_with bytes text
 
 -- a text is that of a further file
 abbrev pub is_further : List ℕ → Bool
@@ -28,11 +24,7 @@ behind_first_line (c ∷ text) = if c == 10 then c ∷ text else behind_first_li
 abbrev pub line_ends : List ℕ → ℕ
 line_ends text = count_by (λ c. c == 10) text
 
--- the texts of files, in the order in which they are given
-abbrev pub Texts : Type 0
-Texts = List (Bor (List ℕ))
-
--- the first of them that goes on from a file of this number and text
+-- the first of the files that goes on from a file of this number and text
 abbrev pub next_of : Texts → ℕ → List ℕ → Option ℕ
 next_of texts number before = position (λ t. goes_on_at number before t.now) texts
 
@@ -53,6 +45,7 @@ pub record IsRow (texts : Texts) (first : ℕ) (row : Row) : Type 0 where
   pub last : ℕ
   pub text : Bor (List ℕ)
   pub go_on : GoOn texts first further last row.files.items row.ended.items row.text.items
+  pub lines_are : row.lines ≡ line_ends row.text.items
   pub last_is : slice_get texts last ≡ Some text
   pub ends : next_of texts further text.now ≡ None
 
@@ -73,7 +66,8 @@ abbrev pub loose_of : List Row → ℕ → List ℕ
 loose_of rows zero = []
 loose_of rows (suc k) = loose_of rows k ++ (if is_in rows k then [] else k ∷ [])
 
--- What files are: those that are no further ones begin rows, in their order, and the others are in these, or loose.
-pub record AreRows (texts : Texts) (rows : List Row) (loose : List ℕ) : Type 0 where
+-- What files are: those that are no further ones begin rows, in their order, and the others are in these, or loose, which is
+-- explained.
+pub record AreRows (texts : Texts) (rows : List Row) (loose : List LooseFile) : Type 0 where
   pub rows_are : HaveRows texts (length texts) rows
-  pub loose_are : loose ≡ loose_of rows (length texts)
+  pub loose_are : loose ≡ map (loose_file texts) (loose_of rows (length texts))

@@ -1,10 +1,23 @@
 //! The line with which a further file of a journal begins, such as `CONTINUES 2 8013946127 R1 5;`.
 
 ghost use Rattle.std.specs.Prelude.{◌≡◌, IfOk, string_bytes};
-ghost use Rattle.journal_rows.specs.ContinuesLine.{continues_front, continues_line};
+ghost use Rattle.journal_rows.specs.ContinuesLine.{begins_with, continues_front, continues_line};
 
 use std::alloc::{AllocError, Global};
 use std::fmt::Write;
+
+/// Whether a text begins with these bytes.
+pub(crate) fn begins_with(bytes: &[u8], text: &[u8]) -> bool
+    ensures { result ≡ begins_with bytes.now text.now }
+{
+    let [byte, bytes @ ..] = bytes else {
+        return true;
+    };
+    let [first, text @ ..] = text else {
+        return false;
+    };
+    *byte == *first && begins_with(bytes, text)
+}
 
 /// What stands in that line before the resource: the file's number, and the digest of the file before.
 pub fn continues_front(alloc: Global, number: u64, digest: u64) -> Result<String, AllocError>

@@ -2,10 +2,12 @@
 
 ghost use Rattle.std.specs.Prelude.{◌≡◌, ◌<◌, ◌==◌, ◌++◌, ◌∷◌, [], IfOk, IfSome, OnOk, length};
 ghost use Rattle.std.specs.List.{list_any, position};
-ghost use Rattle.journal_rows.specs.Rows.{begins_with, behind_first_line, is_further, is_in, line_ends, loose_of, AreRows, HaveRows, IsRow};
+ghost use Rattle.journal_rows.specs.ContinuesLine.{begins_with};
+ghost use Rattle.journal_rows.specs.Rows.{behind_first_line, is_further, is_in, line_ends, loose_of, AreRows, HaveRows, IsRow};
 
 use crate::digests::digest_of;
-use crate::first_line::continues_front;
+use crate::first_line::{begins_with, continues_front};
+use crate::loose_files::{LooseFile, explained};
 use std::alloc::{AllocError, Global};
 
 /// Files of which each goes on from the one before, and what is noted in them.
@@ -17,27 +19,16 @@ pub struct Row {
     pub ended: Vec<usize>,
     /// What is noted, one file behind the other. Each further one's first line is empty.
     pub text: Vec<u8>,
+    /// How many lines end in it.
+    pub lines: usize,
 }
 
 /// What files are found to be.
 #[derive(Drop)]
 pub struct Rows {
     pub rows: Vec<Row>,
-    /// The places of those that go on from none that is given.
-    pub loose: Vec<usize>,
-}
-
-/// Whether a text begins with these bytes.
-fn begins_with(bytes: &[u8], text: &[u8]) -> bool
-    ensures { result ≡ begins_with bytes.now text.now }
-{
-    let [byte, bytes @ ..] = bytes else {
-        return true;
-    };
-    let [first, text @ ..] = text else {
-        return false;
-    };
-    *byte == *first && begins_with(bytes, text)
+    /// Those that go on from none that is given.
+    pub loose: Vec<LooseFile>,
 }
 
 /// Whether a text is that of a further file.
@@ -80,6 +71,7 @@ impl Row {
         ensures files { IfOk result (λ row. row.files.items ≡ first ∷ []) }
         ensures ended { IfOk result (λ row. row.ended.items ≡ 0 ∷ []) }
         ensures text { IfOk result (λ row. row.text.items ≡ text.now) }
+        ensures lines { IfOk result (λ row. row.lines ≡ line_ends text.now) }
     {
         let mut files = Vec::new(alloc);
         files.push(first)?;
@@ -89,18 +81,25 @@ impl Row {
             files,
             ended,
             text: Vec::from_slice(alloc, text)?,
+            lines: line_ends(text),
         })
     }
 
     /// One file more goes on from the last one.
+    #[tactic(auto, using(crate::proofs::GoingOn::lines_more, crate::proofs::GoingOn::lines_fit))]
     fn go_on(&mut self, file: usize, text: &[u8]) -> Result<(), AllocError>
+        requires { self.old.lines ≡ line_ends self.old.text.items }
         ensures files { OnOk result (self.new.files.items ≡ self.old.files.items ++ file ∷ []) }
         ensures ended { OnOk result (self.new.ended.items ≡ self.old.ended.items ++ line_ends self.old.text.items ∷ []) }
         ensures text { OnOk result (self.new.text.items ≡ self.old.text.items ++ behind_first_line text.now) }
+        ensures lines { OnOk result (self.new.lines ≡ line_ends self.new.text.items) }
     {
-        self.ended.push(line_ends(self.text.as_slice()))?;
+        let noted = behind_first_line(text);
+        self.ended.push(self.lines)?;
         self.files.push(file)?;
-        self.text.extend_from_slice(behind_first_line(text))
+        self.text.extend_from_slice(noted)?;
+        self.lines += line_ends(noted);
+        Ok(())
     }
 }
 
@@ -169,5 +168,6 @@ pub fn join(alloc: Global, texts: &[&[u8]]) -> Result<Rows, AllocError>
 {
     let rows = rows_of(alloc, texts)?;
     let loose = loose_of(alloc, rows.as_slice(), texts.len())?;
+    let loose = explained(alloc, texts, loose.as_slice())?;
     Ok(Rows { rows, loose })
 }

@@ -124,25 +124,38 @@ fn read_once<R: Files + Wait>(
 /// How long a FIFO is left alone that was opened anew and is at its end at once, in ms.
 const PAUSE: u64 = 10;
 
+/// How long a path is left alone that can't be opened, in ms.
+const ABSENCE: u64 = 100;
+
+/// A path that can't be opened.
+fn absent() -> LastTold {
+    LastTold {
+        told: Told::Unread(ReadFault::Read),
+        tells_more: false,
+    }
+}
+
 /// What the thread of a field does once the loop starts: it hands on each line of a file, and tells its end. A FIFO is opened
-/// anew then. Where that is at its end at once, as a pipe without a name always is, the end isn't told again.
+/// anew then, and so is a path that can't be opened: perhaps it is made later. Where that is at its end at once, as a pipe
+/// without a name always is, the end isn't told again.
 pub fn read_field<R: Files + Wait + Clock>(rt: &R, alloc: Global, path: &str, to: ReaderEnd) {
     if !to.is_started(rt) {
         return;
     }
     let mut is_ended = false;
     for _ in rt.forever() {
-        let (last, is_fifo) = match read_once(rt, alloc, path, &to) {
-            Ok(read) => read,
-            Err(_) => (unread(ReadFault::Read), false),
+        let (last, pause) = match read_once(rt, alloc, path, &to) {
+            Ok((last, true)) => (last, Some(PAUSE)),
+            Ok((last, false)) => (last, None),
+            Err(_) => (absent(), Some(ABSENCE)),
         };
         if is_ended && !last.tells_more {
-            thread::sleep(rt, Duration::from_millis(PAUSE));
+            thread::sleep(rt, Duration::from_millis(pause.unwrap_or(PAUSE)));
         } else if !to.hand_on(rt, last.told) {
             return;
         }
         is_ended = true;
-        if !is_fifo {
+        if pause.is_none() {
             return;
         }
     }

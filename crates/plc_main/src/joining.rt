@@ -1,7 +1,7 @@
 //! The journals that `audit` reads: further files are joined to those that they go on from.
 
 use audit::JournalFile;
-use journal_rows::{Row, Rows, join};
+use journal_rows::{LooseCause, LooseFile, Row, Rows, join};
 use std::alloc::{AllocError, Global};
 use std::io;
 
@@ -56,6 +56,42 @@ fn push_seams(
     Ok(())
 }
 
+/// Whether a file is one of the loose ones.
+fn is_loose(loose: &[LooseFile], file: usize) -> bool {
+    loose.iter().any(|other| other.file == file)
+}
+
+/// Tells why a further file is loose.
+fn tell_loose<R: Eprint>(
+    rt: &R,
+    files: &[JournalFile],
+    loose: &[LooseFile],
+    found: &LooseFile,
+) -> io::Result<()> {
+    let name = name_of(files, found.file);
+    match found.cause {
+        LooseCause::Again(first) => {
+            let first = name_of(files, first);
+            eprintln!(rt; "plc: {name}:1: it was given before, as {first}")
+        }
+        LooseCause::Behind(before) if is_loose(loose, before) => {
+            let before = name_of(files, before);
+            eprintln!(rt;
+                "plc: {name}:1: it goes on from {before}, which goes on from none that is given"
+            )
+        }
+        LooseCause::Behind(before) => {
+            let before = name_of(files, before);
+            eprintln!(rt;
+                "plc: {name}:1: another file goes on from {before}, or the number here was changed"
+            )
+        }
+        LooseCause::Missing => {
+            eprintln!(rt; "plc: {name}:1: it goes on from a file that isn't given, or was changed")
+        }
+    }
+}
+
 /// The journals of files: one for each row, by the name of its first file; and one without lines for each file that goes on
 /// from none that is given. Which these are is told.
 pub fn joined_journals<R: Eprint + AllocGlobal>(
@@ -72,16 +108,16 @@ pub fn joined_journals<R: Eprint + AllocGlobal>(
             files: places,
             ended,
             text,
+            lines: _,
         } = row;
         let first = places.first().copied().unwrap_or(0);
         push_seams(&mut seams, first, places.as_slice(), ended.as_slice())?;
         let name = String::from_str(alloc, name_of(files, first))?;
         journals.push(JournalFile { name, text })?;
     }
-    for file in loose {
-        let name = name_of(files, file);
-        eprintln!(rt; "plc: {name}:1: it goes on from a file that isn't given, or was changed")?;
-        let name = String::from_str(alloc, name)?;
+    for found in loose.as_slice() {
+        tell_loose(rt, files, loose.as_slice(), found)?;
+        let name = String::from_str(alloc, name_of(files, found.file))?;
         let text = Vec::new(alloc);
         journals.push(JournalFile { name, text })?;
     }

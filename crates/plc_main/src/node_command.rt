@@ -11,13 +11,12 @@ ghost use Rattle.plc_main.specs.NodeCommand.{RunsNode, StopsRunning};
 use crate::journal_head::begins_as_journal;
 use crate::running_alone::{Inputs, is_alone, run_alone};
 use crate::{keeper_in, print_lock_fault, print_no_folder, print_resource_faults};
-use console::{FAILED, JournalFull, NodeRequest, PreparedNode, prepare_node};
-use further_files::{FileRow, RowFault, RowNotes};
-use keepers::{Keeper, MemoryKeeper, ResourceLock};
-use live_node::{
-    FileNotes, JournalFault, LenientNotes, LinesAtHand, LiveStop, NoNotes, Node, NodeStop, Notes,
-    live,
+use console::{
+    FAILED, JournalFull, NodeRequest, PreparedNode, WordRefusal, prepare_node, print_word_refusal,
 };
+use further_files::{FileRow, RowFault, RowNotes, further_file, open_single};
+use keepers::{Keeper, MemoryKeeper, ResourceLock};
+use live_node::{LenientNotes, LinesAtHand, LiveStop, NoNotes, Node, NodeStop, Notes, live};
 use node_loop::{LoopStop, NoClock, ReaderEnds};
 use std::alloc::{AllocError, Global};
 use std::io::{BufReader, Read, Write};
@@ -32,9 +31,7 @@ pub enum NodeFault {
     /// What is to be its journal is another text.
     NoJournal,
     /// Its journal isn't opened.
-    Journal(JournalFault),
-    /// The files of its journal aren't opened.
-    Row(RowFault),
+    Journal(RowFault),
     /// It ended before.
     Stop(LoopStop),
     /// There is no thread for an input.
@@ -43,7 +40,7 @@ pub enum NodeFault {
 
 impl From<RowFault> for NodeFault {
     fn from(fault: RowFault) -> NodeFault {
-        NodeFault::Row(fault)
+        NodeFault::Journal(fault)
     }
 }
 
@@ -272,10 +269,8 @@ fn run_noting<
     if let Some(size) = request.journal_size {
         return run_in_row(rt, host, request, prepared, keeper, journal, size, readers);
     }
-    match FileNotes::open(host, journal) {
-        Ok(notes) => run_journaled(rt, request, prepared, keeper, notes, readers),
-        Err(fault) => Err(NodeFault::Journal(fault)),
-    }
+    let notes = open_single(host, journal)?;
+    run_journaled(rt, request, prepared, keeper, notes, readers)
 }
 
 /// Why a node ended, as it is told: where it was to go on without noting, it stopped since it couldn't tell that.
@@ -306,10 +301,6 @@ fn tell_node<R: Eprint>(
             eprintln!(rt; "plc: {journal}: this is no journal")?;
         }
         Err(NodeFault::Journal(fault)) => {
-            let journal = request.journal.unwrap_or("");
-            eprintln!(rt; "plc: {journal}: {fault}")?;
-        }
-        Err(NodeFault::Row(fault)) => {
             let journal = request.journal.unwrap_or("");
             eprintln!(rt; "plc: {journal}: {fault}")?;
         }
@@ -351,13 +342,33 @@ fn run_kept<
     Ok(status)
 }
 
-/// Reads what a node needs, and runs it; the status.
+/// Where standard input is found.
+const INPUT: &str = "/dev/stdin";
+
+/// The further file of its journal that a node reads as its field or by standard input.
+fn further_read(host: &HostRuntime, request: &NodeRequest<'_>) -> io::Result<Option<String>> {
+    let (Some(journal), Some(_)) = (request.journal, request.journal_size) else {
+        return Ok(None);
+    };
+    if let Some(field) = request.field {
+        if let Some(further) = further_file(host, journal, field)? {
+            return Ok(Some(further));
+        }
+    }
+    further_file(host, journal, INPUT)
+}
+
+/// Reads what a node needs, and runs it, unless it reads its own journal; the status.
 pub(crate) fn answer_node<
     R: Files + Clock + Input + Print + Eprint + AllocGlobal + Wait,
     S: FnOnce(Inputs, ReaderEnds) -> bool,
 >(rt: &R, host: &HostRuntime, request: &NodeRequest<'_>, readers: S) -> io::Result<u8>
     requires { (inputs : _) → (ends : _) → S.pre readers inputs ends }
 {
+    if let Ok(Some(further)) = further_read(host, request) {
+        let (path, option) = (further.as_str(), "--journal");
+        return print_word_refusal(rt, WordRefusal::WrittenOver { path, option });
+    }
     let prepared = match prepare_node(rt, request)? {
         Ok(prepared) => prepared,
         Err(status) => return Ok(status),

@@ -5,6 +5,8 @@ import subprocess
 import sys
 
 PLC = sys.argv[1]
+MISSING = "it goes on from a file that isn't given, or was changed"
+CHANGED = "or the number here was changed"
 EVALS = "".join(f"EVAL R1.FAST {k % 50} %IX0={k % 2}\n" for k in range(600))
 told = []
 
@@ -21,6 +23,12 @@ def audit(files):
 def holds(what, is_so):
     if not is_so:
         told.append(what)
+
+
+def why(files, file):
+    """What is told of a file that goes on from none that is given."""
+    front = f"plc: {file}:1: "
+    return [line[len(front) :] for line in audit(files)[2].splitlines() if line.startswith(front)]
 
 
 def is_told(files, file):
@@ -44,6 +52,24 @@ for k in range(len(files) - 1):
     rest = files[:k] + files[k + 1 :]
     holds(f"{files[k]} isn't missed", is_told(rest, files[k + 1]))
 holds("the last one is missed", audit(files[:-1])[0] == 0)
+
+holds("what is missed is told otherwise", why(files[1:], "cut.1") == [MISSING])
+for k in range(2, len(files)):
+    holds(f"of cut.{k} another cause is told", why(files[1:], f"cut.{k}") == [f"it goes on from cut.{k - 1}, which goes on from none that is given"])
+with open("cut.2", "rb") as opened:
+    further = opened.read()
+with open("twice", "wb") as opened:
+    opened.write(further)
+with open("fork", "wb") as opened:
+    opened.write(further + b"EVAL R1.FAST 1;\n")
+for given in (files, files[2:]):
+    for name in ("cut.2", "twice"):
+        holds(f"{name} isn't told as given before", "it was given before, as cut.2" in why([*given, name], name))
+    holds("what goes on from the same file isn't told", is_told([*given, "fork"], "fork"))
+holds("of what goes on from the same file another cause is told", why([*files, "fork"], "fork") == [f"another file goes on from cut.1, {CHANGED}"])
+with open("fork", "wb") as opened:
+    opened.write(further.replace(b"CONTINUES 2 ", b"CONTINUES 7 "))
+holds("of a changed number another cause is told", why([*files[:2], "fork", *files[3:]], "fork") == [f"another file goes on from cut.1, {CHANGED}"])
 
 for k, file in enumerate(files[:-1]):
     with open(file, "rb") as opened:

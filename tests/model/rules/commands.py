@@ -11,11 +11,11 @@ from .inputs import BadInput, Inputs, parts_of
 from .kept_files import BadFile, KeptFiles
 from .lines import lines_of, without_comments
 from .networks import networks_of
-from .node import Journal, Node, NoFiles
+from .node import Node, NoFiles
 from .plan import plan_of, schedule_of
 from .plant_text import find, read_plant
 from .refusal import Refusal
-from .rows import RowJournal, joined
+from .rows import RowJournal, joined, single_journal
 from .run import Run, do_in_turns, lines_of_steps
 from .scan import Ladder, State, kept_by_restarts, stored_names
 from .schedule import MOST_U32, steps_of
@@ -652,7 +652,7 @@ def notes_of(files, options, resource, write):
     path = files.whole_path(options["--journal"])
     if "--journal-size" in options:
         return RowJournal(path, resource, options["--journal-size"], told).note
-    return Journal(path, told).note
+    return single_journal(path, told).note
 
 
 def node_answers(it, files, options):

@@ -37,19 +37,37 @@ def joined(files):
     return rows + [(path, "") for k, (path, _) in enumerate(files) if k not in taken]
 
 
+def numbers_of(path):
+    """The numbers of what stands in the place of further files."""
+    folder, name = os.path.split(path)
+    ends = [it[len(name) + 1 :] for it in os.listdir(folder or ".") if it.startswith(f"{name}.")]
+    return [int(it) for it in ends if it.isascii() and it.isdigit() and it[0] != "0"]
+
+
+def is_further(path):
+    if not os.path.isfile(path):
+        return False
+    with open(path, "rb") as file:
+        return file.read(len(CONTINUES)) == CONTINUES.encode()
+
+
+def single_journal(path, tell=None):
+    """A file to which alone a node notes: no further one goes on from it."""
+    if any(is_further(f"{path}.{it}") for it in numbers_of(path)):
+        raise OSError("it goes on in further files")
+    return Journal(path, tell)
+
+
 class RowJournal(Journal):
     """The files to whose last one a node notes, each of so many bytes at most, where more than one note stands in it."""
 
     def __init__(self, path, resource, size, tell=None):
         super().__init__(path, tell)
         self.first, self.resource, self.size, self.incarnation = path, resource, size, 0
-        self.number = max([0, *(int(it.rpartition(".")[2]) for it in self.others())])
+        self.number = max([0, *numbers_of(path)])
         self.path = f"{path}.{self.number}" if self.number else path
-
-    def others(self):
-        folder, name = os.path.split(self.first)
-        ends = [it[len(name) + 1 :] for it in os.listdir(folder or ".") if it.startswith(f"{name}.")]
-        return [f".{it}" for it in ends if it.isascii() and it.isdigit() and it[0] != "0"]
+        if self.number and not is_further(self.path):
+            raise OSError("the last file is none of the journal's")
 
     def note(self, line):
         words = line.lstrip("\n").split()

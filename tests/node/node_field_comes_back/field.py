@@ -1,7 +1,13 @@
-"""The field of a node is a FIFO: each writer that goes ends it once, and the next one is read. A file that can't be read ends it too."""
+"""The field of a node is a FIFO: each writer that goes ends it once, and the next one is read. A file that can't be read ends it too.
+
+One that is made later is read then.
+"""
 import os
 import subprocess
 import sys
+import time
+
+SECONDS = 20
 
 
 def node(field):
@@ -14,15 +20,17 @@ def told(it, count):
         print(it.stdout.readline(), end="")
 
 
-def tell(text):
-    """A writer of its own; where the node hasn't opened the FIFO anew yet, it is tried again."""
-    while True:
+def tell(text, field="field"):
+    """A writer of its own, once the node reads; where it hasn't opened the FIFO anew yet, it is tried again."""
+    last = time.monotonic() + SECONDS
+    while time.monotonic() < last:
         try:
-            with open("field", "w", encoding="ascii") as file:
+            with os.fdopen(os.open(field, os.O_WRONLY | os.O_NONBLOCK), "w", encoding="ascii") as file:
                 file.write(text)
             return
-        except BrokenPipeError:
-            pass
+        except OSError:
+            time.sleep(0.01)
+    raise TimeoutError("nobody reads the field")
 
 
 def main():
@@ -38,6 +46,15 @@ def main():
     for name in ("missing", "."):
         it = node(name)
         told(it, 2)
+        it.terminate()
+        it.wait()
+    it = node("late")
+    try:
+        told(it, 2)
+        os.mkfifo("late")
+        tell("INPUT %IX0=1\n", "late")
+        told(it, 2)
+    finally:
         it.terminate()
         it.wait()
 

@@ -2,7 +2,7 @@
 
 What is noted in them is what one file has without --journal-size, and each is no longer than asked; a further one begins with its
 number and the digest of the file before. At a start the last one goes on; a further file that is none of the journal's is left as it
-is, and nothing is begun. What a node that died left beside is replaced.
+is, and nothing is begun; nor is beside a node that goes on in a further one, also where the second one has no --journal-size. What a node that died left beside is replaced; where a further file can't be begun, nothing is left there.
 """
 import os
 import stat
@@ -83,6 +83,18 @@ holds("the notes differ at a second start", whole("cut") == read("one"))
 after = [read(file) for file in files_of("cut")]
 holds("an earlier file was changed", after[: len(before) - 1] == before[:-1] and after[len(before) - 1].startswith(before[-1]))
 
+both = subprocess.Popen([PLC, "node", "pair.plant", "R1", "--journal", "both", "--journal-size", str(SIZE)], stdin=subprocess.PIPE, stdout=subprocess.PIPE, text=True)
+both.stdin.write("".join(f"{line}\n" for line in EVALS))
+both.stdin.flush()
+while not both.stdout.readline().startswith(f"EVAL {len(EVALS)} "):
+    pass
+before = [read(file) for file in files_of("both")]
+for more in ([], ["--journal-size", str(SIZE)]):
+    refused = run("both", EVALS[:3], *more)
+    holds(f"a second node with {more} has the journal: {refused}", refused == (3, "", "plc: both: another node uses this journal\n"))
+holds("a second node changed the journal", len(before) > 1 and [read(file) for file in files_of("both")] == before)
+both.communicate()
+
 with open("left.1.tmp", "w", encoding="ascii") as file:
     file.write("CONT")
 holds("what is left beside is in the way", run("left", EVALS, "--journal-size", str(SIZE))[0] == 0 and whole("left") != b"")
@@ -93,6 +105,15 @@ with open("other.7", "w", encoding="ascii") as file:
     file.write("notes of mine\n")
 status, _, message = run("other", EVALS[:3], "--journal-size", str(SIZE))
 holds(f"a file of another kind is taken: {status} {message}", status == 3 and "other" in message and read("other.7") == b"notes of mine\n")
+
+taken = subprocess.Popen([PLC, "node", "pair.plant", "R1", "--journal", "taken", "--journal-size", str(SIZE)], stdin=subprocess.PIPE, stdout=subprocess.PIPE, text=True, stderr=subprocess.DEVNULL)
+while not taken.stdout.readline().startswith("START"):
+    pass
+with open("taken.1", "w", encoding="ascii") as file:
+    file.write("notes of mine\n")
+taken.communicate("".join(f"{line}\n" for line in EVALS))
+holds("a file that was made meanwhile is written over", taken.returncode == 3 and read("taken.1") == b"notes of mine\n")
+holds("the file beside stays where a further one can't be begun", not os.path.exists("taken.1.tmp"))
 
 os.symlink("nowhere", "link.1")
 status, _, message = run("link", EVALS, "--journal-size", str(SIZE))

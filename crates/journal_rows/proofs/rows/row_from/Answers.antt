@@ -11,7 +11,8 @@ returns-in_default c =
       further = c.loop-further.further;
       last = last;
       text = text_at texts last;
-      go_on = c.loop-further.invariant.1;
+      go_on = c.loop-further.invariant.2;
+      lines_are = c.loop-further.invariant.1;
       last_is = is_there texts last c.loop-further.invariant.0;
       ends = found_next texts c.loop-further.further (text_at texts last).now _ _ _ c.digest_of.ensures (c.as_bytes.ensures.value ∙ c.in_ok-front.ensures) c.in_default.ensures.place;
     }
@@ -22,7 +23,8 @@ loop-further-preserved c =
     let last = c.loop-further.last in
     let next = c.in-Some.next in (
       c.in-Some.ensures.within,
-      go_on_more texts c.args.first c.loop-further.further last next _ _ _ _ _ _ (text_at texts last) (text_at texts next) c.loop-further.invariant.1
+      c.in_ok-go_on.ensures.lines,
+      go_on_more texts c.args.first c.loop-further.further last next _ _ _ _ _ _ (text_at texts last) (text_at texts next) c.loop-further.invariant.2
           (is_there texts last c.loop-further.invariant.0) (is_there texts next c.in-Some.ensures.within)
           (found_next texts c.loop-further.further (text_at texts last).now _ _ _ c.digest_of.ensures (c.as_bytes.ensures.value ∙ c.in_ok-front.ensures) c.in-Some.ensures.place)
           c.in_ok-go_on.ensures.files c.in_ok-go_on.ensures.ended c.in_ok-go_on.ensures.text,
