@@ -7,9 +7,9 @@ import time
 RUNS = 3
 
 
-def least_of(words, lines=os.devnull, files=(), statuses=(0,)):
+def least_of(words, lines=os.devnull, files=(), statuses=(0,), errors=None):
     """The least seconds and the most kB of some runs that read this file, each without these files before it."""
-    return least([timed(words, lines, files, statuses) for _ in range(RUNS)])
+    return least([timed(words, lines, files, statuses, errors) for _ in range(RUNS)])
 
 
 def least_in_turn(programs):
@@ -22,13 +22,13 @@ def least(runs):
     return min(took for took, _ in runs), max(memory for _, memory in runs)
 
 
-def timed(words, lines=os.devnull, files=(), statuses=(0,)):
-    """The seconds and the kB of one run."""
+def timed(words, lines=os.devnull, files=(), statuses=(0,), errors=None):
+    """The seconds and the kB of one run, whose standard error goes there."""
     for it in filter(os.path.exists, files):
         os.remove(it)
     with open(lines, "rb") as given:
         started = time.monotonic()
-        child = subprocess.Popen(words, stdin=given, stdout=subprocess.DEVNULL)
+        child = subprocess.Popen(words, stdin=given, stdout=subprocess.DEVNULL, stderr=errors)
         _, status, usage = os.wait4(child.pid, 0)
         took = time.monotonic() - started
     child.returncode = os.waitstatus_to_exitcode(status)

@@ -10,7 +10,7 @@ use crate::faults::print_failure;
 use crate::request::{Strictness, TextRequest};
 use crate::shown::Shown;
 use crate::status::TEXT_REFUSED;
-use guidance::{marked_column, marked_line};
+use guidance::{column_among, ended_lines, whole_among};
 use std::alloc::{AllocError, Global};
 use std::io;
 use text_commands::without_comments;
@@ -19,16 +19,16 @@ use warnings::{
     warnings_of_a_text,
 };
 
-/// Tells a warning: its place and kind, the line with a mark, and what to write instead.
+/// Tells a warning: its place and kind, the line of the text with a mark, and what to write instead.
 fn print_warning<R: Eprint + AllocGlobal>(
     rt: &R,
     file: &str,
-    text: &str,
+    lines: &[&str],
     warning: Warning,
 ) -> io::Result<()> {
     let file = Shown(file);
     eprintln!(rt; "{file}:{warning}")?;
-    if let Ok(shown) = marked_column(rt.alloc(), text, warning.line, warning.column) {
+    if let Ok(shown) = column_among(rt.alloc(), lines, warning.line, warning.column) {
         rt.eprint(shown.as_str())?;
     }
     let sentence = warning.kind.sentence();
@@ -39,11 +39,11 @@ fn print_warning<R: Eprint + AllocGlobal>(
 fn print_warnings<R: Eprint + AllocGlobal>(
     rt: &R,
     file: &str,
-    text: &str,
+    lines: &[&str],
     warnings: &[Warning],
 ) -> io::Result<()> {
     for warning in warnings {
-        print_warning(rt, file, text, *warning)?;
+        print_warning(rt, file, lines, *warning)?;
     }
     Ok(())
 }
@@ -52,12 +52,12 @@ fn print_warnings<R: Eprint + AllocGlobal>(
 fn print_unbound<R: Eprint + AllocGlobal>(
     rt: &R,
     file: &str,
-    text: &str,
+    lines: &[&str],
     unbound: &UnboundInput,
 ) -> io::Result<()> {
     let file = Shown(file);
     eprintln!(rt; "{file}:{unbound}")?;
-    if let Ok(shown) = marked_line(rt.alloc(), text, unbound.line) {
+    if let Ok(shown) = whole_among(rt.alloc(), lines, unbound.line) {
         rt.eprint(shown.as_str())?;
     }
     if let Ok(sentence) = unbound.sentence(rt.alloc()) {
@@ -69,11 +69,11 @@ fn print_unbound<R: Eprint + AllocGlobal>(
 fn print_unbound_inputs<R: Eprint + AllocGlobal>(
     rt: &R,
     file: &str,
-    text: &str,
+    lines: &[&str],
     inputs: &[UnboundInput],
 ) -> io::Result<()> {
     for input in inputs {
-        print_unbound(rt, file, text, input)?;
+        print_unbound(rt, file, lines, input)?;
     }
     Ok(())
 }
@@ -82,12 +82,12 @@ fn print_unbound_inputs<R: Eprint + AllocGlobal>(
 fn print_far<R: Eprint + AllocGlobal>(
     rt: &R,
     file: &str,
-    text: &str,
+    lines: &[&str],
     far: &FarAddress,
 ) -> io::Result<()> {
     let file = Shown(file);
     eprintln!(rt; "{file}:{far}")?;
-    if let Ok(shown) = marked_line(rt.alloc(), text, far.line) {
+    if let Ok(shown) = whole_among(rt.alloc(), lines, far.line) {
         rt.eprint(shown.as_str())?;
     }
     if let Ok(sentence) = far.sentence(rt.alloc()) {
@@ -99,13 +99,47 @@ fn print_far<R: Eprint + AllocGlobal>(
 fn print_far_addresses<R: Eprint + AllocGlobal>(
     rt: &R,
     file: &str,
-    text: &str,
+    lines: &[&str],
     addresses: &[FarAddress],
 ) -> io::Result<()> {
     for far in addresses {
-        print_far(rt, file, text, far)?;
+        print_far(rt, file, lines, far)?;
     }
     Ok(())
+}
+
+/// Tells the warnings of a drawing's text. An error is want of memory.
+fn print_drawing_warnings<R: Eprint + AllocGlobal>(
+    rt: &R,
+    file: &str,
+    text: &str,
+    warnings: &[Warning],
+) -> io::Result<Result<(), AllocError>> {
+    match ended_lines(rt.alloc(), text) {
+        Ok(lines) => {
+            print_warnings(rt, file, &lines, warnings)?;
+            Ok(Ok(()))
+        }
+        Err(fault) => Ok(Err(fault)),
+    }
+}
+
+/// Tells the warnings of a plant's text. An error is want of memory.
+fn print_plant_warnings<R: Eprint + AllocGlobal>(
+    rt: &R,
+    file: &str,
+    text: &str,
+    warnings: &PlantWarnings,
+) -> io::Result<Result<(), AllocError>> {
+    match ended_lines(rt.alloc(), text) {
+        Ok(lines) => {
+            print_warnings(rt, file, &lines, &warnings.bodies)?;
+            print_unbound_inputs(rt, file, &lines, &warnings.unbound)?;
+            print_far_addresses(rt, file, &lines, &warnings.far)?;
+            Ok(Ok(()))
+        }
+        Err(fault) => Ok(Err(fault)),
+    }
 }
 
 /// The warnings of a drawing's text, if need be with its comments emptied, with `dt` milliseconds from each scan to the next;
@@ -145,10 +179,10 @@ fn tell_drawing<R: Eprint + AllocGlobal>(
     ensures { IfOk result (λ told. IfOk told (IsDrawingQuiet dt text.now)) }
 {
     match drawing_warnings(rt.alloc(), dt, text) {
-        Ok(Some(warnings)) => {
-            print_warnings(rt, file, text, &warnings)?;
-            Ok(Ok(warnings.is_empty()))
-        }
+        Ok(Some(warnings)) => match print_drawing_warnings(rt, file, text, &warnings)? {
+            Ok(()) => Ok(Ok(warnings.is_empty())),
+            Err(fault) => Ok(Err(fault)),
+        },
         Ok(None) => Ok(Ok(true)),
         Err(fault) => Ok(Err(fault)),
     }
@@ -171,12 +205,10 @@ fn tell_plant<R: Eprint + AllocGlobal>(
     ensures { IfOk result (λ told. IfOk told (IsPlantQuiet time.entry text.now)) }
 {
     match plant_warnings(rt.alloc(), time, text) {
-        Ok(Some(warnings)) => {
-            print_warnings(rt, file, text, &warnings.bodies)?;
-            print_unbound_inputs(rt, file, text, &warnings.unbound)?;
-            print_far_addresses(rt, file, text, &warnings.far)?;
-            Ok(Ok(is_plant_quiet(&warnings)))
-        }
+        Ok(Some(warnings)) => match print_plant_warnings(rt, file, text, &warnings)? {
+            Ok(()) => Ok(Ok(is_plant_quiet(&warnings))),
+            Err(fault) => Ok(Err(fault)),
+        },
         Ok(None) => Ok(Ok(true)),
         Err(fault) => Ok(Err(fault)),
     }

@@ -1,8 +1,9 @@
 -- How a place of a text is shown.
 use Rattle.std.specs.Prelude.{ℕ, ◌+◌, ◌-◌, ◌==◌, ◌&&◌, ◌++◌, Bool, nat_lt, if◌then◌else◌, List, [], max, min, codes, drop, length, map, slice_get, take, unwrap_or}
-use Rattle.std.specs.List.{repeat}
+use Rattle.std.specs.List.{repeat, slice_split}
 use Rattle.std.specs.Str.{chars, trim_start, trim_end}
 use Rattle.std.specs.Str.Lines.{lines}
+use Rattle.words.specs.Lines.{without_last}
 
 -- a sign that is shown as it is
 abbrev pub is_printed : ℕ → Bool
@@ -41,24 +42,37 @@ excerpt_behind hidden line before signs =
 abbrev pub excerpt_of : List ℕ → ℕ → ℕ → List ℕ
 excerpt_of line at signs = excerpt_behind (hidden_before at) line (at - hidden_before at) signs
 
--- the line with this number, of which the first has 1; empty where there is none
+-- of some lines the one with this number, of which the first has 1; empty where there is none
+abbrev pub line_among : List (List ℕ) → ℕ → List ℕ
+line_among rows number = unwrap_or (slice_get rows (number - 1)) []
+
 abbrev pub line_in : List ℕ → ℕ → List ℕ
-line_in text number = unwrap_or (slice_get (lines text) (number - 1)) []
+line_in text number = line_among (lines text) number
 
--- the line of a text, without a carriage return at its end
-abbrev pub line_at : List ℕ → ℕ → List ℕ
-line_at text number = line_in (text ++ codes "\n") number
+-- the lines of a text between its line feeds, each without a carriage return at its end
+abbrev pub ended_lines : List ℕ → List (List ℕ)
+ended_lines text = map (without_last 13) (slice_split (λ b. b == 10) text)
 
--- the line with a mark below this column, of which the first has 1
+-- of some lines the one with this number, with a mark below this column, of which the first has 1
+abbrev pub column_among : List (List ℕ) → ℕ → ℕ → List ℕ
+column_among rows number column = excerpt_of (line_among rows number) (column - 1) 1
+
+-- the line of a text with a mark below this column
 abbrev pub marked_column : List ℕ → ℕ → ℕ → List ℕ
-marked_column text number column = excerpt_of (line_at text number) (column - 1) 1
+marked_column text number column = column_among (ended_lines text) number column
 
 -- how many blanks a line begins with
 abbrev pub indented : List ℕ → ℕ
 indented line = length (chars line) - length (chars (trim_start line))
 
--- the line with marks below all of it but the blanks at both ends
+-- a line with marks below all of it but the blanks at both ends
+abbrev pub whole_marked : List ℕ → List ℕ
+whole_marked line = excerpt_of line (indented line) (length (chars (trim_end (trim_start line))))
+
+-- of some lines the one with this number, marked so
+abbrev pub whole_among : List (List ℕ) → ℕ → List ℕ
+whole_among rows number = whole_marked (line_among rows number)
+
+-- the line of a text, marked so
 abbrev pub marked_line : List ℕ → ℕ → List ℕ
-marked_line text number =
-    let line = line_at text number in
-    excerpt_of line (indented line) (length (chars (trim_end (trim_start line))))
+marked_line text number = whole_among (ended_lines text) number

@@ -1,9 +1,10 @@
-ghost use Rattle.std.specs.Prelude.{◌≡◌, ◌<◌, ◌++◌, ◌+◌, ◌-◌, [], ◌∷◌, OnOk, IfOk, codes, length, slice_get, string_bytes};
+ghost use Rattle.std.specs.Prelude.{◌≡◌, ◌<◌, ◌++◌, ◌+◌, ◌-◌, [], ◌∷◌, OnOk, IfOk, codes, length, map, slice_get, string_bytes};
 ghost use Rattle.std.specs.List.{repeat};
 ghost use Rattle.std.specs.Option.{option_map};
 ghost use Rattle.std.specs.Str.Lines.{lines};
 ghost use Rattle.std.specs.Str.{chars, trim_start, trim_end};
-ghost use Rattle.guidance.specs.Excerpts.{excerpt_of, hidden_before, indented, left_of, line_in, marked_column, marked_line, marked_at, right_of, shown_part, shown_sign};
+ghost use Rattle.words.specs.Lines.{without_last};
+ghost use Rattle.guidance.specs.Excerpts.{column_among, ended_lines, excerpt_of, hidden_before, indented, left_of, line_among, line_in, marked_column, marked_line, marked_at, right_of, shown_part, shown_sign, whole_among};
 
 use std::alloc::{AllocError, Global};
 
@@ -153,13 +154,56 @@ fn whole_of(line: &str) -> Place
     }
 }
 
-/// The text with a line feed behind it, so that a carriage return at its end is dropped as any other.
-fn with_line_feed(alloc: Global, text: &str) -> Result<String, AllocError>
-    ensures { IfOk result (λ ended. string_bytes ended ≡ text.now ++ codes "\n") }
+/// A part of a text between line feeds, without a carriage return at its end.
+fn without_return(part: &str) -> &str
+    ensures { result.now ≡ without_last 13 part.now }
 {
-    let mut ended = String::from_str(alloc, text)?;
-    ended.push_str("\n")?;
-    Ok(ended)
+    match part.strip_suffix('\r') {
+        Some(line) => line,
+        None => part,
+    }
+}
+
+/// The lines of a text, each without a carriage return at its end.
+pub fn ended_lines<'a>(alloc: Global, text: &'a str) -> Result<Vec<&'a str>, AllocError>
+    ensures { IfOk result (λ found. map (λ line. line.now) found.items ≡ ended_lines text.now) }
+{
+    let mut found = Vec::new(alloc);
+    for part in text.split('\n') {
+        found.push(without_return(part))?;
+    }
+    Ok(found)
+}
+
+/// Of some lines the one with this number, from 1; empty where there is none.
+fn line_among<'a>(lines: &[&'a str], number: u64) -> &'a str
+    ensures { result.now ≡ line_among (map (λ line. line.now) lines.now) number }
+{
+    match lines.get(number.saturating_sub(1) as usize) {
+        Some(line) => line,
+        None => "",
+    }
+}
+
+/// Of some lines the one with this number, with a mark below this column.
+pub fn column_among(
+    alloc: Global,
+    lines: &[&str],
+    line: u64,
+    column: usize,
+) -> Result<String, AllocError>
+    ensures { IfOk result (λ shown. string_bytes shown ≡ column_among (map (λ line. line.now) lines.now) line column) }
+{
+    let at = column.saturating_sub(1);
+    excerpt(alloc, line_among(lines, line), Place { at, signs: 1 })
+}
+
+/// Of some lines the one with this number, with marks below all of it but the blanks at both ends.
+pub fn whole_among(alloc: Global, lines: &[&str], line: u64) -> Result<String, AllocError>
+    ensures { IfOk result (λ shown. string_bytes shown ≡ whole_among (map (λ line. line.now) lines.now) line) }
+{
+    let shown = line_among(lines, line);
+    excerpt(alloc, shown, whole_of(shown))
 }
 
 /// A line of a text, with a mark below this column.
@@ -171,16 +215,12 @@ pub fn marked_column(
 ) -> Result<String, AllocError>
     ensures { IfOk result (λ shown. string_bytes shown ≡ marked_column text.now line column) }
 {
-    let at = column.saturating_sub(1);
-    let text = with_line_feed(alloc, text)?;
-    excerpt(alloc, line_of(text.as_str(), line), Place { at, signs: 1 })
+    column_among(alloc, &ended_lines(alloc, text)?, line, column)
 }
 
 /// A line of a text, with marks below all of it but the blanks at both ends.
 pub fn marked_line(alloc: Global, text: &str, line: u64) -> Result<String, AllocError>
     ensures { IfOk result (λ shown. string_bytes shown ≡ marked_line text.now line) }
 {
-    let text = with_line_feed(alloc, text)?;
-    let shown = line_of(text.as_str(), line);
-    excerpt(alloc, shown, whole_of(shown))
+    whole_among(alloc, &ended_lines(alloc, text)?, line)
 }

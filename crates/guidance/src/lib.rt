@@ -14,6 +14,6 @@ mod table;
 mod topic;
 mod unknown_word;
 
-pub use excerpt::{marked_column, marked_line};
+pub use excerpt::{column_among, ended_lines, marked_column, marked_line, whole_among};
 pub use explanation::{explain, kinds};
 pub use help::{Meant, help_with, help_with_a_program, help_with_a_schedule, help_with_a_word};

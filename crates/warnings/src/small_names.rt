@@ -1,6 +1,6 @@
 //! Names in small letters.
 
-ghost use Rattle.std.specs.Prelude.{◌≡◌, IfOk, string_bytes, map};
+ghost use Rattle.std.specs.Prelude.{◌≡◌, ◌++◌, ◌∷◌, [], ℕ, List, IfOk, OnOk, string_bytes, map};
 ghost use Rattle.warnings.specs.Found.{small};
 ghost use Rattle.warnings.specs.Steps.NameSets.{AreSmall, AnswerAsSmall};
 
@@ -28,13 +28,33 @@ pub fn small_names(alloc: Global, names: &[&str]) -> Result<BTreeSet<String>, Al
     Ok(set)
 }
 
-/// Each of these names in small letters, as often as it comes.
+/// Adds a name in small letters, unless it was seen.
+fn push_small(
+    seen: &mut BTreeSet<String>,
+    all: &mut Vec<SmallName>,
+    name: &str,
+) -> Result<(), AllocError>
+    ensures { (names : List (List ℕ)) → AreSmall names seen.old → AnswerAsSmall names all.old.items
+        → OnOk result (AreSmall (names ++ name.now ∷ []) seen.new × AnswerAsSmall (names ++ name.now ∷ []) all.new.items) }
+{
+    let alloc = *all.allocator();
+    let letters = small(alloc, name)?;
+    if seen.contains(letters.as_str()) {
+        return Ok(());
+    }
+    let _ = seen.insert(letters)?;
+    all.push(SmallName::of(alloc, name)?)?;
+    Ok(())
+}
+
+/// Each of these names in small letters, once.
 pub fn all_small(alloc: Global, names: &[&str]) -> Result<Vec<SmallName>, AllocError>
     ensures { IfOk result (λ all. AnswerAsSmall (map (λ n. n.now) names.now) all.items) }
 {
-    let mut all = Vec::with_capacity(alloc, names.len())?;
+    let mut seen = BTreeSet::new(alloc);
+    let mut all = Vec::new(alloc);
     for name in names {
-        all.push(SmallName::of(alloc, name)?)?;
+        push_small(&mut seen, &mut all, name)?;
     }
     Ok(all)
 }

@@ -1,8 +1,6 @@
 use Rattle.std.proofs.Common.{◌≡◌, ℕ, ◌+◌, List, [], ◌∷◌, ◌++◌, Bor, map, take, get_or, ap, ◌∙◌, sym, subst}
 use Rattle.std.proofs.lemmas.List.{take_more, map_push}
-use Rattle.warnings.specs.Found.{small}
-use Rattle.warnings.specs.Steps.NameSets.{AnswerAsSmall}
-use Rattle.warnings.proofs.SameNames.{answers_more}
+use Rattle.warnings.specs.Steps.NameSets.{AreSmall, AnswerAsSmall}
 use Rattle.warnings.proofs.small_names.all_small.Goals as goal
 
 pub loop-name-preserved : goal.loop-name-preserved
@@ -13,8 +11,5 @@ loop-name-preserved c =
     let bytes = λ (n : Bor (List ℕ)). n.now in
     let step : map bytes (take (k + 1) names) ≡ map bytes (take k names) ++ (get_or names k none).now ∷ []
     = ap (map bytes) (take_more names k none c.loop-name-test.true) ∙ map_push bytes (take k names) (get_or names k none) in
-    let pushed : c.push.new.self.items ≡ c.loop-name.all.items ++ small (get_or names k none).now ∷ []
-    = c.in_ok-push.ensures.items ∙ ap (λ s. c.loop-name.all.items ++ s ∷ []) c.in_ok-of.ensures in
-    subst (λ all. AnswerAsSmall (map bytes (take (k + 1) names)) all) (sym pushed)
-    (subst (λ xs. AnswerAsSmall xs (c.loop-name.all.items ++ small (get_or names k none).now ∷ [])) (sym step)
-    (answers_more (map bytes (take k names)) c.loop-name.all.items (get_or names k none).now c.loop-name.invariant))
+    subst (λ (xs : List (List ℕ)). AreSmall xs c.push_small.new.seen × AnswerAsSmall xs c.push_small.new.all.items) (sym step)
+    (c.in_ok-push_small.ensures (map bytes (take k names)) c.loop-name.invariant.0 c.loop-name.invariant.1)
