@@ -16,7 +16,8 @@ use Rattle.network.specs.declared.element.Element.TheVariants.{Wire, Join, Uprig
 use Rattle.network.specs.Links.{Diagram}
 use Rattle.std_blocks.specs.declared.block_type.BlockType.{BlockType}
 use Rattle.std_blocks.specs.declared.block_type.BlockType.TheVariants.{CTU}
-use Rattle.std_blocks.specs.declared.pin.Field.TheVariants.{Bit, Int}
+use Rattle.std_blocks.specs.declared.pin.Field.{Field}
+use Rattle.std_blocks.specs.declared.pin.Field.TheVariants.{Bit, Int, Time}
 use Rattle.std_blocks.specs.declared.pin.Pin.{Pin}
 use Rattle.std_blocks.specs.declared.pins.PinsIn.{PinsIn}
 use Rattle.std_blocks.specs.declared.value.Value.TheVariants.{Int as IntValue}
@@ -76,19 +77,24 @@ has_box ds k (e ∷ es) = by (own_box ds k e) (has_box ds k es) where
     | inr in' ↦ nothing (found.0, in', found.2)
   ])
 
-abbrev is_left : Option Pin → Bool
-is_left None = true
-is_left (Some pin) = pin.left
+abbrev is_int : Field → Bool
+is_int (Bit k) = false
+is_int Int = true
+is_int Time = false
+
+abbrev is_int_input : Option Pin → Bool
+is_int_input None = false
+is_int_input (Some pin) = if pin.left then is_int pin.field else false
 
 -- the input of a counter up that is a number is PV
 int_named : (cu r pv q cv : Bool)
     → (if cu then Some (input (Bit 0)) else (if r then Some (input (Bit 1)) else (if pv then Some (input Int) else (if q then Some (output (Bit 0)) else (if cv then Some (output Int) else None))))) ≡ Some (input Int) → pv ≡ true
-int_named true r pv q cv is = absurd cc
-int_named false true pv q cv is = absurd cc
+int_named true r pv q cv is = absurd (false≢true (ap is_int_input is))
+int_named false true pv q cv is = absurd (false≢true (ap is_int_input is))
 int_named false false true q cv is = refl
-int_named false false false true cv is = absurd (false≢true (ap is_left is))
-int_named false false false false true is = absurd (false≢true (ap is_left is))
-int_named false false false false false is = absurd cc
+int_named false false false true cv is = absurd (false≢true (ap is_int_input is))
+int_named false false false false true is = absurd (false≢true (ap is_int_input is))
+int_named false false false false false is = absurd (false≢true (ap is_int_input is))
 
 int_is_preset : (name : List ℕ) → pin_of CTU name ≡ Some (input Int) → same_word name (codes "PV") ≡ true
 unfolding pin_of
@@ -109,6 +115,7 @@ int_cases x y = by (int_eq x y) refl where
 module _ (ds : List Declaration) (d : Diagram) (old : Moment) (between : List Slot) (b : DrawnBox) (block : BlockType) (pins : PinsIn) (up : block ≡ CTU) (inputs : AreInputs ds d old between b block pins) where
   -- with a number
   preset_drawn : (most : ℤ) → Any (IsPreset most) b.pins → pins.int ≡ most
+  unfolding text_value
   preset_drawn most preset =
       let found = any_found (IsPreset most) b.pins preset in
       let pin : DrawnPin = found.1 in
@@ -118,7 +125,6 @@ module _ (ds : List Declaration) (d : Diagram) (old : Moment) (between : List Sl
       inputs.int pin drawn ∙ read most pin.operand is.1
     where
       read : (most : ℤ) (o : Option Operand) → MatchOption o ⊥ (λ w. literal_value w.text ≡ Some (IntValue most)) → int_or_zero (option_and_then (λ w. text_value ds old.slots w.text) o) ≡ most
-      unfolding text_value
       read most None is = absurd is
       read most (Some w) is = ap (λ v. int_or_zero (value_or v (value_of ds old.slots w.text))) is
 
@@ -141,7 +147,7 @@ preset_fits : (ds : List Declaration) (d : Diagram) (old : Moment) (between : Li
 preset_fits ds d old between Whole b block pins preset may inputs = tt
 preset_fits ds d old between FromZero b block pins preset may inputs = tt
 preset_fits ds d old between (UpTo most) b block pins (inl drawn) may inputs = preset_drawn ds d old between b block pins may inputs most drawn
-preset_fits ds d old between (UpTo most) b block pins (inr (zero, none)) may inputs = preset_undrawn ds d old between b block pins may inputs none ∙ sym zero
+preset_fits ds d old between (UpTo most) b block pins (inr (is, none)) may inputs = preset_undrawn ds d old between b block pins may inputs none ∙ sym is
 
 -- one more before the others
 listed_more : (P : ℕ → Slot → Type 0) (x : Slot) (xs : List Slot) → P 0 x → ((k : ℕ) (z : Slot) → slice_get xs k ≡ Some z → P (suc k) z) → (k : ℕ) (z : Slot) → slice_get (x ∷ xs) k ≡ Some z → P k z
