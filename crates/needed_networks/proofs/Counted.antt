@@ -1,7 +1,10 @@
 -- A network that hides counts, from slots with other counts beyond their limits.
-use Rattle.std.proofs.Common.{◌≡◌, ℕ, zero, suc, ◌<◌, ◌⊎◌, inl, inr, List, [], ◌∷◌, Bool, Option, Some, None, All, Contains, MatchOption, length, slice_get, refl, sym, ap, ◌∙◌, subst, arith}
+use Rattle.std.proofs.Common.{◌≡◌, ℕ, zero, suc, ◌<◌, ◌⊎◌, inl, inr, ℤ, pos, List, [], ◌∷◌, Bool, true, false, Option, Some, None, All, Any, Contains, MatchOption, length, slice_get, refl, sym, ap, ◌∙◌, subst, arith}
+use Rattle.std.specs.Prelude.{codes, if◌then◌else◌}
 use Rattle.std.specs.Option.{option_map, option_and_then}
-use Rattle.std.proofs.lemmas.Bool.{cases_eq, cases_lt}
+use Rattle.std.specs.Ordering.{int_eq}
+use Rattle.std.proofs.lemmas.Bool.{cases_eq, cases_lt, false≢true}
+use Rattle.std.proofs.lemmas.Bool.Decides.{Decides-int_eq}
 use Rattle.std.proofs.lemmas.Option.{none-some, same_Some, slice_get_past, slice_get_within}
 use Rattle.lists.proofs.Places.{element_at}
 use Rattle.lists.proofs.Members.{any_found, contains_at, cons_first, cons_later, cons_cases}
@@ -13,10 +16,13 @@ use Rattle.network.specs.declared.element.Element.TheVariants.{Wire, Join, Uprig
 use Rattle.network.specs.Links.{Diagram}
 use Rattle.std_blocks.specs.declared.block_type.BlockType.{BlockType}
 use Rattle.std_blocks.specs.declared.block_type.BlockType.TheVariants.{CTU}
-use Rattle.std_blocks.specs.declared.pin.Field.TheVariants.{Int}
+use Rattle.std_blocks.specs.declared.pin.Field.{Field}
+use Rattle.std_blocks.specs.declared.pin.Field.TheVariants.{Bit, Int, Time}
+use Rattle.std_blocks.specs.declared.pin.Pin.{Pin}
 use Rattle.std_blocks.specs.declared.pins.PinsIn.{PinsIn}
 use Rattle.std_blocks.specs.declared.value.Value.TheVariants.{Int as IntValue}
-use Rattle.std_blocks.specs.Pins.{pin_of, input}
+use Rattle.std_blocks.specs.Pins.{pin_of, input, output}
+use Rattle.words.specs.Chars.{same_word}
 use Rattle.declared_names.specs.declared.declarations.Declaration.{Declaration}
 use Rattle.declared_names.specs.Names.{place_of}
 use Rattle.name_faults.specs.Literals.{literal_value}
@@ -25,14 +31,14 @@ use Rattle.scan_steps.specs.declared.slot.Slot.{Slot}
 use Rattle.scan_steps.specs.declared.slot.Slot.TheVariants.{Variable, Block}
 use Rattle.scan_steps.specs.Values.{int_or_zero}
 use Rattle.power_flow.specs.Values.{text_value, value_or, value_of}
-use Rattle.power_flow.specs.Meaning.{Moment, moment, AreInputs, AreLinks, BlocksStep, HasNoBlockAt, IsDrawn, NetworkMeaning, block_after, first_place, stored, stores}
+use Rattle.power_flow.specs.Meaning.{Moment, moment, AreInputs, AreLinks, BlocksStep, HasNoBlockAt, IsDrawn, NetworkMeaning, block_after, first_place, operand_value, stored, stores}
 use Rattle.needed_networks.specs.declared.count_limit.CountLimit.{CountLimit}
 use Rattle.needed_networks.specs.declared.count_limit.CountLimit.TheVariants.{Whole, UpTo, FromZero}
-use Rattle.needed_networks.specs.Counts.{AreCounters, AreOneBox, HasPreset, HidesCounts, IsPreset, MayLimit, ShowsNoCount, limit_at, limited_at, limited_instance, limited_slot}
+use Rattle.needed_networks.specs.Counts.{AreCounters, AreOneBox, HasNoPreset, HasPreset, HidesCounts, IsPreset, MayLimit, ShowsNoCount, limit_at, limited_at, limited_instance, limited_slot}
 use Rattle.needed_networks.proofs.Values.{ReadsAlike, ShowsAlike, reads_back, shows_back, memories_same, stores_same}
 use Rattle.needed_networks.proofs.Power.{power_from, inputs_from}
 use Rattle.needed_networks.proofs.Counting.{FitsPreset, block_kept, steps_near}
-use Rattle.needed_networks.proofs.Near.{AreNear, all_found, block_back, limit_cases, reads_near, same_whole, shows_near, stored_counters, stored_near}
+use Rattle.needed_networks.proofs.Near.{AreNear, all_found, block_back, limit_cases, pin_same, reads_near, same_whole, shows_near, stored_counters, stored_near}
 
 -- whether a place is one
 option_is : (o : Option ℕ) (k : ℕ) → (o ≡ Some k) ⊎ (o ≡ Some k → ⊥)
@@ -71,23 +77,77 @@ has_box ds k (e ∷ es) = by (own_box ds k e) (has_box ds k es) where
     | inr in' ↦ nothing (found.0, in', found.2)
   ])
 
+abbrev is_int : Field → Bool
+is_int (Bit k) = false
+is_int Int = true
+is_int Time = false
+
+abbrev is_int_input : Option Pin → Bool
+is_int_input None = false
+is_int_input (Some pin) = if pin.left then is_int pin.field else false
+
+-- the input of a counter up that is a number is PV
+int_named : (cu r pv q cv : Bool)
+    → (if cu then Some (input (Bit 0)) else (if r then Some (input (Bit 1)) else (if pv then Some (input Int) else (if q then Some (output (Bit 0)) else (if cv then Some (output Int) else None))))) ≡ Some (input Int) → pv ≡ true
+int_named true r pv q cv is = absurd (false≢true (ap is_int_input is))
+int_named false true pv q cv is = absurd (false≢true (ap is_int_input is))
+int_named false false true q cv is = refl
+int_named false false false true cv is = absurd (false≢true (ap is_int_input is))
+int_named false false false false true is = absurd (false≢true (ap is_int_input is))
+int_named false false false false false is = absurd (false≢true (ap is_int_input is))
+
+int_is_preset : (name : List ℕ) → pin_of CTU name ≡ Some (input Int) → same_word name (codes "PV") ≡ true
+unfolding pin_of
+int_is_preset name is =
+    int_named (same_word name (codes "CU")) (same_word name (codes "R")) (same_word name (codes "PV")) (same_word name (codes "Q")) (same_word name (codes "CV")) is
+
+preset_is_int : pin_of CTU (codes "PV") ≡ Some (input Int)
+unfolding pin_of
+preset_is_int = refl
+
+int_cases : (x y : ℤ) → (x ≡ y) ⊎ (x ≡ y → ⊥)
+int_cases x y = by (int_eq x y) refl where
+  by : (b : Bool) → int_eq x y ≡ b → (x ≡ y) ⊎ (x ≡ y → ⊥)
+  by true is = inl ((Decides-int_eq x y).0 is)
+  by false is = inr (λ same. let yes : int_eq x y ≡ true = (Decides-int_eq x y).1 same in cc)
+
+-- PV of a counter up
+module _ (ds : List Declaration) (d : Diagram) (old : Moment) (between : List Slot) (b : DrawnBox) (block : BlockType) (pins : PinsIn) (up : block ≡ CTU) (inputs : AreInputs ds d old between b block pins) where
+  -- with a number
+  preset_drawn : (most : ℤ) → Any (IsPreset most) b.pins → pins.int ≡ most
+  unfolding text_value
+  preset_drawn most preset =
+      let found = any_found (IsPreset most) b.pins preset in
+      let pin : DrawnPin = found.1 in
+      let is = found.3 in
+      let known : pin_of block pin.name ≡ Some (input Int) = ap (λ t. pin_of t pin.name) up ∙ pin_same CTU pin.name (codes "PV") is.0.1 ∙ preset_is_int in
+      let drawn : IsDrawn b block Int pin = record { drawn = contains_at b.pins found.0 pin found.2; side = is.0.0; named = known } in
+      inputs.int pin drawn ∙ read most pin.operand is.1
+    where
+      read : (most : ℤ) (o : Option Operand) → MatchOption o ⊥ (λ w. literal_value w.text ≡ Some (IntValue most)) → int_or_zero (option_and_then (λ w. text_value ds old.slots w.text) o) ≡ most
+      read most None is = absurd is
+      read most (Some w) is = ap (λ v. int_or_zero (value_or v (value_of ds old.slots w.text))) is
+
+  -- at which nothing stands
+  preset_undrawn : All HasNoPreset b.pins → pins.int ≡ pos 0
+  preset_undrawn none = elim (int_cases pins.int (pos 0)) [
+    | inl is ↦ is
+    | inr other ↦ inputs.no_int (λ pin drawn. other (inputs.int pin drawn ∙ nothing pin drawn))
+  ]
+    where
+      nothing : (pin : DrawnPin) → IsDrawn b block Int pin → int_or_zero (operand_value ds old pin) ≡ pos 0
+      nothing pin drawn =
+          let preset = int_is_preset pin.name (ap (λ t. pin_of t pin.name) (sym up) ∙ drawn.named) in
+          let empty = all_found HasNoPreset b.pins pin none drawn.drawn (drawn.side, preset) in
+          ap (λ o. int_or_zero (option_and_then (λ w. text_value ds old.slots w.text) o)) empty
+
 -- PV of a box with a preset
 preset_fits : (ds : List Declaration) (d : Diagram) (old : Moment) (between : List Slot) (limit : CountLimit) (b : DrawnBox) (block : BlockType) (pins : PinsIn) → HasPreset limit b → MayLimit limit block
     → AreInputs ds d old between b block pins → FitsPreset limit pins.int
-unfolding pin_of text_value
 preset_fits ds d old between Whole b block pins preset may inputs = tt
 preset_fits ds d old between FromZero b block pins preset may inputs = tt
-preset_fits ds d old between (UpTo most) b block pins preset may inputs =
-    let found = any_found (IsPreset most) b.pins preset in
-    let pin : DrawnPin = found.1 in
-    let is = found.3 in
-    let named : pin_of block pin.name ≡ Some (input Int) = ap (λ t. pin_of t pin.name) may ∙ ap (pin_of CTU) is.1 in
-    let drawn : IsDrawn b block Int pin = record { drawn = contains_at b.pins found.0 pin found.2; side = is.0; named = named } in
-    inputs.int pin drawn ∙ read pin.operand is.2
-  where
-    read : (o : Option Operand) → MatchOption o ⊥ (λ w. literal_value w.text ≡ Some (IntValue most)) → int_or_zero (option_and_then (λ w. text_value ds old.slots w.text) o) ≡ most
-    read None is = absurd is
-    read (Some w) is = ap (λ v. int_or_zero (value_or v (value_of ds old.slots w.text))) is
+preset_fits ds d old between (UpTo most) b block pins (inl drawn) may inputs = preset_drawn ds d old between b block pins may inputs most drawn
+preset_fits ds d old between (UpTo most) b block pins (inr (is, none)) may inputs = preset_undrawn ds d old between b block pins may inputs none ∙ sym is
 
 -- one more before the others
 listed_more : (P : ℕ → Slot → Type 0) (x : Slot) (xs : List Slot) → P 0 x → ((k : ℕ) (z : Slot) → slice_get xs k ≡ Some z → P (suc k) z) → (k : ℕ) (z : Slot) → slice_get (x ∷ xs) k ≡ Some z → P k z

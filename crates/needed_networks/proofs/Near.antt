@@ -3,20 +3,24 @@ use Rattle.std.proofs.Common.{◌≡◌, ◌≢◌, ◌⊎◌, inl, inr, ℕ, Li
 use Rattle.std.specs.Prelude.{codes, if◌then◌else◌, slice_index_or}
 use Rattle.std.specs.List.{before_first, after_first}
 use Rattle.std.specs.Option.{option_map, option_and_then}
+use Rattle.std.specs.Str.{bytes_eq, str_to_ascii_lowercase}
 use Rattle.std.proofs.lemmas.Bool.{cases_eq, cases_lt}
 use Rattle.std.proofs.lemmas.Option.{slice_get_past}
+use Rattle.std.proofs.lemmas.Slice.Eq.{bytes_eq-Decides}
+use Rattle.words.specs.Chars.{same_word}
 use Rattle.lists.proofs.Places.{slice_get-set_same, slice_get-set_other}
 use Rattle.lists.proofs.Members.{at_contains, all_at}
 use Rattle.drawings.specs.declared.drawn_box.Operand.{Operand}
 use Rattle.network.specs.declared.element.Element.TheVariants.{Box}
 use Rattle.network.specs.Links.{Diagram}
+use Rattle.std_blocks.specs.declared.block_type.BlockType.{BlockType}
 use Rattle.std_blocks.specs.declared.block_type.BlockType.TheVariants.{CTU, CTD}
 use Rattle.std_blocks.specs.declared.pin.Field.{Field}
 use Rattle.std_blocks.specs.declared.pin.Field.TheVariants.{Bit, Int, Time}
 use Rattle.std_blocks.specs.declared.pin.Pin.{Pin}
 use Rattle.std_blocks.specs.declared.value.Value.{Value}
 use Rattle.std_blocks.specs.declared.value.Value.TheVariants.{Bool as BoolValue}
-use Rattle.std_blocks.specs.Pins.{pin_of, field_value}
+use Rattle.std_blocks.specs.Pins.{pin_of, pins_of, field_value, named}
 use Rattle.declared_names.specs.declared.declarations.Declaration.{Declaration}
 use Rattle.declared_names.specs.Names.{place_of, is_dot}
 use Rattle.name_faults.specs.Literals.{literal_value}
@@ -129,17 +133,39 @@ option_q limit (Some (Block i)) (Some (Variable w)) near may = absurd cc
 option_q limit (Some (Block i)) (Some (Block j)) near may =
     block_q limit i j (let e : Some (Block (limited_instance limit i)) ≡ Some (Block (limited_instance limit j)) = near in cc) (may i refl)
 
+-- names that are the same in either case are of one pin
+named_same : (es : List (List ℕ × Pin)) (a b : List ℕ) → str_to_ascii_lowercase a ≡ str_to_ascii_lowercase b → named es a ≡ named es b
+named_same [] a b lower = refl
+named_same (e ∷ es) a b lower =
+    ap (λ l. if bytes_eq l (str_to_ascii_lowercase e.0) then Some e.1 else named es a) lower
+    ∙ ap (λ o. if bytes_eq (str_to_ascii_lowercase b) (str_to_ascii_lowercase e.0) then Some e.1 else o) (named_same es a b lower)
+
+pub pin_same : (block : BlockType) (a b : List ℕ) → same_word a b ≡ true → pin_of block a ≡ pin_of block b
+unfolding pin_of
+pin_same block a b same = named_same (pins_of block) a b ((bytes_eq-Decides (str_to_ascii_lowercase a) (str_to_ascii_lowercase b)).0 same)
+
+-- one that is Q in either case shows what Q does
+slot_q : (s : Slot) (pin : List ℕ) → same_word pin (codes "Q") ≡ true → slot_value s pin ≡ slot_value s (codes "Q")
+slot_q s [] same = absurd cc
+slot_q (Variable v) (c ∷ pin) same = refl
+slot_q (Block i) (c ∷ pin) same = ap (option_and_then (shown_at i.outputs)) (pin_same i.state.block (c ∷ pin) (codes "Q") same)
+
+place_q : (o : Option Slot) (pin : List ℕ) → same_word pin (codes "Q") ≡ true → option_and_then (λ s. slot_value s pin) o ≡ option_and_then (λ s. slot_value s (codes "Q")) o
+place_q None pin same = refl
+place_q (Some s) pin same = slot_q s pin same
+
 -- the value at a name, of a limited counter at Q alone
 pub value_near : (ds : List Declaration) (limits : List CountLimit) (xs ys : List Slot) (name pin : List ℕ) → AreNear limits xs ys → AreCounters limits xs
-    → ((k : ℕ) → place_of ds name ≡ Some k → IsLimited limits k → pin ≡ codes "Q") → value_at ds xs name pin ≡ value_at ds ys name pin
+    → ((k : ℕ) → place_of ds name ≡ Some k → IsLimited limits k → same_word pin (codes "Q") ≡ true) → value_at ds xs name pin ≡ value_at ds ys name pin
 value_near ds limits xs ys name pin near counters shows = go (place_of ds name) refl
   where
     at_place : (k : ℕ) → place_of ds name ≡ Some k → option_and_then (λ s. slot_value s pin) (slice_get xs k) ≡ option_and_then (λ s. slot_value s pin) (slice_get ys k)
     at_place k is = elim (limit_cases (limit_at limits k)) [
       | inl whole ↦ ap (option_and_then (λ s. slot_value s pin)) (same_whole limits xs ys k near whole)
       | inr limited ↦
-          subst (λ p. option_and_then (λ s. slot_value s p) (slice_get xs k) ≡ option_and_then (λ s. slot_value s p) (slice_get ys k)) (sym (shows k is limited))
-          (option_q (limit_at limits k) (slice_get xs k) (slice_get ys k) (near.same k) (λ i at. counters k i at))
+          place_q (slice_get xs k) pin (shows k is limited)
+          ∙ option_q (limit_at limits k) (slice_get xs k) (slice_get ys k) (near.same k) (λ i at. counters k i at)
+          ∙ sym (place_q (slice_get ys k) pin (shows k is limited))
     ]
 
     go : (o : Option ℕ) → place_of ds name ≡ o
@@ -156,7 +182,7 @@ reads_near ds limits d xs ys hides near counters = record {
   texts = λ b pin o in' drawn side is.
       let whole : ShowsNoCount ds limits (Box b) = all_found (ShowsNoCount ds limits) d.elements (Box b) hides.shows in' in
       let quiet = all_found (ReadsNoCount ds limits) b.pins pin whole.0 drawn in
-      let none = subst (λ (w : Option Operand). MatchOption w (Unit {0}) (λ q. (k : ℕ) → IsReadAt ds q.text k → IsLimited limits k → after_first is_dot q.text ≡ codes "Q")) is (quiet side) in
+      let none = subst (λ (w : Option Operand). MatchOption w (Unit {0}) (λ q. (k : ℕ) → IsReadAt ds q.text k → IsLimited limits k → same_word (after_first is_dot q.text) (codes "Q") ≡ true)) is (quiet side) in
       ap (value_or (literal_value o.text)) (value_near ds limits xs ys (before_first is_dot o.text) (after_first is_dot o.text) near counters none);
 }
 
@@ -167,7 +193,7 @@ shows_near ds limits d xs ys hides near counters = record {
   stored = λ b pin o in' drawn side is.
       let own : ShowsNoCount ds limits (Box b) = all_found (ShowsNoCount ds limits) d.elements (Box b) hides.shows in' in
       value_near ds limits xs ys b.instance pin.name near counters
-      (λ k at limited. subst (λ (w : Option Operand). MatchOption w (Unit {0}) (λ q. pin.name ≡ codes "Q")) is (all_found StoresNoCount b.pins pin ((own.1 k at).1 limited) drawn side));
+      (λ k at limited. subst (λ (w : Option Operand). MatchOption w (Unit {0}) (λ q. same_word pin.name (codes "Q") ≡ true)) is (all_found StoresNoCount b.pins pin ((own.1 k at).1 limited) drawn side));
 }
 
 -- one store in both lists

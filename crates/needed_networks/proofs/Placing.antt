@@ -1,9 +1,10 @@
 -- The networks that are placed, one after the other.
-use Rattle.std.proofs.Common.{◌≡◌, ℕ, ◌+◌, ◌<◌, inl, inr, List, [], Bool, false, Option, Some, None, MatchOption, slice_get, get_or, refl, sym, ap, ◌∙◌, subst, arith}
+use Rattle.std.proofs.Common.{◌≡◌, ℕ, ◌+◌, ◌<◌, inl, inr, List, [], Bool, true, false, Option, Some, None, MatchOption, slice_get, get_or, refl, sym, ap, ◌∙◌, subst, arith}
 use Rattle.std.specs.Prelude.{codes}
 use Rattle.std.specs.List.{after_first}
 use Rattle.std.proofs.lemmas.Bool.{cases_eq}
 use Rattle.std.proofs.lemmas.Option.{same_Some}
+use Rattle.words.specs.Chars.{same_word}
 use Rattle.drawings.specs.declared.drawn_box.DrawnPin.{DrawnPin}
 use Rattle.drawings.specs.declared.drawn_box.Operand.{Operand}
 use Rattle.network.specs.declared.element.Element.{Element}
@@ -61,7 +62,7 @@ shows_all ds (Box b) = (λ n pin lt. reads (get_or b.pins n pin), λ k at. (tt, 
   where
     reads : (pin : DrawnPin) → ReadsNoCount ds [] pin
     reads pin left = go pin.operand where
-      go : (o : Option Operand) → MatchOption o (Unit {0}) (λ q. (k : ℕ) → IsReadAt ds q.text k → IsLimited [] k → after_first is_dot q.text ≡ codes "Q")
+      go : (o : Option Operand) → MatchOption o (Unit {0}) (λ q. (k : ℕ) → IsReadAt ds q.text k → IsLimited [] k → same_word (after_first is_dot q.text) (codes "Q") ≡ true)
       go None = tt
       go (Some q) = λ k at limited. absurd (limited refl)
 

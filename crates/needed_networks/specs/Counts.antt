@@ -1,10 +1,11 @@
 -- How far the counts of counters matter.
-use Rattle.std.specs.Prelude.{◌≡◌, ◌≢◌, ℕ, ℤ, pos, List, Bool, false, Option, Some, All, Any, MatchOption, if◌then◌else◌, int_lt, codes, slice_get, slice_index_or}
+use Rattle.std.specs.Prelude.{◌≡◌, ◌≢◌, ◌⊎◌, ℕ, ℤ, pos, List, Bool, true, false, Option, Some, None, All, Any, MatchOption, if◌then◌else◌, int_lt, codes, slice_get, slice_index_or}
 use Rattle.std.specs.List.{after_first}
 use Rattle.std.specs.Option.{option_map}
 use Rattle.std_blocks.specs.declared.block_type.BlockType.{BlockType}
 use Rattle.std_blocks.specs.declared.block_type.BlockType.TheVariants.{CTU, CTD}
 use Rattle.std_blocks.specs.declared.value.Value.TheVariants.{Int as IntValue}
+use Rattle.words.specs.Chars.{same_word}
 use Rattle.drawings.specs.declared.drawn_box.DrawnBox.{DrawnBox}
 use Rattle.drawings.specs.declared.drawn_box.DrawnPin.{DrawnPin}
 use Rattle.drawings.specs.declared.drawn_box.Side.TheVariants.{Left, Right}
@@ -69,26 +70,37 @@ MayLimitDeclared limit (InstanceOf block) = MayLimit limit block
 abbrev pub IsLimited : List CountLimit → ℕ → Type 0
 IsLimited limits place = limit_at limits place ≢ Whole
 
+-- the pin is PV, in either case
+abbrev pub IsPresetPin : DrawnPin → Type 0
+IsPresetPin pin = (pin.side ≡ Left) × (same_word pin.name (codes "PV") ≡ true)
+
 -- the pin PV has this number
 abbrev pub IsPreset : ℤ → DrawnPin → Type 0
-IsPreset most pin =
-    (pin.side ≡ Left) × (pin.name ≡ codes "PV")
-    × MatchOption pin.operand ⊥ (λ o. literal_value o.text ≡ Some (IntValue most))
+IsPreset most pin = IsPresetPin pin × MatchOption pin.operand ⊥ (λ o. literal_value o.text ≡ Some (IntValue most))
+
+-- nothing stands at the pin, if it is PV
+abbrev pub HasNoPreset : DrawnPin → Type 0
+HasNoPreset pin = IsPresetPin pin → pin.operand ≡ None
+
+-- PV has this number, or it is 0, and nothing stands there
+abbrev pub CountsTo : ℤ → DrawnBox → Type 0
+CountsTo most b = Any (IsPreset most) b.pins ⊎ ((most ≡ pos 0) × All HasNoPreset b.pins)
 
 -- the most of a counter up is its PV
 abbrev pub HasPreset : CountLimit → DrawnBox → Type 0
 HasPreset Whole b = Unit {0}
-HasPreset (UpTo most) b = Any (IsPreset most) b.pins
+HasPreset (UpTo most) b = CountsTo most b
 HasPreset FromZero b = Unit {0}
 
 -- an input pin reads nothing of a limited counter but Q
 abbrev pub ReadsNoCount : List Declaration → List CountLimit → DrawnPin → Type 0
 ReadsNoCount ds limits pin = pin.side ≡ Left
-    → MatchOption pin.operand (Unit {0}) (λ o. (k : ℕ) → IsReadAt ds o.text k → IsLimited limits k → after_first is_dot o.text ≡ codes "Q")
+    → MatchOption pin.operand (Unit {0}) (λ o. (k : ℕ) → IsReadAt ds o.text k → IsLimited limits k
+    → same_word (after_first is_dot o.text) (codes "Q") ≡ true)
 
 -- an output pin stores nothing of it but Q
 abbrev pub StoresNoCount : DrawnPin → Type 0
-StoresNoCount pin = pin.side ≡ Right → MatchOption pin.operand (Unit {0}) (λ o. pin.name ≡ codes "Q")
+StoresNoCount pin = pin.side ≡ Right → MatchOption pin.operand (Unit {0}) (λ o. same_word pin.name (codes "Q") ≡ true)
 
 -- a box of a counter with a limit
 abbrev pub IsLimitedBox : List CountLimit → DrawnBox → ℕ → Type 0

@@ -249,12 +249,8 @@ class SmallPlant(PlantMaker):
         return [",".join(self.chance.sample(bits, min(len(bits), self.chance.choice([1, 2, 2, 2, 3])))) for _ in range(self.chance.choice([1, 1, 1, 2]))]
 
 
-# (The program looks for PV and Q in capital letters alone.)
-SMALL = re.compile(r"\|\s*(?:pv|Pv|pV)\b|\.q\b|\bq\|")
-
-
 class CountingPlant(SmallPlant):
-    """Such a plant, whose programs have counters up and down of which nothing shows the count. Those up have a number at PV, at most 3."""
+    """Such a plant, whose programs have counters up and down of which nothing shows the count. At PV of those up stands a number, at most 3, or nothing."""
 
     def variables(self):
         found, chance = super().variables(), self.chance
@@ -264,7 +260,7 @@ class CountingPlant(SmallPlant):
     def text(self):
         while True:
             text = super().text()
-            if is_read(text) and not re.search(r"(?i)CV\|-*[A-Z_]|\.CV", text) and not SMALL.search(text) and all(map(has_preset, boxes_in(text))):
+            if is_read(text) and not re.search(r"(?i)CV\|-*[A-Z_]|\.CV", text) and all(map(has_preset, boxes_in(text))):
                 return text
             self.__init__(self.chance)
 
@@ -274,8 +270,8 @@ def boxes_in(text):
 
 
 def has_preset(box):
-    numbers = [pin.operand.text for pin in box.pins if words.fold(pin.name) == "PV" and pin.is_left and pin.operand]
-    return words.fold(box.block) != "CTU" or any(map(is_literal, numbers))
+    presets = [pin.operand.text for pin in box.pins if words.fold(pin.name) == "PV" and pin.is_left and pin.operand]
+    return words.fold(box.block) != "CTU" or all(map(is_literal, presets))
 
 
 def options(chance, plant):

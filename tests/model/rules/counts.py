@@ -1,5 +1,6 @@
 """How far the counts of a ladder's counters matter. Where no operand shows a count, one above PV of a counter up can't be told from
-PV, if that is a number, nor one below 0 of a counter down from 0. A counter that is drawn twice counts as far as it can."""
+PV, if a number or nothing stands there, nor one below 0 of a counter down from 0. A counter that is drawn twice counts as far as it
+can."""
 from . import words
 
 MOST = 32767
@@ -26,11 +27,11 @@ def limit_of(box):
 
 
 def preset_of(box):
-    """The number at PV of a box, if one stands there."""
+    """The number at PV of a box: 0 where nothing stands there, None where it is no number."""
     for pin in box.pins:
         if pin.is_left and words.fold(pin.name) == "PV" and pin.operand:
             return words.number_of(pin.operand.text)
-    return None
+    return 0
 
 
 def shows_count(box):
