@@ -19,7 +19,8 @@ returns c = λ names are answers.
     let all = c.args.all.now.items in
     let name = c.args.name.now in
     let key = string_bytes c.in_ok-letters.letters in
-    let pushed : c.push.new.self.items ≡ all ++ small name ∷ [] = c.in_ok-push.ensures.items ∙ ap (λ s. all ++ s ∷ []) c.in_ok-of.ensures in
-    (small_more names name key c.args.seen.now c.insert.new.self c.in_ok-letters.ensures are
-        (btree_set_updates_text key c.args.seen.now c.insert.new.self true c.in_ok-insert.ensures.updates),
-        subst (λ xs. AnswerAsSmall (names ++ name ∷ []) xs) (sym pushed) (answers_more names all name answers))
+    let pushed : c.push.new.self.items ≡ all ++ small name ∷ [] = c.in_ok-push.ensures.items ∙ ap (λ s. all ++ s ∷ []) c.in_ok-of.ensures in (
+      small_more names name key c.args.seen.now c.insert.new.self c.in_ok-letters.ensures are
+          (btree_set_updates_text key c.args.seen.now c.insert.new.self true c.in_ok-insert.ensures.updates),
+      subst (λ xs. AnswerAsSmall (names ++ name ∷ []) xs) (sym pushed) (answers_more names all name answers),
+    )
