@@ -130,7 +130,7 @@ class Slips:
 
 
 class Zone:
-    """A zone that robots share: R2 owns it, R1 asks, and now and then R3. The owner may have two tasks, one of which enters."""
+    """A zone that robots share: R2 owns it, and R1 and now and then R3 ask for it. The owner may have two tasks, one of which enters."""
 
     def __init__(self, chance):
         self.chance = chance

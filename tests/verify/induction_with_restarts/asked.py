@@ -30,7 +30,7 @@ with open("watchdog.plant", encoding="ascii") as file:
 ask(f"forgets.plant {belt}", "HOLDS BY_ITSELF", names=BELT, given="dt 100 ms", networks=", 7 of 8 networks")
 ask(f"forgets.plant {belt} --restarts", "FAILS BY_ITSELF 5", names=BELT, given="dt 100 ms, restarts before any scan", networks=", 7 of 8 networks")
 
-# A restart forgets what the contact in row 4 of its drawing remembers, and not M.
+# A restart forgets what the contact in its drawing's row 4 remembers, and not M.
 write("it.plant", EDGE)
 edge = bits("GO", "GHOST", "TWICE", "M", "M at 4:4")
 ask("it.plant --program P --never GHOST", "HOLDS GHOST", names=edge, networks=", 2 of 3 networks")
