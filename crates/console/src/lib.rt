@@ -48,5 +48,6 @@ pub use request::{
     Strictness, TextRequest, TraceFiles, VerifyRequest, View, Way,
 };
 pub use schedules::{answer_schedule, obey_lines, obey_schedule};
+pub use shown::Shown;
 pub use status::FAILED;
 pub use verify_answer::{Verified, answer_verify, obey_certify, obey_verify};

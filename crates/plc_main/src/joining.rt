@@ -1,6 +1,7 @@
 //! The journals that `audit` reads: further files are joined to those that they go on from.
 
 use audit::JournalFile;
+use console::Shown;
 use journal_rows::{LooseCause, LooseFile, Row, Rows, join};
 use std::alloc::{AllocError, Global};
 use std::io;
@@ -68,20 +69,20 @@ fn tell_loose<R: Eprint>(
     loose: &[LooseFile],
     found: &LooseFile,
 ) -> io::Result<()> {
-    let name = name_of(files, found.file);
+    let name = Shown(name_of(files, found.file));
     match found.cause {
         LooseCause::Again(first) => {
-            let first = name_of(files, first);
+            let first = Shown(name_of(files, first));
             eprintln!(rt; "plc: {name}:1: it was given before, as {first}")
         }
         LooseCause::Behind(before) if is_loose(loose, before) => {
-            let before = name_of(files, before);
+            let before = Shown(name_of(files, before));
             eprintln!(rt;
                 "plc: {name}:1: it goes on from {before}, which goes on from none that is given"
             )
         }
         LooseCause::Behind(before) => {
-            let before = name_of(files, before);
+            let before = Shown(name_of(files, before));
             eprintln!(rt;
                 "plc: {name}:1: another file goes on from {before}, or the number here was changed"
             )
@@ -128,7 +129,8 @@ impl Joined {
     /// Tells which lines of the journals are the first ones of further files.
     pub fn tell_seams<R: Eprint>(&self, rt: &R, files: &[JournalFile]) -> io::Result<()> {
         for seam in self.seams.as_slice() {
-            let (first, file) = (name_of(files, seam.first), name_of(files, seam.file));
+            let first = Shown(name_of(files, seam.first));
+            let file = Shown(name_of(files, seam.file));
             let line = seam.ended.saturating_add(1);
             eprintln!(rt; "plc: {first}:{line} is {file}:1")?;
         }

@@ -26,7 +26,7 @@ use answering::{Terminals, answer_words};
 use audit::JournalFile;
 use audit_command::audit_text;
 use console::{
-    Answered, AuditRequest, CommandFault, FAILED, Pace, Prepared, RunRequest, file_bytes,
+    Answered, AuditRequest, CommandFault, FAILED, Pace, Prepared, RunRequest, Shown, file_bytes,
     file_plant, given_words, prepare, print_failure, print_fault, print_given_fault,
 };
 use joining::joined_journals;
@@ -185,6 +185,7 @@ fn run_anew<R: Clock + Print + Eprint + AllocGlobal + Threads + Wait + Sync>(
 
 /// Tells why a folder can't be held; the status.
 fn print_lock_fault<R: Eprint>(rt: &R, folder: &str, fault: LockFault) -> io::Result<u8> {
+    let folder = Shown(folder);
     eprintln!(rt; "plc: {folder}: {fault}")?;
     Ok(FAILED)
 }
@@ -234,6 +235,7 @@ fn print_bad_line<R: Eprint>(
         Ok(text) if is_of_variable => told_end(&text, *line),
         _ => "",
     };
+    let file = Shown(file);
     eprintln!(rt; "plc: {file}:{line}: Unreadable: expected {expected}{end}")
 }
 
@@ -248,7 +250,10 @@ fn print_task_fault<R: Eprint>(
     match found {
         Ok(None) => Ok(()),
         Ok(Some(bad)) => print_bad_line(rt, host, file, code, &bad),
-        Err(fault) => eprintln!(rt; "plc: {file}: {fault}"),
+        Err(fault) => {
+            let file = Shown(file);
+            eprintln!(rt; "plc: {file}: {fault}")
+        }
     }
 }
 
@@ -283,7 +288,8 @@ fn print_resource_faults<R: Eprint + AllocGlobal>(
     let name = resource_name(plant, resource);
     let path = format!(in rt.alloc(); "{folder}/{name}")?;
     if let Err(fault) = keeper.next_number() {
-        eprintln!(rt; "plc: {path}.inc: {fault}")?;
+        let shown = Shown(path.as_str());
+        eprintln!(rt; "plc: {shown}.inc: {fault}")?;
     }
     print_task_faults(rt, host, plant, resource, path.as_str(), keeper)
 }
@@ -295,6 +301,7 @@ fn print_no_folder<R: Eprint>(rt: &R, host: &HostRuntime, folder: &str) -> io::R
         Err(_) => false,
     };
     if !is_there {
+        let folder = Shown(folder);
         eprintln!(rt; "plc: {folder}: there is no folder of this name")?;
     }
     Ok(!is_there)

@@ -12,7 +12,8 @@ use crate::journal_head::begins_as_journal;
 use crate::running_alone::{Inputs, is_alone, run_alone};
 use crate::{keeper_in, print_lock_fault, print_no_folder, print_resource_faults};
 use console::{
-    FAILED, JournalFull, NodeRequest, PreparedNode, WordRefusal, prepare_node, print_word_refusal,
+    FAILED, JournalFull, NodeRequest, PreparedNode, Shown, WordRefusal, prepare_node,
+    print_word_refusal,
 };
 use further_files::{FileRow, RowFault, RowNotes, further_file, open_single};
 use keepers::{Keeper, MemoryKeeper, ResourceLock};
@@ -297,11 +298,11 @@ fn tell_node<R: Eprint>(
         }
         Err(NodeFault::Unread) => eprintln!(rt; "plc: there is no thread for an input")?,
         Err(NodeFault::NoJournal) => {
-            let journal = request.journal.unwrap_or("");
+            let journal = Shown(request.journal.unwrap_or(""));
             eprintln!(rt; "plc: {journal}: this is no journal")?;
         }
         Err(NodeFault::Journal(fault)) => {
-            let journal = request.journal.unwrap_or("");
+            let journal = Shown(request.journal.unwrap_or(""));
             eprintln!(rt; "plc: {journal}: {fault}")?;
         }
     }

@@ -6,7 +6,7 @@ ghost use Rattle.plc_main.specs.Files.{EndsCertificate, EndsFiles, FileText, due
 ghost use Rattle.plc_main.specs.Steps.Replacing.{IsFreeName, IsReplacedBeside, name_beside};
 
 use crate::new_beside::NewBeside;
-use console::{Answered, FAILED, TraceFiles, Verified};
+use console::{Answered, FAILED, Shown, TraceFiles, Verified};
 use keepers::{Folder, FolderFault};
 use std::alloc::{AllocError, Global};
 use std::io;
@@ -94,6 +94,7 @@ impl<R: Eprint> TextFiles for SystemFiles<'_, R> {
         match store(self.host, path, text) {
             Ok(()) => Ok(true),
             Err(_) => {
+                let path = Shown(path);
                 eprintln!(self.rt; "plc: {path}: the file can't be written")?;
                 Ok(false)
             }

@@ -11,7 +11,7 @@ told = []
 
 
 def run(name, *more):
-    words = [PLC, "node", "pair.plant", "R1", "--journal", name, *more]
+    words = [PLC, "node", "pair.plant", "R1", "--state", "S", "--journal", name, *more]
     done = subprocess.run(words, input=EVALS, capture_output=True, text=True, check=False)
     return done.returncode, done.stdout, done.stderr
 
@@ -32,6 +32,7 @@ def is_refused():
 
 
 def main():
+    os.mkdir("S")
     holds("the journal isn't begun", run("J", *SIZE)[0] == 0 and os.path.exists("J.1"))
     holds("a node without a size goes on", is_refused())
 
