@@ -1,5 +1,5 @@
 -- The status behind warnings that were told.
-use Rattle.std.proofs.Common.{◌≡◌, ◌≢◌, ◌⊎◌, ℕ, Bool, Result, Ok, Err, IfOk, inl, inr, refl}
+use Rattle.std.proofs.Common.{◌≢◌, ℕ, Bool, Result, Ok, Err, IfOk, inl, inr, refl}
 use Rattle.std.specs.declared.alloc.AllocError.{AllocError}
 use Rattle.console.specs.declared.request.Strictness.{Strictness}
 use Rattle.console.specs.declared.request.Strictness.TheVariants.{Told, Strict, Silent}

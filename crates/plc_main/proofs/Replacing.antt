@@ -1,5 +1,5 @@
 -- What stands in a folder isn't touched where a file is replaced by way of a new one.
-use Rattle.std.proofs.Common.{◌≡◌, ◌≢◌, List, ℕ, Option, None, Result, Ok, Err, inl, inr, refl, subst}
+use Rattle.std.proofs.Common.{◌≡◌, ◌≢◌, List, ℕ, None, Result, Ok, Err, inl, inr, refl, subst}
 use Rattle.keepers.specs.KnownFiles.{KnownFile, IsRead, IsReplacing}
 use Rattle.keepers.specs.KnownFiles.KnownFile.{Unknown, Missing, Holding, Broken}
 use Rattle.keepers.specs.declared.folder_fault.FolderFault.{FolderFault}

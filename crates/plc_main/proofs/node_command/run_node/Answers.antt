@@ -3,7 +3,6 @@ use Rattle.std.proofs.Common.{inl, inr, refl, subst}
 use Rattle.std.specs.Prelude.{string_bytes}
 use Rattle.std.proofs.KnownBytes.{Consumes-nil, Keeps-refl}
 use Rattle.std.proofs.lemmas.Result.{IfOk-weaker, IfErr-weaker}
-use Rattle.live_node.specs.declared.live_stop.LiveStop.TheVariants.{Node}
 use Rattle.live_node.specs.LiveNode.{WritesNode}
 use Rattle.live_node.specs.NodeAnswers.{a_keeper_gives, HasBegun}
 use Rattle.live_node.specs.Stops.{StopsNode}
