@@ -1,0 +1,5 @@
+pub mod Counts
+pub mod Both
+pub mod Parts
+pub mod Stepped
+pub mod OneToOne

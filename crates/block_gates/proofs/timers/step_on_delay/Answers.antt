@@ -1,0 +1,30 @@
+use Rattle.std.proofs.Common.{◌≡◌, ◌&&◌, false, leb, pos, ap, ◌∙◌}
+use Rattle.gates.specs.Signals.{signal_value}
+use Rattle.gate_words.specs.Values.{time_at}
+use Rattle.std_blocks.specs.declared.block_type.BlockType.TheVariants.{TON}
+use Rattle.std_blocks.specs.Blocks.{on_delay_output, on_delay_time}
+use Rattle.block_gates.specs.declared.instance.EncodedInstance.TheVariants as block
+use Rattle.block_gates.specs.Blocks.{pins_at, shown, state_at, timer_state}
+use Rattle.block_gates.proofs.Both.{same_both}
+use Rattle.block_gates.proofs.timers.step_on_delay.Goals as goal
+
+pub returns : goal.returns
+returns c = λ v agrees.
+    let on = c.in_ok-on.ensures v agrees in
+    let come = c.in_ok-come.ensures v on.0 in
+    let elapsed = c.in_ok-elapsed.ensures v come.0 in
+    let pins = c.args.pins.now in
+    let first = signal_value v pins.first in
+    let s = state_at v (block.TON c.args.timer.now) in
+    let dt = time_at v c.args.dt.now in
+    let new = signal_value v c.in_ok-on.on in
+    let time = time_at v c.in_ok-elapsed.elapsed in
+    let is : new ≡ on_delay_output s (pins_at v pins) dt =
+    on.1 ∙ ap (λ t. first && t) (come.1 ∙ ap (λ k. leb (time_at v pins.time) k) elapsed.1) in (
+      elapsed.0,
+      (
+        same_both (timer_state TON first) new (on_delay_output s (pins_at v pins) dt) time (on_delay_time s (pins_at v pins) dt) is elapsed.1,
+        same_both (λ t k. shown t false (pos 0) k) new (on_delay_output s (pins_at v pins) dt) time (on_delay_time s (pins_at v pins) dt)
+            is elapsed.1,
+      ),
+    )

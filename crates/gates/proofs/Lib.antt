@@ -1,0 +1,5 @@
+pub mod AndLaws
+pub mod Built
+pub mod ClausesPut
+pub mod Growing
+pub mod ValuesOf

@@ -1,0 +1,4 @@
+pub mod Bits
+pub mod Networks
+pub mod Results
+pub mod Storing

@@ -1,0 +1,2 @@
+-- Steps of the proofs.
+pub mod StepsScanned

@@ -1,0 +1,3 @@
+-- Steps of the proofs.
+pub mod Pairs
+pub mod Pushing

@@ -1,0 +1,4 @@
+pub mod InputValues
+pub mod Induction
+pub mod ClausesOver
+pub mod RunsOn

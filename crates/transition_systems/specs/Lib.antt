@@ -1,0 +1,4 @@
+pub mod Systems
+pub mod Runs
+pub mod Certificates
+pub mod Steps
