@@ -1,8 +1,8 @@
 """That the pages of the repository hold together, the program aside.
 
 Each link to a file of the repository leads to one, and one to a heading to that heading. The table of crates is made of
-crates.txt and the crates, the text of a page of what stands in crates/page/page, and each crate of the program that promises
-something has its heading among what is proved, alone or beside others.
+crates.txt and the crates, the text of a page of what stands in crates/page/page, and each crate that promises something, but
+those for tests alone, has its heading among what is proved, by itself or beside others.
 """
 import os
 import re
@@ -12,7 +12,7 @@ import sys
 ROOT = os.path.dirname(os.path.realpath(sys.argv[1]))
 sys.path.insert(0, f"{ROOT}/run")
 sys.dont_write_bytecode = True
-from crates import PROGRAM, crates_of
+from crates import PROGRAM, crates_of, listed_crates
 
 FOLDERS = ("", "docs", "examples", "examples/field", "examples/machines", "tests", "bench", "wrong_bodies")
 # There is no call in it.
@@ -54,8 +54,10 @@ def main():
             if name.endswith(".md"):
                 try_links(os.path.join(folder, name))
     titles = re.findall(r"\w+", " ".join(re.findall(r"(?m)^### (.+)$", read("docs/PROVED.md"))))
-    for crate in sorted(crates_of(PROGRAM).keys() - PROMISE_NOTHING ^ set(titles)):
-        told.append(f"docs/PROVED.md: {crate} is a crate of the program or a heading, and not both")
+    tests = crates_of(*(it for it in listed_crates() if it.endswith("_tests")))
+    promising = listed_crates().keys() - (tests.keys() - crates_of(PROGRAM).keys()) - PROMISE_NOTHING
+    for crate in sorted(promising ^ set(titles)):
+        told.append(f"docs/PROVED.md: {crate} is a crate that promises something or a heading, and not both")
     for script in ("crate_table.py", "page_text.py"):
         made = subprocess.run([sys.executable, f"{ROOT}/run/{script}"], stdout=subprocess.PIPE, text=True, check=False)
         if made.returncode:

@@ -138,6 +138,17 @@ def main():
     expect("a source, without the kit", (status, out, told.splitlines()[:1]), (3, "", [wanted]))
     expect_shipped("after a source")
 
+    lines = read("crates.txt")
+    write("crates/unused/src/lib.rt", "one\n")
+    write("crates.txt", lines.replace("console:", "unused: low\nconsole:"))
+    expect_check("a crate that nothing uses", None, "3 passed, 0 failed")
+    write("crates.txt", read("crates.txt").replace("console: low", "console: low unused"))
+    expect_check("a crate that the program takes", "a source changed, and dist/ has the program of those before: run/ship ships it anew")
+    expect_shipped("after a crate more")
+    write("crates.txt", lines)
+    shutil.rmtree(path_of("crates/unused"))
+    expect_shipped("after a crate less")
+
     write("dist/SOURCES", read("dist/SOURCES").replace("\nkit", "\n\nkit"))
     expect_check("another text", "dist/SOURCES isn't three lines of sources, kit and program: run/ship ships it anew")
     expect_shipped("after another text")
