@@ -1,8 +1,8 @@
 ghost use Rattle.std.specs.Prelude.{◌≡◌, ◌↔◌, IsTrue};
 
+use crate::element::Element;
 use drawings::{Coil, Contact, DrawnBox, DrawnPin, Operand, Place};
 use lists::are_same;
-use network::Element;
 use words::Text;
 
 fn are_same_texts(text: &Text, other: &Text) -> bool
@@ -42,7 +42,8 @@ fn have_same_pins(pins: &[DrawnPin], others: &[DrawnPin]) -> bool
     are_same(pins, others, are_same_pins)
 }
 
-fn are_same_boxes(drawn: &DrawnBox, other: &DrawnBox) -> bool
+/// Whether two boxes are drawn alike, at one place.
+pub fn are_same_boxes(drawn: &DrawnBox, other: &DrawnBox) -> bool
     ensures { IsTrue result ↔ (drawn.now ≡ other.now) }
 {
     drawn.top == other.top
