@@ -4,7 +4,7 @@ use Rattle.scan_steps.specs.declared.bound_box.BoundOutput.{BoundOutput}
 use Rattle.scan_steps.specs.Conducting.{bit_at}
 use Rattle.scan_steps.specs.Steps.BoxSteps.{HasOutput}
 use Rattle.scan_steps.proofs.BoxesStepping.{clear_more, clear_kept}
-use Rattle.scan_steps.proofs.passing.clear_two.Goals as goal
+use Rattle.scan_steps.proofs.box_rows.clear_two.Goals as goal
 
 -- no pin is among the first none
 no_pin : (pins : List BoundOutput) (r : ℕ) → HasOutput (take 0 pins) r → ⊥

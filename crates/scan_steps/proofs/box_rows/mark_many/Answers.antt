@@ -1,7 +1,7 @@
 use Rattle.std.proofs.Common.{◌∙◌}
 use Rattle.std.proofs.lemmas.List.{take_all}
 use Rattle.scan_steps.proofs.BoxesStepping.{mark_more}
-use Rattle.scan_steps.proofs.passing.mark_many.Goals as goal
+use Rattle.scan_steps.proofs.box_rows.mark_many.Goals as goal
 
 pub loop-pin-preserved : goal.loop-pin-preserved
 loop-pin-preserved c = record {

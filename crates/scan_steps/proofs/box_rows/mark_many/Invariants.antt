@@ -1,7 +1,7 @@
 use Rattle.std.proofs.Common.{◌≡◌, ℕ, ◌⊎◌, ◌↔◌, true, take, length}
 use Rattle.scan_steps.specs.Conducting.{bit_at}
 use Rattle.scan_steps.specs.Steps.BoxSteps.{IsMarked}
-use Rattle.scan_steps.proofs.passing.mark_many.Given as goal
+use Rattle.scan_steps.proofs.box_rows.mark_many.Given as goal
 
 abbrev pub invariant-loop-pin : goal.invariant-loop-pin
 invariant-loop-pin l = record {

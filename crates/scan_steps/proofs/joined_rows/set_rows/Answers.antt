@@ -1,6 +1,6 @@
 use Rattle.std.proofs.lemmas.Bool.{cases_lt}
 use Rattle.std.proofs.Common.{◌≡◌, ℕ, ◌+◌, ◌<◌, ◌≤◌, ◌⊎◌, inl, inr, arith}
-use Rattle.scan_steps.proofs.passing.set_rows.Goals as goal
+use Rattle.scan_steps.proofs.joined_rows.set_rows.Goals as goal
 
 pub returns-clause-within : goal.returns-clause-within
 returns-clause-within c = λ r ge le. c.loop-row.invariant.within r ge (omega arith)

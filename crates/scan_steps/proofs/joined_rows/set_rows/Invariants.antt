@@ -1,6 +1,6 @@
 use Rattle.std.proofs.Common.{◌≡◌, ℕ, ◌+◌, ◌<◌, ◌≤◌, ◌⊎◌, length}
 use Rattle.scan_steps.specs.Conducting.{bit_at}
-use Rattle.scan_steps.proofs.passing.set_rows.Given as goal
+use Rattle.scan_steps.proofs.joined_rows.set_rows.Given as goal
 
 abbrev pub invariant-loop-row : goal.invariant-loop-row
 invariant-loop-row l = record {

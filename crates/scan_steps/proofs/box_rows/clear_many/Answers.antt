@@ -1,7 +1,7 @@
 use Rattle.std.proofs.Common.{length-set, false, ◌∙◌}
 use Rattle.std.proofs.lemmas.List.{take_all}
 use Rattle.scan_steps.proofs.BoxesStepping.{clear_more, clear_kept}
-use Rattle.scan_steps.proofs.passing.clear_many.Goals as goal
+use Rattle.scan_steps.proofs.box_rows.clear_many.Goals as goal
 
 pub loop-pin-preserved : goal.loop-pin-preserved
 loop-pin-preserved c =

@@ -7,7 +7,7 @@ use Rattle.scan_steps.specs.Values.{is_true}
 use Rattle.scan_steps.specs.Conducting.{bit_at}
 use Rattle.scan_steps.specs.Steps.BoxSteps.{IsMarked, HasOutput}
 use Rattle.scan_steps.specs.Steps.Passing.{ArePinsShown}
-use Rattle.scan_steps.proofs.passing.show_one.Goals as goal
+use Rattle.scan_steps.proofs.box_rows.show_one.Goals as goal
 
 abbrev shown : PinsOut → BoundOutput → Bool
 shown values o = is_true (Some (field_value values o.field))

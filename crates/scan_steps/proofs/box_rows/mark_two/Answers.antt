@@ -7,7 +7,7 @@ use Rattle.scan_steps.specs.Values.{is_true}
 use Rattle.scan_steps.specs.Conducting.{bit_at}
 use Rattle.scan_steps.specs.Steps.BoxSteps.{IsMarked}
 use Rattle.scan_steps.proofs.BoxesStepping.{mark_more}
-use Rattle.scan_steps.proofs.passing.mark_two.Goals as goal
+use Rattle.scan_steps.proofs.box_rows.mark_two.Goals as goal
 
 -- no pin is among the first none
 no_pin : (pins : List BoundOutput) (values : PinsOut) (r : ℕ) → IsMarked (take 0 pins) values r → ⊥

@@ -1,7 +1,7 @@
 use Rattle.std.proofs.Common.{◌≡◌, ℕ, false, take, length}
 use Rattle.scan_steps.specs.Conducting.{bit_at}
 use Rattle.scan_steps.specs.Steps.BoxSteps.{HasOutput}
-use Rattle.scan_steps.proofs.passing.clear_many.Given as goal
+use Rattle.scan_steps.proofs.box_rows.clear_many.Given as goal
 
 abbrev pub invariant-loop-pin : goal.invariant-loop-pin
 invariant-loop-pin l = record {

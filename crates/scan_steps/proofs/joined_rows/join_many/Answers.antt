@@ -1,5 +1,5 @@
 use Rattle.std.proofs.Common.{sym, ◌∙◌}
-use Rattle.scan_steps.proofs.passing.join_many.Goals as goal
+use Rattle.scan_steps.proofs.joined_rows.join_many.Goals as goal
 
 pub returns : goal.returns
 returns c = record {

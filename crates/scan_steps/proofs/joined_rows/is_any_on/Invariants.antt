@@ -1,6 +1,6 @@
 use Rattle.std.proofs.Common.{◌≡◌, ℕ, ◌<◌, ◌≤◌, ◌⊎◌, ◌+◌, ◌↔◌, true}
 use Rattle.scan_steps.specs.Conducting.{bit_at}
-use Rattle.scan_steps.proofs.passing.is_any_on.Given as goal
+use Rattle.scan_steps.proofs.joined_rows.is_any_on.Given as goal
 
 abbrev pub invariant-loop-row : goal.invariant-loop-row
 invariant-loop-row l = record {
