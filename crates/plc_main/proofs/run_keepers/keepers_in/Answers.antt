@@ -3,7 +3,7 @@ use Rattle.std.proofs.Common.{◌<◌, length, map, string_bytes, ap, arith, ◌
 use Rattle.std.proofs.lemmas.List.{take_all}
 use Rattle.plant.specs.PlantValue.{ResourceValue}
 use Rattle.plc_main.proofs.KeeperNames.{keepers_more}
-use Rattle.plc_main.proofs.keepers_in.Goals as goal
+use Rattle.plc_main.proofs.run_keepers.keepers_in.Goals as goal
 
 pub loop-resource-preserved : goal.loop-resource-preserved
 loop-resource-preserved c =

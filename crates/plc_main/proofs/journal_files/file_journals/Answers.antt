@@ -4,7 +4,7 @@ use Rattle.std.specs.Borrow.{Bor}
 use Rattle.std.proofs.lemmas.List.{take_all}
 use Rattle.audit.specs.declared.journal_file.JournalFile.{JournalFile}
 use Rattle.plc_main.proofs.KeeperNames.{journals_more}
-use Rattle.plc_main.proofs.file_journals.Goals as goal
+use Rattle.plc_main.proofs.journal_files.file_journals.Goals as goal
 
 pub loop-name-preserved : goal.loop-name-preserved
 loop-name-preserved g c =

@@ -1,5 +1,5 @@
 use Rattle.std.proofs.Common.{◌≡◌, map, take, string_bytes, vec_len}
-use Rattle.plc_main.proofs.keepers_in.Given as goal
+use Rattle.plc_main.proofs.run_keepers.keepers_in.Given as goal
 
 abbrev pub invariant-loop-resource : goal.invariant-loop-resource
 invariant-loop-resource l =
