@@ -2,7 +2,7 @@
 
 use crate::run_keepers::keepers_in;
 use console::FAILED;
-use keepers::{BadLine, FileKeeper, Keeper, KeeperFault, LockFault, SystemFolder};
+use keepers::{BadLine, FileKeeper, KeeperFault, LockFault, SystemFolder};
 use plant::{Plant, TaskCode, TaskRef};
 use std::io::Read;
 use std::{fs, io};
