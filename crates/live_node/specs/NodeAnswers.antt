@@ -20,7 +20,7 @@ use Rattle.live_node.specs.declared.node_line.NodeLine.TheVariants.{Idle, Evalua
 use Rattle.live_node.specs.declared.line_refusal.LineRefusal.{LineRefusal}
 use Rattle.live_node.specs.declared.line_refusal.LineRefusal.TheVariants.{Syntax, TooLong, NoSuchResource, NotHere, NoSuchTask, NumbersSpent, TooHigh, Keeper}
 use Rattle.live_node.specs.NodeLines.{Spells, SpellsNothing}
-use Rattle.live_node.specs.Partners.{takes_from_resource}
+use Rattle.crossings.specs.Partners.{takes_from_resource}
 use Rattle.live_node.specs.Sends.{greetings, hello_to, message_sends}
 use Rattle.live_node.specs.Answers.{refused_line, message_answer, hello_answer, risen_line}
 use Rattle.live_node.specs.NodeJournal.{line_note, start_note, restart_note}

@@ -5,7 +5,7 @@ use Rattle.plant.specs.PlantValue.{PlantValue}
 use Rattle.evaluation.specs.Messages.{MessageValue}
 use Rattle.text_lines.specs.LineParts.{resource_text}
 use Rattle.text_lines.specs.MessageLines.{message_line}
-use Rattle.live_node.specs.Partners.{takes_from_task, is_partner}
+use Rattle.crossings.specs.Partners.{takes_from_task, is_partner}
 
 -- `SEND R line`: this line is to be carried to the resource
 abbrev pub send_text : PlantValue → ℕ → List ℕ → List ℕ

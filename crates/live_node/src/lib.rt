@@ -17,7 +17,6 @@ mod node_core;
 mod node_line;
 mod node_stop;
 mod notes;
-mod partners;
 mod reading;
 mod sends;
 
@@ -35,5 +34,4 @@ pub use node_core::NodeCore;
 pub use node_line::NodeLine;
 pub use node_stop::NodeStop;
 pub use notes::{NoteFault, Notes};
-pub use partners::takes_from_task;
 pub use reading::read_node_line;

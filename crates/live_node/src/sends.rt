@@ -5,7 +5,7 @@ ghost use Rattle.text_lines.specs.Growing.{GrowsBy};
 ghost use Rattle.text_lines.specs.MessageLines.{HasForm};
 ghost use Rattle.live_node.specs.Sends.{send_text, hello_text, greetings, message_sends, hello_to, is_taker, message_to};
 
-use crate::partners::{is_partner, takes_from_task};
+use crossings::{is_partner, takes_from_task};
 use evaluation::Message;
 use plant::Plant;
 use std::alloc::{AllocError, Global};

@@ -1,0 +1,4 @@
+pub mod Partners
+pub mod Crossings
+pub mod CrossingText
+pub mod Digests
