@@ -17,7 +17,7 @@ use task_codes::{TaskCode, TaskRef};
 use text_lines::push_resource;
 
 /// The name of a kind.
-fn kind_text(kind: Kind) -> &'static str
+pub fn kind_text(kind: Kind) -> &'static str
     ensures { result.now ≡ kind_text kind }
 {
     match kind {
