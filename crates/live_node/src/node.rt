@@ -500,6 +500,10 @@ impl<K: Keeper, N: Notes> Node<K, N> {
             Some(NodeLine::Hello { of, incarnation }) => {
                 self.answer_hello(line, of, incarnation, out)
             }
+            Some(NodeLine::Foreign) => {
+                push_refused(out, LineRefusal::OtherPlant)?;
+                Ok(())
+            }
             Some(NodeLine::Restart { resource }) => self.answer_restart(line, resource, out),
         }
     }
