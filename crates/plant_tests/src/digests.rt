@@ -30,11 +30,11 @@ const MOVED_LATCH: &str = "(* a latch *)
 program Latch
 var_input GO:bool; end_var
 var_output Q:BOOL; end_var VAR RETAIN M : BOOL; END_VAR
-(* it is set *)
   |
   |  go    m
   +--| |---(s)
-(* it is told *)
+
+  |
   |
   |  m     q
   +--|/|---( )
