@@ -43,14 +43,16 @@ is_taken plant t = list_any (is_taker plant t) (range_with_len 0 (length plant.r
 abbrev pub taker_at : PlantValue → TaskRef → ℕ → List (List ℕ)
 taker_at plant t n = if is_taker plant t n then resource_text plant n ∷ [] else []
 
+abbrev pub crossing_output : CodeValue → TaskOutput → CrossingOutput
+crossing_output code o = record {
+  instance = instance_text code o;
+  variable = variable_text o (slice_get code.programs o.program);
+  kind = o.kind;
+}
+
 abbrev pub output_of : CodeValue → Option TaskOutput → List CrossingOutput
 output_of code None = []
-output_of code (Some o) =
-    record {
-      instance = instance_text code o;
-      variable = variable_text o (slice_get code.programs o.program);
-      kind = o.kind;
-    } ∷ []
+output_of code (Some o) = crossing_output code o ∷ []
 
 abbrev pub output_at : CodeValue → ℕ → List CrossingOutput
 output_at code k = output_of code (slice_get code.outputs k)

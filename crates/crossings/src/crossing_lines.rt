@@ -1,12 +1,12 @@
 //! What crosses between the resources of a plant, as a text.
 
-ghost use Rattle.std.specs.Prelude.{◌≡◌, ◌<◌, IfOk, OnOk, length, string_bytes};
+ghost use Rattle.std.specs.Prelude.{◌≡◌, IfOk, OnOk, Some, length, slice_get, string_bytes};
 ghost use Rattle.std.specs.List.{flat_map};
 ghost use Rattle.text_lines.specs.Growing.{GrowsBy};
 ghost use Rattle.text_lines.specs.LineParts.{task_name};
-ghost use Rattle.task_codes.specs.declared.task_ref.TaskRef.{TaskRef};
+ghost use Rattle.task_codes.specs.declared.task_output.TaskOutput.{TaskOutput};
 ghost use Rattle.plant.specs.PlantValue.{code_at, tasks_at};
-ghost use Rattle.crossings.specs.Crossings.{below, is_taken, is_taker, output_at, outputs_of, resource_at, task_at, task_if_taken, taker_at};
+ghost use Rattle.crossings.specs.Crossings.{below, crossing_output, is_taken, is_taker, output_at, outputs_of, resource_at, task_at, task_if_taken, taker_at};
 ghost use Rattle.crossings.specs.CrossingText.{crossing_text, kind_text, lines_of, output_text, task_line, taker_text};
 
 use crate::partners::takes_from_task;
@@ -37,12 +37,17 @@ fn task_name(plant: &Plant, task: TaskRef) -> &str
     }
 }
 
-/// Writes an output, as ` A.N:INT`, behind a text; nothing where there is no such output.
-fn push_output(text: &mut String, code: &TaskCode, output: usize) -> Result<(), AllocError>
-    ensures { OnOk result (GrowsBy text.old text.new (flat_map output_text (output_at code.now output))) }
+/// Writes an output of this kind, as ` A.N:INT`, behind a text.
+fn push_found(
+    text: &mut String,
+    code: &TaskCode,
+    output: usize,
+    kind: Kind,
+) -> Result<(), AllocError>
+    ensures { (o : TaskOutput) → slice_get code.now.outputs output ≡ Some o → o.kind ≡ kind
+        → OnOk result (GrowsBy text.old text.new (output_text (crossing_output code.now o))) }
 {
-    let (Some(found), Some((instance, variable))) = (code.output(output), code.output_name(output))
-    else {
+    let Some((instance, variable)) = code.output_name(output) else {
         return Ok(());
     };
     text.push_str(" ")?;
@@ -50,7 +55,18 @@ fn push_output(text: &mut String, code: &TaskCode, output: usize) -> Result<(), 
     text.push_str(".")?;
     text.push_str(variable)?;
     text.push_str(":")?;
-    text.push_str(kind_text(found.kind))
+    text.push_str(kind_text(kind))
+}
+
+/// Writes an output, as ` A.N:INT`, behind a text; nothing where there is no such output.
+#[tactic(auto, using(crate::proofs::Growing::only))]
+fn push_output(text: &mut String, code: &TaskCode, output: usize) -> Result<(), AllocError>
+    ensures { OnOk result (GrowsBy text.old text.new (flat_map output_text (output_at code.now output))) }
+{
+    match code.output(output) {
+        Some(found) => push_found(text, code, output, found.kind),
+        None => Ok(()),
+    }
 }
 
 /// Writes the outputs of a code behind a text.
@@ -88,6 +104,7 @@ fn is_taken(plant: &Plant, task: TaskRef) -> bool
 }
 
 /// Writes a resource, as ` R2`, behind a text, if it takes from a task of another one.
+#[tactic(auto, using(crate::proofs::Growing::if_true, crate::proofs::Growing::if_false))]
 fn push_taker(
     text: &mut String,
     plant: &Plant,
@@ -114,6 +131,7 @@ fn push_takers(text: &mut String, plant: &Plant, task: TaskRef) -> Result<(), Al
 }
 
 /// Writes the line of a task behind a text, if other resources take from it.
+#[tactic(auto, using(crate::proofs::Growing::if_true, crate::proofs::Growing::if_false))]
 fn push_task(text: &mut String, plant: &Plant, task: TaskRef) -> Result<(), AllocError>
     ensures { OnOk result (GrowsBy text.old text.new (flat_map task_line (task_if_taken plant.now task))) }
 {
@@ -140,6 +158,7 @@ fn push_tasks(text: &mut String, plant: &Plant, resource: usize) -> Result<(), A
 }
 
 /// Writes the lines of a resource behind a text.
+#[tactic(auto, using(crate::proofs::Growing::only))]
 fn push_lines(text: &mut String, plant: &Plant, resource: usize) -> Result<(), AllocError>
     ensures { OnOk result (GrowsBy text.old text.new (lines_of (resource_at plant.now resource))) }
 {
