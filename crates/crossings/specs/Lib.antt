@@ -2,3 +2,4 @@ pub mod Partners
 pub mod Crossings
 pub mod CrossingText
 pub mod Digests
+pub mod OneCrossing

@@ -4,8 +4,10 @@
 
 mod crossing_lines;
 mod digests;
+mod laws;
 mod partners;
 
 pub use crossing_lines::{crossing_text, kind_text};
 pub use digests::{crossing_digits, crossing_mark, digits_of};
+pub use laws::one_crossing;
 pub use partners::{is_partner, takes_from_resource, takes_from_task};
