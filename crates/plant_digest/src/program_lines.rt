@@ -1,11 +1,12 @@
 //! The program instances of a task, line by line.
 
-ghost use Rattle.std.specs.Prelude.{◌≡◌, OnOk, Some, slice_get};
+ghost use Rattle.std.specs.Prelude.{◌≡◌, OnOk, Some, length, slice_get};
 ghost use Rattle.std.specs.List.{flat_map};
 ghost use Rattle.std.specs.Option.{option_copied};
 ghost use Rattle.text_lines.specs.Growing.{GrowsBy};
 ghost use Rattle.task_codes.specs.CodeValue.{ProgramValue};
 ghost use Rattle.plant.specs.PlantValue.{code_at};
+ghost use Rattle.crossings.specs.Crossings.{below};
 ghost use Rattle.plant_digest.specs.DrawnLines.{network_lines};
 ghost use Rattle.plant_digest.specs.ProgramLines.{binding_of, bound_text, declared_text, origin_text, output_of, program_at, programs_of, retain_text, source_text, space_text, type_text, variable_at, variable_line};
 
@@ -165,6 +166,24 @@ fn push_variable(
     text.push_str("\n")
 }
 
+/// Writes what is declared in a program instance behind a text.
+fn push_variables(
+    text: &mut String,
+    plant: &Plant,
+    code: &TaskCode,
+    i: usize,
+    ladder: &Ladder,
+    retained: &[usize],
+) -> Result<(), AllocError>
+    ensures { (p : ProgramValue) → slice_get code.now.programs i ≡ Some p → p.ladder ≡ ladder.now → p.retained ≡ retained.now
+        → OnOk result (GrowsBy text.old text.new (below (variable_at plant.now code.now i p) (length p.ladder.declarations))) }
+{
+    for place in 0..ladder.declarations().len() {
+        push_variable(text, plant, code, i, ladder, retained, place)?;
+    }
+    Ok(())
+}
+
 /// Writes the networks of a ladder behind a text.
 fn push_networks(text: &mut String, ladder: &Ladder) -> Result<(), AllocError>
     ensures { OnOk result (GrowsBy text.old text.new (flat_map network_lines ladder.now.networks)) }
@@ -196,9 +215,7 @@ fn push_program(
     text.push_str("PROGRAM ")?;
     text.push_str(name)?;
     text.push_str("\n")?;
-    for place in 0..ladder.declarations().len() {
-        push_variable(text, plant, code, i, ladder, retained, place)?;
-    }
+    push_variables(text, plant, code, i, ladder, retained)?;
     push_networks(text, ladder)
 }
 
