@@ -1,5 +1,5 @@
 -- What crosses follows from its text.
-use Rattle.std.proofs.Common.{◌≡◌, ℕ, ◌==◌, ◌++◌, ◌∷◌, [], List, true, false, codes, sym, ap, refl, ◌∙◌, append_assoc}
+use Rattle.std.proofs.Common.{◌≡◌, ℕ, ◌==◌, ◌++◌, ◌∷◌, [], List, Bool, true, false, codes, sym, ap, refl, ◌∙◌, append_assoc}
 use Rattle.std.specs.List.{AllByRecursion, flat_map}
 use Rattle.declared_names.specs.declared.declarations.Kind.{Kind}
 use Rattle.declared_names.specs.declared.declarations.Kind.TheVariants as kind
@@ -35,27 +35,40 @@ split (c ∷ v) (d ∷ w) r s pv pw sr ss e =
 
 -- kinds
 kind_plain : (k : Kind) → IsPlain (kind_text k)
-kind_plain kind.Bool = (refl, refl, refl, refl, tt)
-kind_plain kind.Int = (refl, refl, refl, tt)
-kind_plain kind.Time = (refl, refl, refl, refl, tt)
+kind_plain kind.Bool = (refl, (refl, (refl, (refl, tt))))
+kind_plain kind.Int = (refl, (refl, (refl, tt)))
+kind_plain kind.Time = (refl, (refl, (refl, (refl, tt))))
+
+-- the first character of a text is this one
+abbrev begins_by : ℕ → List ℕ → Bool
+begins_by c [] = false
+begins_by c (d ∷ more) = d == c
 
 kind_same : (k l : Kind) → kind_text k ≡ kind_text l → k ≡ l
 kind_same kind.Bool kind.Bool e = refl
-kind_same kind.Bool kind.Int e = absurd cc
-kind_same kind.Bool kind.Time e = absurd cc
-kind_same kind.Int kind.Bool e = absurd cc
+kind_same kind.Bool kind.Int e = let both : true ≡ false = ap (begins_by 66) e in cc (both)
+kind_same kind.Bool kind.Time e = let both : true ≡ false = ap (begins_by 66) e in cc (both)
+kind_same kind.Int kind.Bool e = let both : true ≡ false = ap (begins_by 73) e in cc (both)
 kind_same kind.Int kind.Int e = refl
-kind_same kind.Int kind.Time e = absurd cc
-kind_same kind.Time kind.Bool e = absurd cc
-kind_same kind.Time kind.Int e = absurd cc
+kind_same kind.Int kind.Time e = let both : true ≡ false = ap (begins_by 73) e in cc (both)
+kind_same kind.Time kind.Bool e = let both : true ≡ false = ap (begins_by 84) e in cc (both)
+kind_same kind.Time kind.Int e = let both : true ≡ false = ap (begins_by 84) e in cc (both)
 kind_same kind.Time kind.Time e = refl
+
+-- pieces one behind the other
+parted_5 : (a b c d e : List ℕ) → a ++ b ++ c ++ d ++ e ≡ a ++ (b ++ (c ++ (d ++ e)))
+parted_5 a b c d e = append_assoc (a ++ b ++ c) d e ∙ append_assoc (a ++ b) c (d ++ e) ∙ append_assoc a b (c ++ (d ++ e))
+
+parted_7 : (a b c d e f g : List ℕ) → a ++ b ++ c ++ d ++ e ++ f ++ g ≡ a ++ (b ++ (c ++ (d ++ (e ++ (f ++ g)))))
+parted_7 a b c d e f g =
+    append_assoc (a ++ b ++ c ++ d ++ e) f g ∙ append_assoc (a ++ b ++ c ++ d) e (f ++ g) ∙ parted_5 a b c d (e ++ (f ++ g))
+
+parted_8 : (a b c d e f g h : List ℕ) → a ++ b ++ c ++ d ++ e ++ f ++ g ++ h ≡ a ++ (b ++ (c ++ (d ++ (e ++ (f ++ (g ++ h))))))
+parted_8 a b c d e f g h = append_assoc (a ++ b ++ c ++ d ++ e ++ f) g h ∙ parted_7 a b c d e f (g ++ h)
 
 -- an output and what stands behind it
 output_parted : (o : CrossingOutput) (t : List ℕ) → output_text o ++ t ≡ 32 ∷ (o.instance ++ (46 ∷ (o.variable ++ (58 ∷ (kind_text o.kind ++ t)))))
-output_parted o t =
-    ap (λ l. 32 ∷ l)
-    (append_assoc o.instance (46 ∷ (o.variable ++ (58 ∷ kind_text o.kind))) t
-    ∙ ap (λ l. o.instance ++ (46 ∷ l)) (append_assoc o.variable (58 ∷ kind_text o.kind) t))
+output_parted o t = parted_7 (codes " ") o.instance (codes ".") o.variable (codes ":") (kind_text o.kind) t
 
 one_output : (o p : CrossingOutput) (r s : List ℕ) → IsOutputPlain o → IsOutputPlain p → Stops r → Stops s → output_text o ++ r ≡ output_text p ++ s → (o ≡ p) × (r ≡ s)
 one_output o p r s po pp sr ss e =
@@ -86,7 +99,7 @@ no_output o [] t po h e = h
 no_output o (c ∷ more) t po h e =
     let is = e ∙ output_parted o t in
     let behind : codes "TO" ++ (c ∷ more) ≡ o.instance ++ (46 ∷ (o.variable ++ (58 ∷ (kind_text o.kind ++ t)))) = cc (is) in
-    let a = split (codes "TO") o.instance (c ∷ more) (46 ∷ (o.variable ++ (58 ∷ (kind_text o.kind ++ t)))) (refl, refl, tt) po.0 h.0 refl behind in
+    let a = split (codes "TO") o.instance (c ∷ more) (46 ∷ (o.variable ++ (58 ∷ (kind_text o.kind ++ t)))) (refl, (refl, tt)) po.0 h.0 refl behind in
     let dot : c ≡ 46 = cc (a.1) in
     let both = sym h.1 ∙ ap (λ d. d == 46) dot in
     cc (both)
@@ -119,12 +132,10 @@ takers_begin (t ∷ ts) r = (refl, refl)
 one_takers : (ts us : List (List ℕ)) (r s : List ℕ) → AllByRecursion IsPlain ts → AllByRecursion IsPlain us → flat_map taker_text ts ++ (10 ∷ r) ≡ flat_map taker_text us ++ (10 ∷ s) → (ts ≡ us) × (r ≡ s)
 one_takers [] [] r s pt pu e = let same : r ≡ s = cc (e) in (refl, same)
 one_takers [] (u ∷ us) r s pt pu e =
-    let same : 10 ≡ 32 = cc (e) in
-    let both = ap (λ d. d == 10) same in
+    let both : true ≡ false = ap (begins_by 10) e in
     cc (both)
 one_takers (t ∷ ts) [] r s pt pu e =
-    let same : 32 ≡ 10 = cc (e) in
-    let both = ap (λ d. d == 10) same in
+    let both : true ≡ false = ap (begins_by 32) e in
     cc (both)
 one_takers (t ∷ ts) (u ∷ us) r s pt pu e =
     let h = sym (append_assoc (taker_text t) (flat_map taker_text ts) (10 ∷ r)) ∙ e ∙ append_assoc (taker_text u) (flat_map taker_text us) (10 ∷ s) in
@@ -142,14 +153,7 @@ abbrev behind_name : CrossingTask → List ℕ → List ℕ
 behind_name t r = flat_map output_text t.outputs ++ (codes " TO" ++ (flat_map taker_text t.takers ++ (10 ∷ r)))
 
 task_parted : (t : CrossingTask) (r : List ℕ) → task_line t ++ r ≡ codes "TASK " ++ (t.name ++ (codes " GIVES" ++ behind_name t r))
-task_parted t r =
-    let takers = flat_map taker_text t.takers in
-    let outputs = flat_map output_text t.outputs in
-    ap (λ l. codes "TASK " ++ l)
-    (append_assoc t.name (codes " GIVES" ++ (outputs ++ (codes " TO" ++ (takers ++ codes "\n")))) r
-    ∙ ap (λ l. t.name ++ (codes " GIVES" ++ l))
-    (append_assoc outputs (codes " TO" ++ (takers ++ codes "\n")) r
-    ∙ ap (λ l. outputs ++ (codes " TO" ++ l)) (append_assoc takers (codes "\n") r)))
+task_parted t r = parted_8 (codes "TASK ") t.name (codes " GIVES") (flat_map output_text t.outputs) (codes " TO") (flat_map taker_text t.takers) (codes "\n") r
 
 one_task : (t u : CrossingTask) (r s : List ℕ) → IsTaskPlain t → IsTaskPlain u → task_line t ++ r ≡ task_line u ++ s → (t ≡ u) × (r ≡ s)
 one_task t u r s pt pu e =
@@ -196,7 +200,7 @@ rests [] = tt
 rests (r ∷ rs) = refl
 
 resource_parted : (r : CrossingResource) (t : List ℕ) → resource_lines r ++ t ≡ codes "RESOURCE " ++ (r.name ++ (10 ∷ (flat_map task_line r.tasks ++ t)))
-resource_parted r t = ap (λ l. codes "RESOURCE " ++ l) (append_assoc r.name (10 ∷ flat_map task_line r.tasks) t)
+resource_parted r t = parted_5 (codes "RESOURCE ") r.name (codes "\n") (flat_map task_line r.tasks) t
 
 pub one_crossing : OneCrossing
 one_crossing [] [] pr pq e = refl
