@@ -5,7 +5,7 @@ use Rattle.declared_names.specs.declared.declarations.Kind.{Kind}
 use Rattle.declared_names.specs.declared.declarations.Kind.TheVariants as kind
 use Rattle.crossings.specs.Crossings.{CrossingOutput, CrossingTask, CrossingResource}
 use Rattle.crossings.specs.CrossingText.{kind_text, output_text, taker_text, task_line, resource_lines, lines_of}
-use Rattle.crossings.specs.OneCrossing.{is_sign, IsPlain, IsOutputPlain, IsTaskPlain, IsResourcePlain, OneCrossing}
+use Rattle.crossings.specs.OneCrossing.{is_sign, IsPlain, IsOutputPlain, IsTaskPlain, OneCrossing}
 
 -- a sign stands first
 abbrev Stops : List ℕ → Type 0
