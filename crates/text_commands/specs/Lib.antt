@@ -1,4 +1,5 @@
 pub mod Rows
+pub mod Numbers
 pub mod Series
 pub mod Lines
 pub mod Comments

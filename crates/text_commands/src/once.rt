@@ -52,7 +52,7 @@ fn below_zero(digits: &[u8]) -> Option<i16>
 
 /// A number from -32,768 to 32,767, as a field input has it.
 #[tactic(auto, unfolding(words::specs::Numbers::number_up_to, evaluation::specs::InputTexts::word_value))]
-fn int_of(word: &[u8]) -> Option<i16>
+pub(crate) fn int_of(word: &[u8]) -> Option<i16>
     ensures { result ≡ word_value word.now }
 {
     match word {
@@ -62,7 +62,7 @@ fn int_of(word: &[u8]) -> Option<i16>
 }
 
 /// The greatest duration that is read, in ms.
-const LONGEST: u64 = 2_147_483_647;
+pub(crate) const LONGEST: u64 = 2_147_483_647;
 
 /// What a text says of a variable of a kind: of a BOOL 1 to 1,000 digits 0 or 1, of an INT a number, of a TIME a duration.
 pub fn once_of(kind: Kind, text: &str) -> Option<Once<'_>>
