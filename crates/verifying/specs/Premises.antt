@@ -17,7 +17,7 @@ use Rattle.verifying.specs.declared.setup.Setting.{Setting}
 use Rattle.verifying.specs.Inputs.{IsHeld}
 use Rattle.verifying.specs.Runs.{SetupValue}
 use Rattle.text_commands.specs.Stores.{IsStored}
-use Rattle.verifying.specs.VerdictLines.{name_at}
+use Rattle.verifying.specs.VerdictLines.{condition_text, name_at}
 
 -- the blocks that stand still while no time passes
 abbrev pub is_timer : BlockType → Bool
@@ -99,11 +99,11 @@ abbrev pub restart_premises : Option (List ℕ) → List (List ℕ)
 restart_premises None = []
 restart_premises (Some kept) = codes "restarts before any scan" ∷ []
 
--- the time, the inputs that are held, in the order of the words, the constants, in that of their declarations, the
--- names that are given, and that runs may restart
+-- the time, the inputs that are held, in the order of the words, the constants, in that of their declarations, what is
+-- given, and that runs may restart
 abbrev pub premises : SetupValue → List ℕ → List (List ℕ)
 premises u constants = dt_premises u.dt ++ map (held_premise u.ladder.declarations) u.held
-    ++ map (constant_premise u.ladder.declarations) constants ++ map (name_at u.ladder.declarations) u.given
+    ++ map (constant_premise u.ladder.declarations) constants ++ map (condition_text u.ladder.declarations) u.given
     ++ restart_premises u.restarts
 
 -- a line of them, if there are any

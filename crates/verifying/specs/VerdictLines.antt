@@ -9,6 +9,10 @@ use Rattle.declared_names.specs.declared.declarations.Declaration.{Declaration}
 use Rattle.power_flow.specs.Meaning.{Moment}
 use Rattle.text_lines.specs.LineParts.{value_text}
 use Rattle.text_commands.specs.Lines.{line_of}
+use Rattle.verifying.specs.ClaimWords.{truth_text}
+use Rattle.verifying.specs.Conditions.{sign_text}
+use Rattle.verifying.specs.declared.condition.Condition.{Condition}
+use Rattle.verifying.specs.declared.condition.Condition.TheVariants.{On, Compared}
 use Rattle.verifying.specs.declared.setup.Setting.{Setting}
 use Rattle.verifying.specs.declared.verdict.Tally.{Tally}
 use Rattle.verifying.specs.declared.verdict.Verdict.{Verdict}
@@ -23,20 +27,31 @@ counted count what = decimal count ++ codes " " ++ what ++ (if count == 1 then [
 abbrev pub looked_at : ℕ → ℕ → List ℕ
 looked_at states scans = codes ": " ++ counted states (codes "state") ++ codes ", " ++ counted scans (codes "scan") ++ codes "\n"
 
+-- a claim by its word, and what is told of it: `LIFT is never on`, `N>5 is never true`
+abbrev pub told_of : List ℕ → List ℕ → List ℕ
+told_of claim told = claim ++ told ++ truth_text claim
+
 abbrev pub undecided_line : List ℕ → ℕ → ℕ → ℕ → List ℕ
-undecided_line name depth states scans =
-    codes "UNDECIDED " ++ name ++ codes " is not on within " ++ counted depth (codes "scan") ++ looked_at states scans
+undecided_line claim depth states scans =
+    codes "UNDECIDED " ++ told_of claim (codes " is not ") ++ codes " within " ++ counted depth (codes "scan")
+    ++ looked_at states scans
 
 abbrev pub fails_line : List ℕ → ℕ → List ℕ
-fails_line name scans = codes "FAILS " ++ name ++ codes " is on after " ++ counted scans (codes "scan") ++ codes "\n"
+fails_line claim scans =
+    codes "FAILS " ++ told_of claim (codes " is ") ++ codes " after " ++ counted scans (codes "scan") ++ codes "\n"
 
 -- the name that is declared at a place
 abbrev pub name_at : List Declaration → ℕ → List ℕ
 name_at ds place = option_map_or (λ (d : Declaration). d.name) (slice_get ds place) []
 
+-- a condition in words: NAME, or NAME, its sign and its number
+abbrev pub condition_text : List Declaration → Condition → List ℕ
+condition_text ds (On place) = name_at ds place
+condition_text ds (Compared place comparison bound) = name_at ds place ++ sign_text comparison ++ value_text bound
+
 -- that no run meets what is given
 abbrev pub unmet : SetupValue → List ℕ
-unmet u = codes ": no run meets " ++ join_by (name_at u.ladder.declarations) (codes ", ") u.given ++ codes "\n"
+unmet u = codes ": no run meets " ++ join_by (condition_text u.ladder.declarations) (codes ", ") u.given ++ codes "\n"
 
 -- how many networks were needed, where that are fewer than there are
 abbrev pub needed_of : ℕ → ℕ → List ℕ
@@ -54,7 +69,7 @@ abbrev pub held_in : SetupValue → Tally → List ℕ
 held_in u t = if t.met then searched_in t else unmet u
 
 abbrev pub holds_line : SetupValue → Tally → List ℕ → List ℕ
-holds_line u t name = codes "HOLDS " ++ name ++ codes " is never on" ++ held_in u t
+holds_line u t claim = codes "HOLDS " ++ told_of claim (codes " is never ") ++ held_in u t
 
 -- a digit for a value
 abbrev pub digit_of : Bool → ℕ

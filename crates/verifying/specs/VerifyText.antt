@@ -9,6 +9,7 @@ use Rattle.text_commands.specs.Restarts.{kept_places}
 use Rattle.text_commands.specs.Sources.{AreRetainedFrom, IsLadderFrom, RefusesName, RefusesSource, RefusesWords, SourceValue}
 use Rattle.text_commands.specs.Series.{SeriesValue, SpellSettings}
 use Rattle.text_commands.specs.declared.text_command_fault.TextCommandFault.TheVariants.{Text, Word, Write, Memory}
+use Rattle.verifying.specs.declared.condition.Condition.{Condition}
 use Rattle.verifying.specs.declared.setup.Setting.{Setting}
 use Rattle.verifying.specs.declared.verdict.Tally.{Tally}
 use Rattle.verifying.specs.declared.verdict.Verdict.{Verdict}
@@ -44,22 +45,22 @@ pub record IsSetup (source : SourceValue) (q : QuestionValue) (u : SetupValue) :
   pub are_retained : AreRetainedFrom source retained
   pub restarts : u.restarts ≡ restarts_of q.restarts u.ladder.declarations u.ladder.networks retained
 
--- A text that answers the question: the ladder with its inputs, the claims at their places, what is searched in its place,
+-- A text that answers the question: the ladder with its inputs, the claims, what is searched in its place,
 -- with 20 free inputs at most, a verdict for each claim that is proved of all runs of the whole ladder, with the numbers of states and scans, of networks
 -- that were needed and of all, and whether there is a run at all, and the text of all that; and behind it a line of what
 -- the answers depend on. Where there is a timer, time passes.
 pub record IsAnswer (source : SourceValue) (q : QuestionValue) (text : List ℕ) : Type 0 where
   pub setup : SetupValue
   pub is : IsSetup source q setup
-  pub places : List ℕ
-  pub claims : AllZip (IsClaim setup.ladder.declarations setup.ladder.networks) q.claims places
+  pub claims : List Condition
+  pub are_claims : AllZip (IsClaim setup.ladder.declarations setup.ladder.networks) q.claims claims
   pub idle : List Bool
   pub searched : SetupValue
-  pub is_searched : IsSearched setup places idle searched
+  pub is_searched : IsSearched setup claims idle searched
   pub few : length searched.free ≤ 20
   pub verdicts : List Verdict
   pub tally : Tally
-  pub proved : AreToldVerdicts setup searched q.most_states tally.scans places verdicts
+  pub proved : AreToldVerdicts setup searched q.most_states tally.scans claims verdicts
   pub counts : All (AreCounts searched q.most_states tally.states tally.scans) verdicts
   pub met : IsTrue tally.met ↔ HasRun setup
   pub needed : tally.needed ≡ length searched.ladder.networks
@@ -84,7 +85,7 @@ pub record WritesLess (source : SourceValue) (q : QuestionValue) (old new : Opti
   pub answer : IsAnswer source q text
   pub sent : SendsLess text old new
 
--- the words hold inputs of the source's ladder, a name is no claim of it, and this is the first fault
+-- the words hold inputs of the source's ladder, another word is no claim of it, and this is the first fault
 pub record RefusesClaims (source : SourceValue) (q : QuestionValue) (fault : ClaimFault) : Type 0 where
   pub declarations : List Declaration
   pub networks : List Diagram
@@ -104,8 +105,8 @@ pub record RefusesHeld (source : SourceValue) (q : QuestionValue) (fault : HeldF
   pub read : SpellSettings declarations q.words rows
   pub first : IsFirstHeldFault declarations networks rows fault
 
--- the words hold inputs of the source's ladder, the names are claims of it, a name that is given is none, and this is the
--- first fault
+-- the words hold inputs of the source's ladder, others are claims of it, one of those that are given is none, and this is
+-- the first fault
 pub record RefusesGiven (source : SourceValue) (q : QuestionValue) (fault : ClaimFault) : Type 0 where
   pub declarations : List Declaration
   pub networks : List Diagram
@@ -114,30 +115,30 @@ pub record RefusesGiven (source : SourceValue) (q : QuestionValue) (fault : Clai
   pub read : SpellSettings declarations q.words rows
   pub held : List Setting
   pub holds : AllZip (HoldsInput declarations networks) rows held
-  pub places : List ℕ
-  pub claims : AllZip (IsClaim declarations networks) q.claims places
+  pub claims : List Condition
+  pub are_claims : AllZip (IsClaim declarations networks) q.claims claims
   pub first : IsFirstClaimFault declarations networks q.given fault
 
--- the words hold inputs of the source's ladder, the names are claims of it, time passes where there is a timer, and what is
+-- the words hold inputs of the source's ladder, others are claims of it, time passes where there is a timer, and what is
 -- searched has so many free inputs, more than 20
 pub record HasManyInputs (source : SourceValue) (q : QuestionValue) (count : ℕ) : Type 0 where
   pub setup : SetupValue
   pub is : IsSetup source q setup
-  pub places : List ℕ
-  pub claims : AllZip (IsClaim setup.ladder.declarations setup.ladder.networks) q.claims places
+  pub claims : List Condition
+  pub are_claims : AllZip (IsClaim setup.ladder.declarations setup.ladder.networks) q.claims claims
   pub timed : IsTimed setup.ladder.declarations q.dt
   pub idle : List Bool
   pub searched : SetupValue
-  pub is_searched : IsSearched setup places idle searched
+  pub is_searched : IsSearched setup claims idle searched
   pub many : 20 < length searched.free
   pub count_is : count ≡ length searched.free
 
--- the words hold inputs of the source's ladder, the names are claims of it, and it has a timer, but no time passes
+-- the words hold inputs of the source's ladder, others are claims of it, and it has a timer, but no time passes
 pub record LacksTime (source : SourceValue) (q : QuestionValue) : Type 0 where
   pub setup : SetupValue
   pub is : IsSetup source q setup
-  pub places : List ℕ
-  pub claims : AllZip (IsClaim setup.ladder.declarations setup.ladder.networks) q.claims places
+  pub claims : List Condition
+  pub are_claims : AllZip (IsClaim setup.ladder.declarations setup.ladder.networks) q.claims claims
   pub still : q.dt ≡ 0
   pub timer : HasTimer setup.ladder.declarations
 

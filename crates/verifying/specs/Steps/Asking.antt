@@ -4,6 +4,7 @@ use Rattle.declared_names.specs.declared.declarations.Declaration.{Declaration}
 use Rattle.text_commands.specs.Sources.{SourceValue}
 use Rattle.text_commands.specs.Series.{IsFirstRefusedSetting, IsOfVariable, SeriesValue, SpellNoSettings, SpellSettings}
 use Rattle.text_commands.specs.declared.text_command_fault.TextCommandFault.TheVariants.{Text, Word, Write, Memory}
+use Rattle.verifying.specs.declared.condition.Condition.{Condition}
 use Rattle.verifying.specs.declared.setup.Setting.{Setting}
 use Rattle.verifying.specs.Questions.{QuestionValue}
 use Rattle.verifying.specs.Summaries.{IsSummary}
@@ -40,21 +41,21 @@ RefusesHolding ds marks words (Held fault) = IsHeldFaultIn ds marks words fault
 RefusesHolding ds marks words (TooManyInputs count) = ⊥
 RefusesHolding ds marks words NoTime = ⊥
 
--- the words hold inputs, and this is why the names are no claims
+-- the words hold inputs, and this is why others are no claims
 pub record RefusesClaimsOf (ds : List Declaration) (marks : List Bool) (q : QuestionValue) (fault : VerifyFault) : Type 0 where
   pub held : List Setting
   pub by : AreHeldBy ds marks q.words held
   pub refused : ClaimsRefused ds marks q.claims fault
 
--- the words hold inputs, the names are claims, and this is why names can't be given
+-- the words hold inputs, others are claims, and this is why others can't be given
 pub record RefusesGivenOf (ds : List Declaration) (marks : List Bool) (q : QuestionValue) (fault : VerifyFault) : Type 0 where
   pub held : List Setting
   pub by : AreHeldBy ds marks q.words held
-  pub claims : List ℕ
+  pub claims : List Condition
   pub claimed : ClaimsRead ds marks q.claims claims
   pub refused : GivenRefused ds marks q.given fault
 
--- the places of the claims, of what is given and of the inputs, where the marks tell what is stored
+-- the claims, what is given, and the places of the inputs, where the marks tell what is stored
 pub record IsAsked (ds : List Declaration) (marks : List Bool) (q : QuestionValue) (a : Asked) : Type 0 where
   pub by : AreHeldBy ds marks q.words a.held.items
   pub claimed : ClaimsRead ds marks q.claims a.claims.items

@@ -1,5 +1,5 @@
 -- Where a ladder stores, as a mark for each declared name.
-use Rattle.std.specs.Prelude.{◌≡◌, ◌≢◌, ℕ, ◌<◌, ◌↔◌, List, [], ◌∷◌, Bool, IsTrue, Some, false, Contains, length, slice_get, slice_index_or, take}
+use Rattle.std.specs.Prelude.{◌≡◌, ◌≢◌, ℕ, ◌<◌, ◌↔◌, List, [], ◌∷◌, Bool, IsTrue, Some, None, false, Contains, length, slice_get, slice_index_or, take}
 use Rattle.std.specs.List.{AllPairs, AllZip}
 use Rattle.std_blocks.specs.declared.value.Value.{Value}
 use Rattle.declared_names.specs.declared.declarations.Declaration.{Declaration}
@@ -9,10 +9,14 @@ use Rattle.verifying.specs.Premises.{IsNumberAt}
 use Rattle.text_commands.specs.Series.{SeriesValue}
 use Rattle.text_commands.specs.declared.text_command_fault.TextCommandFault.TheVariants.{Text, Word, Write, Memory}
 use Rattle.verifying.specs.Inputs.{IsHeld}
-use Rattle.verifying.specs.Questions.{HoldsAt, IsBoolNamed}
+use Rattle.verifying.specs.ClaimWords.{IsBoolNamed, IsComparison, Says, parts_in}
+use Rattle.verifying.specs.Conditions.{place_in}
+use Rattle.verifying.specs.Questions.{HoldsAt}
+use Rattle.verifying.specs.declared.comparison.Comparison.{Comparison}
+use Rattle.verifying.specs.declared.condition.Condition.{Condition}
 use Rattle.verifying.specs.declared.verify_fault.ClaimFault.{ClaimFault}
 use Rattle.verifying.specs.declared.verify_fault.ClaimFaultKind.{ClaimFaultKind}
-use Rattle.verifying.specs.declared.verify_fault.ClaimFaultKind.TheVariants.{NoVariable, NeverStored}
+use Rattle.verifying.specs.declared.verify_fault.ClaimFaultKind.TheVariants.{NoVariable, NoComparison, NeverStored}
 use Rattle.verifying.specs.declared.verify_fault.HeldFault.{HeldFault}
 use Rattle.verifying.specs.declared.verify_fault.HeldFaultKind.{HeldFaultKind}
 use Rattle.verifying.specs.declared.verify_fault.HeldFaultKind.TheVariants.{NotOneValue, NoInput}
@@ -51,24 +55,33 @@ pub record AreConstantsOf (ds : List Declaration) (marks : List Bool) (held : Li
   pub ascending : AllPairs ◌<◌ constants
 
 -- a claim, where the marks tell what is stored
-pub record IsClaimOf (ds : List Declaration) (marks : List Bool) (name : List ℕ) (place : ℕ) : Type 0 where
-  pub variable : IsBoolNamed ds name place
-  pub marked : IsMarked marks place
+pub record IsClaimOf (ds : List Declaration) (marks : List Bool) (word : List ℕ) (claim : Condition) : Type 0 where
+  pub said : Says ds word claim
+  pub marked : IsMarked marks (place_in claim)
 
 abbrev pub IsNoClaimOf : List Declaration → List Bool → List ℕ → ClaimFaultKind → Type 0
-IsNoClaimOf ds marks name NoVariable = (place : ℕ) → IsBoolNamed ds name place → ⊥
-IsNoClaimOf ds marks name NeverStored = (place : ℕ) × IsBoolNamed ds name place × (IsMarked marks place → ⊥)
+IsNoClaimOf ds marks word NoVariable = (parts_in word ≡ None) × ((place : ℕ) → IsBoolNamed ds word place → ⊥)
+IsNoClaimOf ds marks word NoComparison =
+    (parts_in word ≢ None) × ((place : ℕ) (comparison : Comparison) (bound : Value) → IsComparison ds word place comparison bound → ⊥)
+IsNoClaimOf ds marks word NeverStored = (claim : Condition) × Says ds word claim × (IsMarked marks (place_in claim) → ⊥)
 
-abbrev pub ClaimsRead : List Declaration → List Bool → List (List ℕ) → List ℕ → Type 0
-ClaimsRead ds marks names places = AllZip (IsClaimOf ds marks) names places
+-- why a word says nothing of a variable
+abbrev pub SaysNothing : List Declaration → List ℕ → ClaimFaultKind → Type 0
+SaysNothing ds word NoVariable = (parts_in word ≡ None) × ((place : ℕ) → IsBoolNamed ds word place → ⊥)
+SaysNothing ds word NoComparison =
+    (parts_in word ≢ None) × ((place : ℕ) (comparison : Comparison) (bound : Value) → IsComparison ds word place comparison bound → ⊥)
+SaysNothing ds word NeverStored = ⊥
 
--- the first name that is no claim
-pub record IsClaimFaultOf (ds : List Declaration) (marks : List Bool) (names : List (List ℕ)) (fault : ClaimFault) : Type 0 where
-  pub name : List ℕ
-  pub at : slice_get names fault.number ≡ Some name
-  pub places : List ℕ
-  pub before : ClaimsRead ds marks (take fault.number names) places
-  pub refused : IsNoClaimOf ds marks name fault.kind
+abbrev pub ClaimsRead : List Declaration → List Bool → List (List ℕ) → List Condition → Type 0
+ClaimsRead ds marks words claims = AllZip (IsClaimOf ds marks) words claims
+
+-- the first word that is no claim
+pub record IsClaimFaultOf (ds : List Declaration) (marks : List Bool) (words : List (List ℕ)) (fault : ClaimFault) : Type 0 where
+  pub word : List ℕ
+  pub at : slice_get words fault.number ≡ Some word
+  pub claims : List Condition
+  pub before : ClaimsRead ds marks (take fault.number words) claims
+  pub refused : IsNoClaimOf ds marks word fault.kind
 
 -- a claim is refused, or there is no memory left
 abbrev pub ClaimsRefused : List Declaration → List Bool → List (List ℕ) → VerifyFault → Type 0
