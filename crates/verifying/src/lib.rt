@@ -5,6 +5,8 @@
 mod all_inputs;
 mod asked;
 mod claims;
+mod comparison;
+mod condition;
 mod fault_from;
 mod first_scans;
 mod held;
@@ -30,15 +32,19 @@ mod verify_command;
 mod verify_fault;
 
 pub use all_inputs::whole_rows;
+pub use comparison::Comparison;
+pub use condition::Condition;
 pub use laws::never_of_whole;
 pub use premises::push_premise_line;
 pub use prepared::Prepared;
 pub use question::Question;
 pub use row::Row;
 pub use search::verify;
-pub use setup::{Setting, Setup, is_on};
+pub use setup::{Setting, Setup, satisfies};
 pub use summary::Summary;
 pub use verdict::{Found, Tally, Verdict};
-pub use verdict_lines::{push_counted, push_needed_of, push_run, push_unmet};
+pub use verdict_lines::{
+    push_counted, push_needed_of, push_run, push_told_of, push_unmet,
+};
 pub use verify_command::{prepare, verify_text};
 pub use verify_fault::{ClaimFault, ClaimFaultKind, HeldFault, HeldFaultKind, VerifyFault};

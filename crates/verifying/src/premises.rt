@@ -4,11 +4,12 @@ ghost use Rattle.std.specs.Prelude.{◌≡◌, ◌↔◌, ◌++◌, IsTrue, IfOk
 ghost use Rattle.text_lines.specs.Growing.{GrowsBy};
 ghost use Rattle.text_commands.specs.Lines.{item_text};
 ghost use Rattle.verifying.specs.Premises.{HasTimer, IsNumber, IsNumberAt, IsTimed, IsTimer, IsTimerAt, constant_premise, dt_premises, held_premise, is_number, is_timer, premise_line, premises, restart_premises};
-ghost use Rattle.verifying.specs.VerdictLines.{name_at};
+ghost use Rattle.verifying.specs.VerdictLines.{condition_text, name_at};
 ghost use Rattle.verifying.specs.Steps.Marks.{AreConstantsOf, IsConstantOf};
 
+use crate::condition::Condition;
 use crate::inputs::{is_held, is_marked};
-use crate::names::name_at;
+use crate::names::{name_at, push_condition};
 use crate::setup::{Setting, Setup};
 use crate::verify_fault::VerifyFault;
 use declared_names::{Declarations, Declared, Kind, first_value};
@@ -195,17 +196,29 @@ fn push_constants(
     Ok(())
 }
 
+fn condition_text(
+    alloc: Global,
+    declarations: &Declarations,
+    condition: &Condition,
+) -> Result<String, AllocError>
+    ensures { IfOk result (λ text. string_bytes text ≡ condition_text declarations.now condition.now) }
+{
+    let mut text = String::new(alloc);
+    push_condition(&mut text, declarations, condition)?;
+    Ok(text)
+}
+
 fn push_given(
     alloc: Global,
     made: &mut Vec<String>,
     declarations: &Declarations,
-    given: &[usize],
+    given: &[Condition],
 ) -> Result<(), AllocError>
     ensures { OnOk result (map (λ p. string_bytes p) made.new.items
-        ≡ map (λ p. string_bytes p) made.old.items ++ map (name_at declarations.now) given.now) }
+        ≡ map (λ p. string_bytes p) made.old.items ++ map (condition_text declarations.now) given.now) }
 {
-    for place in given {
-        made.push(String::from_str(alloc, name_at(declarations, *place))?)?;
+    for condition in given {
+        made.push(condition_text(alloc, declarations, condition)?)?;
     }
     Ok(())
 }

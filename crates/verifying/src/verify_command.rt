@@ -10,6 +10,7 @@ ghost use Rattle.text_commands.specs.Steps.Refusing.{RefusesLadder, RefusesLadde
 ghost use Rattle.verifying.specs.Questions.{question_of};
 ghost use Rattle.verifying.specs.VerifyText.{ExplainsAnswer, WritesAnswer, restarts_of};
 ghost use Rattle.verifying.specs.Steps.Keeping.{places_kept};
+ghost use Rattle.verifying.specs.declared.condition.Condition.{Condition};
 ghost use Rattle.verifying.specs.Needed.{IsSearched};
 ghost use Rattle.verifying.specs.Runs.{HasInputs, HasRun};
 ghost use Rattle.verifying.specs.Preparing.{IsPrepared, RefusesPreparing, searched_of};
@@ -260,7 +261,7 @@ fn asked_restarts(
     }
 }
 
-/// The places of the claims, of what is given, and of the inputs.
+/// The claims, what is given, and the places of the inputs.
 fn read_question(
     alloc: Global,
     declarations: &Declarations,
@@ -379,7 +380,7 @@ pub fn prepare(
 
 /// What is told beside verdicts.
 fn tally_of(alloc: Global, prepared: &Prepared, found: &Found) -> Result<Tally, AllocError>
-    requires searched { (claims : List ℕ) × IsSearched prepared.now.whole claims prepared.now.idle.items (searched_of prepared.now.slice prepared.now.whole) }
+    requires searched { (claims : List Condition) × IsSearched prepared.now.whole claims prepared.now.idle.items (searched_of prepared.now.slice prepared.now.whole) }
     requires few { length (searched_of prepared.now.slice prepared.now.whole).free ≤ 20 }
     ensures met { IfOk result (λ tally. IsTrue tally.met ↔ HasRun prepared.now.whole) }
     ensures rest { IfOk result (λ tally. tally ≡ record {

@@ -1,0 +1,62 @@
+ghost use Rattle.std.specs.Prelude.{◌≡◌, OnOk};
+ghost use Rattle.text_lines.specs.Growing.{GrowsBy};
+ghost use Rattle.verifying.specs.Conditions.{at_most, compares, sign_text};
+
+use std::alloc::AllocError;
+use std_blocks::Value;
+
+/// How a number compares with another one.
+#[derive(Clone, Copy, Debug, PartialEq, Eq)]
+pub enum Comparison {
+    Less,
+    LessOrEqual,
+    Equal,
+    GreaterOrEqual,
+    Greater,
+    NotEqual,
+}
+
+/// Whether a number is at most another one of its kind.
+fn is_at_most(value: Value, other: Value) -> bool
+    ensures { result ≡ at_most value other }
+{
+    match (value, other) {
+        (Value::Int(value), Value::Int(other)) => value <= other,
+        (Value::Time(value), Value::Time(other)) => value <= other,
+        _ => false,
+    }
+}
+
+fn are_equal(value: Value, other: Value) -> bool
+    ensures { result ≡ compares Comparison.Equal value other }
+{
+    is_at_most(value, other) && is_at_most(other, value)
+}
+
+/// Whether a number compares so with a bound of its kind.
+pub(crate) fn compares(comparison: Comparison, value: Value, bound: Value) -> bool
+    ensures { result ≡ compares comparison value bound }
+{
+    match comparison {
+        Comparison::Less => !is_at_most(bound, value),
+        Comparison::LessOrEqual => is_at_most(value, bound),
+        Comparison::Equal => are_equal(value, bound),
+        Comparison::GreaterOrEqual => is_at_most(bound, value),
+        Comparison::Greater => !is_at_most(value, bound),
+        Comparison::NotEqual => !are_equal(value, bound),
+    }
+}
+
+/// Writes the sign of a comparison.
+pub(crate) fn push_sign(text: &mut String, comparison: Comparison) -> Result<(), AllocError>
+    ensures { OnOk result (GrowsBy text.old text.new (sign_text comparison)) }
+{
+    text.push_str(match comparison {
+        Comparison::Less => "<",
+        Comparison::LessOrEqual => "<=",
+        Comparison::Equal => "=",
+        Comparison::GreaterOrEqual => ">=",
+        Comparison::Greater => ">",
+        Comparison::NotEqual => "<>",
+    })
+}
