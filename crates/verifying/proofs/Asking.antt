@@ -29,6 +29,10 @@ use Rattle.needed_networks.specs.Counts.{AreLimits}
 use Rattle.needed_networks.specs.Needs.{IsIdle}
 use Rattle.needed_networks.specs.Slices.{kept_networks}
 use Rattle.needed_networks.specs.declared.slice.Slice.{Slice}
+use Rattle.verifying.specs.declared.condition.Condition.{Condition}
+use Rattle.verifying.specs.declared.condition.Condition.TheVariants.{On, Compared}
+use Rattle.verifying.specs.ClaimWords.{Says}
+use Rattle.verifying.specs.Conditions.{place_in}
 use Rattle.verifying.specs.declared.asked.Asked.{Asked}
 use Rattle.verifying.specs.declared.needed.Sliced.{Sliced}
 use Rattle.verifying.specs.declared.verify_command.Marked.{Marked}
@@ -51,7 +55,7 @@ use Rattle.verifying.specs.Steps.Asking.{AreHeldBy, IsAsked, RefusesAnswering, R
 use Rattle.verifying.specs.Steps.Wholes.{AreWholeVerdicts, IsMadeOf, IsMarkedLadder, IsSliced, IsSliceOrAll, IsWholeVerdict, needed_count}
 use Rattle.verifying.specs.Steps.Marks.{AreConstantsOf, AreMarksOf, AreUnmarked, ClaimsRead, ClaimsRefused, GivenRefused, HeldRead, HeldRefused, HoldsOf, HoldsNoneOf, IsClaimOf, IsNoClaimOf}
 use Rattle.verifying.specs.declared.verify_fault.ClaimFaultKind.{ClaimFaultKind}
-use Rattle.verifying.specs.declared.verify_fault.ClaimFaultKind.TheVariants.{NoVariable, NeverStored}
+use Rattle.verifying.specs.declared.verify_fault.ClaimFaultKind.TheVariants.{NoVariable, NoComparison, NeverStored}
 use Rattle.verifying.specs.declared.verify_fault.HeldFaultKind.{HeldFaultKind}
 use Rattle.verifying.specs.declared.verify_fault.HeldFaultKind.TheVariants.{NotOneValue, NoInput}
 use Rattle.verifying.specs.declared.verify_fault.VerifyFault.{VerifyFault}
@@ -78,20 +82,27 @@ can_hold ds row s (k, variable, all) holds =
 within_of : (ds : List Declaration) (place : ℕ) → IsBoolAt ds place → place < length ds
 within_of ds place (e, at, bool) = slice_get_within ds place e at
 
+-- the variable of what a word says is declared
+claim_within : (ds : List Declaration) (word : List ℕ) (claim : Condition) → Says ds word claim → place_in claim < length ds
+claim_within ds word (On place) said = within_of ds place said.1.bool
+claim_within ds word (Compared place comparison bound) said = let (e, at, variable) = said.named.1 in slice_get_within ds place e at
+
 -- a claim by the marks is one
-claim_of : (ds : List Declaration) (networks : List Diagram) (marks : List Bool) (name : List ℕ) (place : ℕ) → AreLadderMarks ds networks marks → IsClaimOf ds marks name place → IsClaim ds networks name place
-claim_of ds networks marks name place are is = record { variable = is.variable; stored = (are.each place (within_of ds place is.variable.bool)).0 is.marked }
+claim_of : (ds : List Declaration) (networks : List Diagram) (marks : List Bool) (word : List ℕ) (claim : Condition) → AreLadderMarks ds networks marks → IsClaimOf ds marks word claim → IsClaim ds networks word claim
+claim_of ds networks marks word claim are is = record { said = is.said; stored = (are.each (place_in claim) (claim_within ds word claim is.said)).0 is.marked }
 
-claims_of : (ds : List Declaration) (networks : List Diagram) (marks : List Bool) (names : List (List ℕ)) (places : List ℕ) → AreLadderMarks ds networks marks → ClaimsRead ds marks names places
-    → AllZip (IsClaim ds networks) names places
+claims_of : (ds : List Declaration) (networks : List Diagram) (marks : List Bool) (words : List (List ℕ)) (claims : List Condition) → AreLadderMarks ds networks marks → ClaimsRead ds marks words claims
+    → AllZip (IsClaim ds networks) words claims
 claims_of ds networks marks [] [] are read = tt
-claims_of ds networks marks [] (p ∷ places) are read = absurd read
-claims_of ds networks marks (n ∷ names) [] are read = absurd read
-claims_of ds networks marks (n ∷ names) (p ∷ places) are read = (claim_of ds networks marks n p are read.0, claims_of ds networks marks names places are read.1)
+claims_of ds networks marks [] (c ∷ claims) are read = absurd read
+claims_of ds networks marks (w ∷ words) [] are read = absurd read
+claims_of ds networks marks (w ∷ words) (c ∷ claims) are read = (claim_of ds networks marks w c are read.0, claims_of ds networks marks words claims are read.1)
 
-no_claim_of : (ds : List Declaration) (networks : List Diagram) (marks : List Bool) (name : List ℕ) (kind : ClaimFaultKind) → AreLadderMarks ds networks marks → IsNoClaimOf ds marks name kind → IsNoClaim ds networks name kind
-no_claim_of ds networks marks name NoVariable are is = is
-no_claim_of ds networks marks name NeverStored are (place, named, unmarked) = (place, named, λ stored. unmarked ((are.each place (within_of ds place named.bool)).1 stored))
+no_claim_of : (ds : List Declaration) (networks : List Diagram) (marks : List Bool) (word : List ℕ) (kind : ClaimFaultKind) → AreLadderMarks ds networks marks → IsNoClaimOf ds marks word kind → IsNoClaim ds networks word kind
+no_claim_of ds networks marks word NoVariable are is = is
+no_claim_of ds networks marks word NoComparison are is = is
+no_claim_of ds networks marks word NeverStored are (claim, said, unmarked) =
+    (claim, said, λ stored. unmarked ((are.each (place_in claim) (claim_within ds word claim said)).1 stored))
 
 -- a row that holds an input by the marks holds one
 holds_of : (ds : List Declaration) (networks : List Diagram) (marks : List Bool) (word : List ℕ) (row : SeriesValue) (s : Setting) → AreLadderMarks ds networks marks → IsSetting ds word row → HoldsOf marks row s → HoldsInput ds networks row s
@@ -169,22 +180,22 @@ claims_refused source q ds networks marks held (Claim fault) ladder are by refus
   held = held;
   holds = held_of ds networks marks q.words by.rows held are by.read.each by.each;
   first = record {
-    name = refused.name;
+    word = refused.word;
     at = refused.at;
-    places = refused.places;
-    before = claims_of ds networks marks (take fault.number q.claims) refused.places are refused.before;
-    refused = no_claim_of ds networks marks refused.name fault.kind are refused.refused;
+    claims = refused.claims;
+    before = claims_of ds networks marks (take fault.number q.claims) refused.claims are refused.before;
+    refused = no_claim_of ds networks marks refused.word fault.kind are refused.refused;
   };
 }
 
-given_refused : (source : SourceValue) (q : QuestionValue) (ds : List Declaration) (networks : List Diagram) (marks : List Bool) (held : List Setting) (places : List ℕ) (fault : VerifyFault) → IsLadderFrom source ds networks
-    → AreLadderMarks ds networks marks → AreHeldBy ds marks q.words held → ClaimsRead ds marks q.claims places → GivenRefused ds marks q.given fault → RefusesPreparing source q fault
-given_refused source q ds networks marks held places (Command fault) ladder are by claimed memory = subst (RefusesPreparing source q) (sym memory) tt
-given_refused source q ds networks marks held places (Claim fault) ladder are by claimed memory = subst (RefusesPreparing source q) (sym memory) tt
-given_refused source q ds networks marks held places (Held fault) ladder are by claimed memory = subst (RefusesPreparing source q) (sym memory) tt
-given_refused source q ds networks marks held places (TooManyInputs count) ladder are by claimed memory = subst (RefusesPreparing source q) (sym memory) tt
-given_refused source q ds networks marks held places NoTime ladder are by claimed memory = subst (RefusesPreparing source q) (sym memory) tt
-given_refused source q ds networks marks held places (Given fault) ladder are by claimed refused = record {
+given_refused : (source : SourceValue) (q : QuestionValue) (ds : List Declaration) (networks : List Diagram) (marks : List Bool) (held : List Setting) (claims : List Condition) (fault : VerifyFault) → IsLadderFrom source ds networks
+    → AreLadderMarks ds networks marks → AreHeldBy ds marks q.words held → ClaimsRead ds marks q.claims claims → GivenRefused ds marks q.given fault → RefusesPreparing source q fault
+given_refused source q ds networks marks held claims (Command fault) ladder are by claimed memory = subst (RefusesPreparing source q) (sym memory) tt
+given_refused source q ds networks marks held claims (Claim fault) ladder are by claimed memory = subst (RefusesPreparing source q) (sym memory) tt
+given_refused source q ds networks marks held claims (Held fault) ladder are by claimed memory = subst (RefusesPreparing source q) (sym memory) tt
+given_refused source q ds networks marks held claims (TooManyInputs count) ladder are by claimed memory = subst (RefusesPreparing source q) (sym memory) tt
+given_refused source q ds networks marks held claims NoTime ladder are by claimed memory = subst (RefusesPreparing source q) (sym memory) tt
+given_refused source q ds networks marks held claims (Given fault) ladder are by claimed refused = record {
   declarations = ds;
   networks = networks;
   ladder = ladder;
@@ -192,14 +203,14 @@ given_refused source q ds networks marks held places (Given fault) ladder are by
   read = by.read;
   held = held;
   holds = held_of ds networks marks q.words by.rows held are by.read.each by.each;
-  places = places;
-  claims = claims_of ds networks marks q.claims places are claimed;
+  claims = claims;
+  are_claims = claims_of ds networks marks q.claims claims are claimed;
   first = record {
-    name = refused.name;
+    word = refused.word;
     at = refused.at;
-    places = refused.places;
-    before = claims_of ds networks marks (take fault.number q.given) refused.places are refused.before;
-    refused = no_claim_of ds networks marks refused.name fault.kind are refused.refused;
+    claims = refused.claims;
+    before = claims_of ds networks marks (take fault.number q.given) refused.claims are refused.before;
+    refused = no_claim_of ds networks marks refused.word fault.kind are refused.refused;
   };
 }
 
@@ -312,12 +323,12 @@ asked_setup source q l marks retained a restarts limits ladder kept are_restarts
 nothing_idle : (place : ℕ) → IsIdle [] place → ⊥
 nothing_idle place on = cc
 
-all_needed : (ds : List Declaration) (networks : List Diagram) (claims given : List ℕ) → AreIdle ds networks claims given []
+all_needed : (ds : List Declaration) (networks : List Diagram) (claims given : List Condition) → AreIdle ds networks claims given []
 all_needed ds networks claims given = record {
   omitted = [];
   closed = λ k d at e place in' touched on. nothing_idle place on;
-  claims = λ k d lt on. nothing_idle (get_or claims k d) on;
-  given = λ k d lt on. nothing_idle (get_or given k d) on;
+  claims = λ k d lt on. nothing_idle (place_in (get_or claims k d)) on;
+  given = λ k d lt on. nothing_idle (place_in (get_or given k d)) on;
 }
 
 kept_all : (networks : List Diagram) → kept_networks [] networks ≡ networks
@@ -378,7 +389,7 @@ pub asked_prepared : (source : SourceValue) (q : QuestionValue) (m : Marked) (a 
     (needed_count s.slice m.networks) m.networks
 asked_prepared source q m a restarts limits s made needed constants ladder kept are_restarts marked asked sliced same limited slice timed found = record {
   is = asked_setup source q m.ladder m.marks.items m.retained.items a restarts limits ladder kept are_restarts marked.marks asked;
-  claims = claims_of m.ladder.declarations m.ladder.networks m.marks.items q.claims a.claims.items marked.marks asked.claimed;
+  are_claims = claims_of m.ladder.declarations m.ladder.networks m.marks.items q.claims a.claims.items marked.marks asked.claimed;
   searched = searched_by m.ladder q.dt a restarts limits s.idle.items s.slice made needed sliced same limited slice;
   timed = timed;
   are_constants = constants_of m.ladder.declarations m.ladder.networks m.marks.items a.held.items constants marked.marks found;
@@ -395,20 +406,20 @@ time_refused source q m a fault ladder kept marked asked (none, still, timer) =
     subst (RefusesPreparing source q) (sym none) (record {
       setup = setup_of m.ladder q.dt a restarts [];
       is = asked_setup source q m.ladder m.marks.items m.retained.items a restarts [] ladder kept refl marked.marks asked;
-      places = a.claims.items;
-      claims = claims_of m.ladder.declarations m.ladder.networks m.marks.items q.claims a.claims.items marked.marks asked.claimed;
+      claims = a.claims.items;
+      are_claims = claims_of m.ladder.declarations m.ladder.networks m.marks.items q.claims a.claims.items marked.marks asked.claimed;
       still = still;
       timer = timer;
     })
 
 -- too many free inputs matter
-pub many_refused : (source : SourceValue) (q : QuestionValue) (u v : SetupValue) (idle : List Bool) (places constants : List ℕ) (needed networks : ℕ) (fault : VerifyFault)
-    → IsPrepared source q u idle v places constants needed networks → (fault ≡ TooManyInputs (length v.free)) × (20 < length v.free) → RefusesAnswering source q fault
-many_refused source q u v idle places constants needed networks fault p (is, many) = subst (RefusesAnswering source q) (sym is) (record {
+pub many_refused : (source : SourceValue) (q : QuestionValue) (u v : SetupValue) (idle : List Bool) (claims : List Condition) (constants : List ℕ) (needed networks : ℕ) (fault : VerifyFault)
+    → IsPrepared source q u idle v claims constants needed networks → (fault ≡ TooManyInputs (length v.free)) × (20 < length v.free) → RefusesAnswering source q fault
+many_refused source q u v idle claims constants needed networks fault p (is, many) = subst (RefusesAnswering source q) (sym is) (record {
   setup = u;
   is = p.is;
-  places = places;
-  claims = p.claims;
+  claims = claims;
+  are_claims = p.are_claims;
   timed = p.timed;
   idle = idle;
   searched = v;
@@ -433,30 +444,30 @@ leads_whole v (r ∷ rows) s t (between, step, rest) zero row at = subst (λ (x 
 leads_whole v (r ∷ rows) s t (between, step, rest) (suc k) row at = leads_whole v rows between t rest k row at
 
 -- so has each of the whole
-fits_of : (u v : SetupValue) (claims : List ℕ) (idle : List Bool) (most scans place : ℕ) (found told : Verdict) → IsSearched u claims idle v → IsVerdict v most scans place found → IsWholeVerdict idle u.free found told → FitsSetup u told
-fits_of u v claims idle most scans place found Holds i verdict is = tt
-fits_of u v claims idle most scans place found (Undecided depth) i verdict is = tt
-fits_of u v claims idle most scans place Holds (Fails whole) i verdict is = absurd cc
-fits_of u v claims idle most scans place (Undecided depth) (Fails whole) i verdict is = absurd cc
-fits_of u v claims idle most scans place (Fails rows) (Fails whole) i verdict is =
+fits_of : (u v : SetupValue) (claims : List Condition) (idle : List Bool) (most scans : ℕ) (claim : Condition) (found told : Verdict) → IsSearched u claims idle v → IsVerdict v most scans claim found → IsWholeVerdict idle u.free found told → FitsSetup u told
+fits_of u v claims idle most scans claim found Holds i verdict is = tt
+fits_of u v claims idle most scans claim found (Undecided depth) i verdict is = tt
+fits_of u v claims idle most scans claim Holds (Fails whole) i verdict is = absurd cc
+fits_of u v claims idle most scans claim (Undecided depth) (Fails whole) i verdict is = absurd cc
+fits_of u v claims idle most scans claim (Fails rows) (Fails whole) i verdict is =
     subst (AreWholeRows u) (sym is) (All-map (λ (row : List Bool). length row ≡ width u) (whole_row idle u.free) rows.items
-    (λ k d lt. whole_long u v claims idle (get_or rows.items k d) i (leads_whole v rows.items (first v) verdict.last verdict.run k (get_or rows.items k d) (slice_get-get_or rows.items k d lt))))
+    (λ k d lt. whole_long u v claims idle (get_or rows.items k d) i (leads_whole v rows.items (first v) verdict.last verdict.run.run k (get_or rows.items k d) (slice_get-get_or rows.items k d lt))))
 
-pub verdicts_fit : (u v : SetupValue) (claims places : List ℕ) (idle : List Bool) (most scans : ℕ) (found told : List Verdict) → IsSearched u claims idle v → AreVerdicts v most scans places found
+pub verdicts_fit : (u v : SetupValue) (claims claimed : List Condition) (idle : List Bool) (most scans : ℕ) (found told : List Verdict) → IsSearched u claims idle v → AreVerdicts v most scans claimed found
     → AreWholeVerdicts idle u.free found told → All (FitsSetup u) told
-verdicts_fit u v claims places idle most scans found told i are whole = all_from_places (FitsSetup u) told (λ k verdict at.
+verdicts_fit u v claims claimed idle most scans found told i are whole = all_from_places (FitsSetup u) told (λ k verdict at.
     let old = zip_back (IsWholeVerdict idle u.free) found told whole k verdict at in
-    let within : k < length places = let w = slice_get_within found k old.0 old.1 in let long = are.long in omega arith in
-    let place = element_at places k within in
-    fits_of u v claims idle most scans place.0 old.0 verdict i (are.each k place.0 old.0 place.1 old.1) old.2)
+    let within : k < length claimed = let w = slice_get_within found k old.0 old.1 in let long = are.long in omega arith in
+    let claim = element_at claimed k within in
+    fits_of u v claims idle most scans claim.0 old.0 verdict i (are.each k claim.0 old.0 claim.1 old.1) old.2)
 
 -- a verdict for each name
-pub names_long : (u v : SetupValue) (most scans : ℕ) (names : List (Bor (List ℕ))) (places : List ℕ) (idle : List Bool) (found told : List Verdict)
-    → AllZip (IsClaim u.ladder.declarations u.ladder.networks) (texts names) places
-    → AreVerdicts v most scans places found → AreWholeVerdicts idle u.free found told → length told ≡ length names
-names_long u v most scans names places idle found told claims are whole =
+pub names_long : (u v : SetupValue) (most scans : ℕ) (names : List (Bor (List ℕ))) (claims : List Condition) (idle : List Bool) (found told : List Verdict)
+    → AllZip (IsClaim u.ladder.declarations u.ladder.networks) (texts names) claims
+    → AreVerdicts v most scans claims found → AreWholeVerdicts idle u.free found told → length told ≡ length names
+names_long u v most scans names claims idle found told are_claims are whole =
     sym (zip_length (IsWholeVerdict idle u.free) found told whole) ∙ are.long
-    ∙ sym (zip_length (IsClaim u.ladder.declarations u.ladder.networks) (texts names) places claims) ∙ length-map names (λ w. w.now)
+    ∙ sym (zip_length (IsClaim u.ladder.declarations u.ladder.networks) (texts names) claims are_claims) ∙ length-map names (λ w. w.now)
 
 -- before anything is written
 pub answering_explained : (source : SourceValue) (q : QuestionValue) (old : Option (List ℕ)) (fault : VerifyFault) → RefusesAnswering source q fault → ExplainsAnswer source q old old fault
