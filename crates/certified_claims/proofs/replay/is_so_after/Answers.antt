@@ -2,8 +2,8 @@ use Rattle.std.proofs.Common.{List, Bool, sym, subst}
 use Rattle.std.proofs.lemmas.List.{take_all}
 use Rattle.verifying.specs.Runs.{ScansWith, first}
 use Rattle.verifying.specs.Steps.Search.{moment_of}
-use Rattle.certified_claims.proofs.Leading.{leads_next}
-use Rattle.certified_claims.proofs.replay.sets.Goals as goal
+use Rattle.certified_claims.proofs.Leading.{leads_next, some_rows}
+use Rattle.certified_claims.proofs.replay.is_so_after.Goals as goal
 
 pub loop-row-init : goal.loop-row-init
 loop-row-init c = record { fits = c.in_ok-state.ensures.fits; run = sym c.in_ok-state.ensures.first }
@@ -22,6 +22,9 @@ loop-row-preserved c =
 pub returns : goal.returns
 returns c = λ yes. record {
   last = moment_of c.loop-row.state;
-  run = rw (take_all c.loop-row.row-index c.args.rows.now c.loop-row-test.false) at c.loop-row.invariant.run;
-  on = c.is_on.ensures.0 yes;
+  run = record {
+    some = some_rows c.args.rows.now _ c.is_empty.ensures c.if-is_empty.false;
+    run = rw (take_all c.loop-row.row-index c.args.rows.now c.loop-row-test.false) at c.loop-row.invariant.run;
+  };
+  on = c.satisfies.ensures.0 yes;
 }
