@@ -6,7 +6,8 @@ ghost use Rattle.gates.specs.Gates.{IsBuilt};
 ghost use Rattle.gates.specs.Signals.{signal_value};
 ghost use Rattle.scan_gates.specs.Encoded.{slots_at, value_at};
 ghost use Rattle.scan_steps.specs.Slots.{variable_at};
-ghost use Rattle.verifying.specs.Conditions.{IsCompared, IsSo, at_most, compares};
+ghost use Rattle.text_commands.specs.Numbers.{at_most};
+ghost use Rattle.verifying.specs.Conditions.{IsCompared, IsSo, compares};
 
 use crate::restarting::variable_in;
 use crate::variables::constant_value;

@@ -49,7 +49,7 @@ pub use eval_command::{eval, read_ladder};
 pub use form::Form;
 pub use ladder_source::LadderSource;
 pub use line::state_line;
-pub use numbers::number_in;
+pub use numbers::{is_at_most, number_in};
 pub use plan_command::{plan_of, plan_text};
 pub use plan_form::PlanForm;
 pub use plan_lines::interval_of;

@@ -1,5 +1,5 @@
 ghost use Rattle.std.specs.Prelude.{◌≡◌};
-ghost use Rattle.text_commands.specs.Numbers.{number_in};
+ghost use Rattle.text_commands.specs.Numbers.{at_most, number_in};
 
 use crate::once::{LONGEST, int_of};
 use declared_names::Kind;
@@ -20,5 +20,16 @@ pub fn number_in(kind: Kind, text: &str) -> Option<Value>
             Some(milliseconds) => Some(Value::Time(milliseconds as u32)),
             None => None,
         },
+    }
+}
+
+/// Whether a number is at most another one of its kind.
+pub fn is_at_most(value: Value, other: Value) -> bool
+    ensures { result ≡ at_most value other }
+{
+    match (value, other) {
+        (Value::Int(value), Value::Int(other)) => value <= other,
+        (Value::Time(value), Value::Time(other)) => value <= other,
+        _ => false,
     }
 }

@@ -1,26 +1,15 @@
 -- What is claimed of the variables after a scan, or given of them: that a BOOL is TRUE, or how an INT or TIME compares.
-use Rattle.std.specs.Prelude.{◌≡◌, ℕ, ◌&&◌, List, Bool, true, false, IsTrue, Some, codes, not, int_le, nat_le}
+use Rattle.std.specs.Prelude.{◌≡◌, ℕ, ◌&&◌, List, Bool, true, IsTrue, Some, codes, not}
 use Rattle.std_blocks.specs.declared.value.Value.{Value}
-use Rattle.std_blocks.specs.declared.value.Value.TheVariants.{Bool as BoolValue, Int as IntValue, Time as TimeValue}
+use Rattle.std_blocks.specs.declared.value.Value.TheVariants.{Bool as BoolValue}
 use Rattle.scan_steps.specs.declared.slot.Slot.{Slot}
 use Rattle.scan_steps.specs.Slots.{variable_at}
 use Rattle.power_flow.specs.Meaning.{Moment}
+use Rattle.text_commands.specs.Numbers.{at_most}
 use Rattle.verifying.specs.declared.comparison.Comparison.{Comparison}
 use Rattle.verifying.specs.declared.comparison.Comparison.TheVariants.{Less, LessOrEqual, Equal, GreaterOrEqual, Greater, NotEqual}
 use Rattle.verifying.specs.declared.condition.Condition.{Condition}
 use Rattle.verifying.specs.declared.condition.Condition.TheVariants.{On, Compared}
-
--- a number is at most another one of its kind: an INT at most an INT, a TIME at most a TIME
-abbrev pub at_most : Value → Value → Bool
-at_most (BoolValue a) (BoolValue b) = false
-at_most (BoolValue a) (IntValue b) = false
-at_most (BoolValue a) (TimeValue b) = false
-at_most (IntValue a) (BoolValue b) = false
-at_most (IntValue a) (IntValue b) = int_le a b
-at_most (IntValue a) (TimeValue b) = false
-at_most (TimeValue a) (BoolValue b) = false
-at_most (TimeValue a) (IntValue b) = false
-at_most (TimeValue a) (TimeValue b) = nat_le a b
 
 -- how a number compares with a bound of its kind
 abbrev pub compares : Comparison → Value → Value → Bool

@@ -1,9 +1,10 @@
 ghost use Rattle.std.specs.Prelude.{◌≡◌, OnOk};
 ghost use Rattle.text_lines.specs.Growing.{GrowsBy};
-ghost use Rattle.verifying.specs.Conditions.{at_most, compares, sign_text};
+ghost use Rattle.verifying.specs.Conditions.{compares, sign_text};
 
 use std::alloc::AllocError;
 use std_blocks::Value;
+use text_commands::is_at_most;
 
 /// How a number compares with another one.
 #[derive(Clone, Copy, Debug, PartialEq, Eq)]
@@ -14,17 +15,6 @@ pub enum Comparison {
     GreaterOrEqual,
     Greater,
     NotEqual,
-}
-
-/// Whether a number is at most another one of its kind.
-fn is_at_most(value: Value, other: Value) -> bool
-    ensures { result ≡ at_most value other }
-{
-    match (value, other) {
-        (Value::Int(value), Value::Int(other)) => value <= other,
-        (Value::Time(value), Value::Time(other)) => value <= other,
-        _ => false,
-    }
 }
 
 fn are_equal(value: Value, other: Value) -> bool

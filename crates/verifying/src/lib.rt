@@ -43,8 +43,6 @@ pub use search::verify;
 pub use setup::{Setting, Setup, satisfies};
 pub use summary::Summary;
 pub use verdict::{Found, Tally, Verdict};
-pub use verdict_lines::{
-    push_counted, push_needed_of, push_run, push_told_of, push_unmet,
-};
+pub use verdict_lines::{push_counted, push_needed_of, push_run, push_told_of, push_unmet};
 pub use verify_command::{prepare, verify_text};
 pub use verify_fault::{ClaimFault, ClaimFaultKind, HeldFault, HeldFaultKind, VerifyFault};
