@@ -20,7 +20,7 @@ use Rattle.declared_names.specs.Kinds.{kind_of}
 use Rattle.name_faults.specs.BindFaults.{IsVariable}
 use Rattle.text_commands.specs.declared.word_fault.WordFault.{WordFault}
 use Rattle.text_commands.specs.declared.word_fault.WordFaultKind.{WordFaultKind}
-use Rattle.text_commands.specs.declared.word_fault.WordFaultKind.TheVariants.{NoEquals, NoVariable, BadDigits, BadNumbers, BadDurations, Twice, NoProgram}
+use Rattle.text_commands.specs.declared.word_fault.WordFaultKind.TheVariants.{NoEquals, NoVariable, BadDigits, BadNumbers, BadDurations, BadRange, Twice, NoProgram}
 use Rattle.text_commands.specs.declared.text_command_fault.TextCommandFault.{TextCommandFault}
 use Rattle.text_commands.specs.declared.text_command_fault.TextCommandFault.TheVariants.{Text, Word, Write, Memory}
 use Rattle.text_commands.specs.Rows.{name_in, digits_in, texts}
@@ -35,6 +35,7 @@ refused_behind_any ds before name text NoVariable refused = refused
 refused_behind_any ds before name text BadDigits refused = refused
 refused_behind_any ds before name text BadNumbers refused = refused
 refused_behind_any ds before name text BadDurations refused = refused
+refused_behind_any ds before name text BadRange refused = refused
 refused_behind_any ds before name text Twice (series, is, (j, other, within, at, same)) = absurd (omega arith)
 refused_behind_any ds before name text NoProgram refused = refused
 
