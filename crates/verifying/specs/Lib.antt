@@ -1,4 +1,5 @@
 pub mod Conditions
+pub mod FreeInputs
 pub mod Runs
 pub mod Meeting
 pub mod Verdicts

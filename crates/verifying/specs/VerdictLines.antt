@@ -1,5 +1,5 @@
 -- How verdicts are written.
-use Rattle.std.specs.Prelude.{◌≡◌, ℕ, ◌==◌, ◌++◌, if◌then◌else◌, List, [], ◌∷◌, Bool, codes, length, map, slice_get, slice_index_or, false, nat_lt, ◌||◌, ◌&&◌, not}
+use Rattle.std.specs.Prelude.{◌≡◌, ℕ, ◌==◌, ◌++◌, if◌then◌else◌, List, [], ◌∷◌, Bool, codes, drop, length, map, slice_get, slice_index_or, take, false, nat_lt, ◌||◌, ◌&&◌, not}
 use Rattle.std.specs.Fmt.{decimal}
 use Rattle.std.specs.List.{enumerate_from, flat_map, join_by}
 use Rattle.std.specs.Option.{option_map_or}
@@ -13,6 +13,10 @@ use Rattle.verifying.specs.ClaimWords.{truth_text}
 use Rattle.verifying.specs.Conditions.{sign_text}
 use Rattle.verifying.specs.declared.condition.Condition.{Condition}
 use Rattle.verifying.specs.declared.condition.Condition.TheVariants.{On, Compared}
+use Rattle.verifying.specs.declared.free_input.Choice.{Choice}
+use Rattle.verifying.specs.declared.free_input.Choice.TheVariants.{Bit, Ints, Times}
+use Rattle.verifying.specs.declared.free_input.FreeInput.{FreeInput}
+use Rattle.verifying.specs.FreeInputs.{choice_digits, choice_value, free_digits, number_of}
 use Rattle.verifying.specs.declared.setup.Setting.{Setting}
 use Rattle.verifying.specs.declared.verdict.Tally.{Tally}
 use Rattle.verifying.specs.declared.verdict.Verdict.{Verdict}
@@ -79,9 +83,16 @@ digit_of on = if on then 49 else 48
 abbrev pub input_word : List ℕ → List ℕ → List ℕ
 input_word name values = codes " " ++ name ++ codes "=" ++ values
 
--- the digits of a free input, by its number: its value in each row
-abbrev pub digits_of_free : List (List Bool) → ℕ → List ℕ
-digits_of_free rows input = map (λ (row : List Bool). digit_of (slice_index_or row input false)) rows
+-- the value of a free number in each row, with commas between
+abbrev pub numbers_of_free : Choice → List (List Bool) → List ℕ
+numbers_of_free choice rows =
+    join_by (λ (row : List Bool). value_text (choice_value choice (number_of (take (choice_digits choice) row)))) (codes ",") rows
+
+-- the values of a free input, whose digits each row begins with: a digit for each row, or numbers with commas between
+abbrev pub values_of_free : Choice → List (List Bool) → List ℕ
+values_of_free Bit rows = map (λ (row : List Bool). digit_of (slice_index_or row 0 false)) rows
+values_of_free (Ints least greatest) rows = numbers_of_free (Ints least greatest) rows
+values_of_free (Times least greatest) rows = numbers_of_free (Times least greatest) rows
 
 -- the digits of a BOOL that is held: its value for each row
 abbrev pub digits_of_held : List (List Bool) → Bool → List ℕ
@@ -97,9 +108,10 @@ values_of_held rows (BoolValue on) = digits_of_held rows on
 values_of_held rows (IntValue n) = value_text (IntValue n) ++ times_text (length rows)
 values_of_held rows (TimeValue t) = value_text (TimeValue t) ++ times_text (length rows)
 
-abbrev pub free_words : List Declaration → List ℕ → List (List Bool) → List ℕ
-free_words ds free rows =
-    flat_map (λ (e : ℕ × ℕ). input_word (name_at ds e.1) (digits_of_free rows e.0)) (enumerate_from 0 free)
+abbrev pub free_words : List Declaration → List FreeInput → List (List Bool) → List ℕ
+free_words ds [] rows = []
+free_words ds (f ∷ free) rows = input_word (name_at ds f.place) (values_of_free f.choice rows)
+    ++ free_words ds free (map (drop (choice_digits f.choice)) rows)
 
 abbrev pub held_words : List Declaration → List Setting → List (List Bool) → List ℕ
 held_words ds held rows =
@@ -122,7 +134,7 @@ restart_words (scan ∷ scans) = codes " --restart " ++ join_by decimal (codes "
 -- the words that have `plc eval` make a run
 abbrev pub eval_line : SetupValue → List ℕ → List (List Bool) → List ℕ
 eval_line u file rows =
-    codes "plc eval " ++ file ++ dt_words u.dt ++ restart_words (restart_scans (length u.free) rows)
+    codes "plc eval " ++ file ++ dt_words u.dt ++ restart_words (restart_scans (free_digits u.free) rows)
     ++ free_words u.ladder.declarations u.free rows ++ held_words u.ladder.declarations u.held rows ++ codes "\n"
 
 -- what `plc eval` can make: a run of 1,000 scans at most, and of one where there is no input
