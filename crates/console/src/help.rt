@@ -75,8 +75,8 @@ the drawing runs. The inputs are the BOOL variables that no coil and no output p
 unless a word NAME=BIT holds it at 0 or 1. An INT or TIME that nothing stores is 0, or held by a word NAME=VALUE, or free from
 one number to another, in each scan, by a word NAME=0..7 or NAME=T#0ms..T#50ms. A claim is a rung: draw a coil that turns ON
 where what must not happen has happened. Of an INT or TIME that something stores a claim is also how it never compares with a
-number: --never "N>5", "D<=T#1s", with < <= = >= > or <>. --given NAME leaves out all runs in which a scan leaves NAME FALSE:
-what is known of the inputs is a rung, too; --given "N<=5" likewise.
+number: --never 'N>5', 'D<=T#1s', with < <= = >= > or <>. --given NAME leaves out all runs in which a scan leaves NAME FALSE:
+what is known of the inputs is a rung, too; --given 'N<=5' likewise.
 Looked at are the networks that store what claims and givens read, those that store what these read, and so on; of the inputs
 that they read at most 20 may be free, with --by induction any number; a range of 8 values counts as 3. Each scan comes --dt MS after the one before; a drawing
 with a timer (TON, TOF, TP) needs it, above 0. With --restarts it may restart before any scan, as plc eval --restart has it.
