@@ -27,6 +27,11 @@ HELD = {"INT": ["1", "2", "2", "3", "07", "-1", "2*1", "3,3"], "TIME": ["T#10ms"
 SIGNS = ["<", "<=", "=", ">=", ">", "<>"]
 BOUNDS = {"INT": ["0", "1", "2", "3", "3", "4", "-1", "007", "1_0", "32767", "-32768"], "TIME": ["T#0ms", "T#10ms", "t#20MS", "TIME#30ms", "T#1s_500ms"]}
 REFUSED_BOUNDS = ["", "32768", "-32769", "+1", "A", "T#5", "T#-5ms", "T#25d", "5ms", "=1", ">1", "1 ", "1*1", "1,1"]
+# Where they are free; a few say no range.
+RANGES = {
+    "INT": ["0..1", "0..3", "1..3", "2..3", "2..2", "-1..1", "0..4", "00..0_2"] * 4 + ["3..2", "0..", "..3", "0...3", "0.3", "0..T#5ms", "0..32768"],
+    "TIME": ["T#10ms..T#11ms", "T#9ms..T#11ms", "t#0ms..T#3ms", "T#20ms..TIME#20ms", "T#0ms..T#1ms"] * 6 + ["T#2ms..T#1ms", "0..1", "T#1ms..", "T#0ms...T#1ms"],
+}
 SOME_BLOCKS = ["SR", "RS", "SR", "RS", "CTU", "CTD", "CTUD", "TON", "TOF", "TP"]
 
 
@@ -134,12 +139,12 @@ def claims(chance):
 
 
 def held_words(chance, ladder, bits):
-    """Words that hold these BOOLs, and some INTs and TIMEs; a few are refused."""
+    """Words that hold these BOOLs, and some INTs and TIMEs, or let these be free in a range; a few are refused."""
     given = [f"{cased(chance, name)}={chance.randint(0, 1)}{chance.choice([''] * 30 + ['*1'])}" for name in bits]
     stored = stored_names(ladder.drawing)
     for it in ladder.declarations:
         if it.role != "Instance" and it.kind != "BOOL" and chance.random() < (0.02 if words.fold(it.name) in stored else 0.7):
-            given.append(f"{cased(chance, it.name)}={chance.choice(HELD[it.kind])}")
+            given.append(f"{cased(chance, it.name)}={chance.choice(HELD[it.kind] if chance.random() < 0.5 else RANGES[it.kind])}")
             if chance.random() < 0.02:
                 given[-1] = refused_word(chance, it.name, it.kind)
     return chance.sample(given, len(given)) if chance.random() < 0.2 else given

@@ -314,7 +314,7 @@ class Walk:
     def row(self):
         question, found = self.asked.question, self.asked.found
         restarts = question.kept is not None and self.chance.random() < 0.2
-        return Row(restarts, {name: self.chance.random() < 0.5 for name in found.free})
+        return Row(restarts, {it.name: it.value(self.chance.randrange(2**it.digits)) for it in found.free})
 
     def scanned(self, state):
         """A state after a scan; None where what is given isn't so then."""
