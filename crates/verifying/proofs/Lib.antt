@@ -21,4 +21,4 @@ pub mod Joining
 pub mod Summing
 pub mod Asking
 pub mod Wholes
-pub mod Holding
+pub mod ToldInputs
