@@ -52,20 +52,23 @@ pub record SpellInputs (ds : List Declaration) (words : List (List ℕ)) (inputs
   pub apart : (j k : ℕ) (a b : InputWord) → slice_get inputs j ≡ Some a → slice_get inputs k ≡ Some b → told_place a ≡ told_place b → j ≡ k
 
 -- why a word with two dots says no range: no variable has the name; or it isn't spelled so
-pub data IsNoRange (ds : List Declaration) (word : List ℕ) : WordFaultKind → Type 0 where
-  no_variable : ((place : ℕ) (k : Kind) → IsNamed ds (name_in word) place k → ⊥) → IsNoRange ds word NoVariable
-  bad_range : (place : ℕ) (k : Kind) → IsNamed ds (name_in word) place k → ((range : InputRange) → IsRange ds word range → ⊥)
-      → IsNoRange ds word BadRange
+abbrev pub IsNoRange : List Declaration → List ℕ → WordFaultKind → Type 0
+IsNoRange ds word NoVariable = (place : ℕ) (k : Kind) → IsNamed ds (name_in word) place k → ⊥
+IsNoRange ds word BadRange =
+    ((place : ℕ) × (k : Kind) × IsNamed ds (name_in word) place k) × ((range : InputRange) → IsRange ds word range → ⊥)
+IsNoRange ds word fault = ⊥
 
--- why a word is refused behind others that tell of these: as one of `eval`; or as a range; or one of these is of the same
--- variable
-pub data IsRefusedInput (ds : List Declaration) (before : List InputWord) (word : List ℕ) : WordFaultKind → Type 0 where
-  no_values : (fault : WordFaultKind) → range_parts (digits_in word) ≡ None → IsRefusedSetting ds [] word fault
-      → IsRefusedInput ds before word fault
-  no_range : (fault : WordFaultKind) → range_parts (digits_in word) ≢ None → IsNoRange ds word fault
-      → IsRefusedInput ds before word fault
-  twice : (input : InputWord) → IsInputWord ds word input → Any (λ other. told_place other ≡ told_place input) before
-      → IsRefusedInput ds before word Twice
+-- one of these is of the variable of which a word tells
+abbrev pub IsTwice : List Declaration → List InputWord → List ℕ → Type 0
+IsTwice ds before word =
+    (input : InputWord) × IsInputWord ds word input × Any (λ other. told_place other ≡ told_place input) before
+
+-- why a word is refused behind others that tell of these: as one of `eval`; or as a range; or for one of these
+abbrev pub IsRefusedInput : List Declaration → List InputWord → List ℕ → WordFaultKind → Type 0
+IsRefusedInput ds before word fault =
+    ((range_parts (digits_in word) ≡ None) × IsRefusedSetting ds [] word fault)
+    ⊎ ((range_parts (digits_in word) ≢ None) × IsNoRange ds word fault)
+    ⊎ ((fault ≡ Twice) × IsTwice ds before word)
 
 -- the fault is of the first word that is refused
 pub record IsFirstRefusedInput (ds : List Declaration) (words : List (List ℕ)) (fault : WordFault) : Type 0 where

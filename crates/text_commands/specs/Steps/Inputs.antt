@@ -25,10 +25,11 @@ pub record IsRangeOf (ds : List Declaration) (name from to : List ℕ) (range : 
   pub ends : AreEnds k from to range
 
 -- why they aren't
-pub data IsNoRangeOf (ds : List Declaration) (name from to : List ℕ) : WordFaultKind → Type 0 where
-  no_variable : ((place : ℕ) (k : Kind) → IsNamed ds name place k → ⊥) → IsNoRangeOf ds name from to NoVariable
-  bad_range : (place : ℕ) (k : Kind) → IsNamed ds name place k → ((range : InputRange) → IsRangeOf ds name from to range → ⊥)
-      → IsNoRangeOf ds name from to BadRange
+abbrev pub IsNoRangeOf : List Declaration → List ℕ → List ℕ → List ℕ → WordFaultKind → Type 0
+IsNoRangeOf ds name from to NoVariable = (place : ℕ) (k : Kind) → IsNamed ds name place k → ⊥
+IsNoRangeOf ds name from to BadRange =
+    ((place : ℕ) × (k : Kind) × IsNamed ds name place k) × ((range : InputRange) → IsRangeOf ds name from to range → ⊥)
+IsNoRangeOf ds name from to fault = ⊥
 
 -- none of these is of the variable of another one
 abbrev pub IsNewInput : List InputWord → InputWord → Type 0
