@@ -1,8 +1,10 @@
 -- Words that tell of inputs, and the inputs that they hold and let be free.
-use Rattle.std.proofs.Common.{◌≡◌, ℕ, ℤ, ◌<◌, ◌++◌, List, [], ◌∷◌, Bool, true, Option, Some, None, All, length, map, refl, sym, ap, ◌∙◌, subst, arith, get_or, slice_get}
+use Rattle.std.proofs.Common.{◌≡◌, ℕ, ℤ, zero, suc, ◌+◌, ◌<◌, ◌++◌, List, [], ◌∷◌, Bool, true, Option, Some, None, All, length, map, refl, sym, ap, ◌∙◌, subst, arith, get_or, slice_get, take}
 use Rattle.std.specs.Prelude.{IsTrue}
 use Rattle.std.specs.List.{AllZip, flat_map}
 use Rattle.std.specs.Option.{option_map}
+use Rattle.std.proofs.lemmas.List.{append-nil, append_assoc, take_more}
+use Rattle.std.proofs.lemmas.List.Concat.{flat_map-append}
 use Rattle.std.proofs.lemmas.List.Elements.{All-append, All-map, All-nil}
 use Rattle.std.proofs.lemmas.Option.{none-some, same_Some, slice_get-get_or, slice_get_within}
 use Rattle.lists.proofs.Members.{all_at}
@@ -97,3 +99,18 @@ all_held ds [] [] are = All-nil (CanHold ds)
 all_held ds [] (i ∷ inputs) are = absurd are
 all_held ds (w ∷ words) [] are = All-nil (CanHold ds)
 all_held ds (w ∷ words) (i ∷ inputs) are = All-append (CanHold ds) (held_by i) (flat_map held_by inputs) (one_held ds w i are.0) (all_held ds words inputs are.1)
+
+-- what holds of one holds of all of it alone
+pub all_of_one : {A : Type 0} (P : A → Type 0) (x : A) → P x → All P (x ∷ [])
+all_of_one P x is zero d lt = is
+all_of_one P x is (suc j) d lt = absurd (omega arith)
+
+flat_push : {A B : Type 0} (f : A → List B) (xs : List A) (x : A) → flat_map f (xs ++ x ∷ []) ≡ flat_map f xs ++ f x
+flat_push f xs x = flat_map-append f xs (x ∷ []) ∙ ap (λ l. flat_map f xs ++ l) (append-nil (f x))
+
+-- what one word more adds
+pub flat_more : {A B : Type 0} (f : A → List B) (xs : List A) (a b c : List B) (i : ℕ) (d : A) → i < length xs → b ≡ a ++ flat_map f (take i xs) → c ≡ b ++ f (get_or xs i d)
+    → c ≡ a ++ flat_map f (take (i + 1) xs)
+flat_more f xs a b c i d lt one two =
+    two ∙ ap (λ l. l ++ f (get_or xs i d)) one ∙ append_assoc a (flat_map f (take i xs)) (f (get_or xs i d))
+    ∙ ap (λ l. a ++ l) (sym (flat_push f (take i xs) (get_or xs i d)) ∙ ap (flat_map f) (sym (take_more xs i d lt)))
