@@ -14,6 +14,7 @@ pub mod Counting
 mod Searching
 pub mod Marking
 pub mod Premising
+mod ClaimParts
 pub mod Reading
 pub mod Wording
 pub mod Telling
