@@ -3,6 +3,7 @@
 ghost use Rattle.std.specs.Prelude.{◌≡◌, ◌++◌, [], ◌∷◌, IfOk, OnOk, drop, length, map, take};
 ghost use Rattle.text_lines.specs.Growing.{GrowsBy};
 ghost use Rattle.text_lines.specs.LineParts.{value_text};
+ghost use Rattle.verifying.specs.declared.free_input.Choice.TheVariants.{Bit};
 ghost use Rattle.verifying.specs.FreeInputs.{choice_digits, choice_value, free_digits, number_of};
 ghost use Rattle.verifying.specs.VerdictLines.{can_be_words, digit_of, digits_of_held, dt_words, eval_line, free_words, held_words, input_word, name_at, numbers_of_free, restart_scans, restart_words, times_text, values_of_free, values_of_held};
 
@@ -32,7 +33,7 @@ fn push_name(text: &mut String, declarations: &Declarations, place: usize) -> Re
 
 /// Writes the digit at a place of each row.
 fn push_free_digits(text: &mut String, rows: &[Row], from: usize) -> Result<(), AllocError>
-    ensures { OnOk result (GrowsBy text.old text.new (values_of_free Choice.Bit (map (drop from) rows.now))) }
+    ensures { OnOk result (GrowsBy text.old text.new (values_of_free Bit (map (drop from) rows.now))) }
 {
     for row in rows {
         push_digit(text, row.value(from).unwrap_or(false))?;
