@@ -22,6 +22,7 @@ use Rattle.text_commands.specs.declared.word_fault.WordFaultKind.{WordFaultKind}
 use Rattle.text_commands.specs.declared.word_fault.WordFaultKind.TheVariants.{NoEquals, NoVariable, BadDigits, BadNumbers, BadDurations, BadRange, Twice, NoProgram}
 use Rattle.text_commands.specs.InputWords.{IsFirstRefusedInput, IsInputWord, IsNoRange, IsRange, IsRefusedInput, SpellInputs, behind_dot, is_dot, range_parts, told_place}
 use Rattle.text_commands.specs.Numbers.{number_in}
+use Rattle.text_commands.specs.Series.{IsRefusedSetting}
 use Rattle.text_commands.specs.Rows.{name_in, digits_in, texts}
 use Rattle.text_commands.specs.Steps.Inputs.{AreEnds, IsNewInput, IsNoRangeOf, IsRangeOf, RefusesInputs}
 use Rattle.text_commands.specs.Steps.Testing.{RefusesWord}
@@ -66,19 +67,19 @@ range_of_parts ds word from to range parts is =
     }
 
 no_range : (ds : List Declaration) (word from to : List ℕ) (fault : WordFaultKind) → range_parts (digits_in word) ≡ Some (from, to) → IsNoRangeOf ds (name_in word) from to fault → IsNoRange ds word fault
-no_range ds word from to NoEquals parts no = no
-no_range ds word from to NoVariable parts no = no
-no_range ds word from to BadDigits parts no = no
-no_range ds word from to BadNumbers parts no = no
-no_range ds word from to BadDurations parts no = no
-no_range ds word from to BadRange parts no = (no.0, λ range is. no.1 range (range_of_parts ds word from to range parts is))
-no_range ds word from to Twice parts no = no
-no_range ds word from to NoProgram parts no = no
+no_range ds word from to NoEquals parts isnt = isnt
+no_range ds word from to NoVariable parts isnt = isnt
+no_range ds word from to BadDigits parts isnt = isnt
+no_range ds word from to BadNumbers parts isnt = isnt
+no_range ds word from to BadDurations parts isnt = isnt
+no_range ds word from to BadRange parts isnt = (isnt.0, λ range is. isnt.1 range (range_of_parts ds word from to range parts is))
+no_range ds word from to Twice parts isnt = isnt
+no_range ds word from to NoProgram parts isnt = isnt
 
 -- a word with two dots that is no range is refused
 pub range_refused : (ds : List Declaration) (before : List InputWord) (word from to : List ℕ) (fault : WordFaultKind) → range_parts (digits_in word) ≡ Some (from, to) → IsNoRangeOf ds (name_in word) from to fault
     → IsRefusedInput ds before word fault
-range_refused ds before word from to fault parts no = inr (inl ((λ e. none-some (from, to) (sym e ∙ parts)), no_range ds word from to fault parts no))
+range_refused ds before word from to fault parts isnt = inr (inl ((λ e. none-some (from, to) (sym e ∙ parts)), no_range ds word from to fault parts isnt))
 
 -- a word without is refused for its values
 pub values_refused : (ds : List Declaration) (before : List InputWord) (word : List ℕ) (fault : WordFaultKind) → range_parts (digits_in word) ≡ None → IsRefusedSetting ds [] word fault
@@ -89,7 +90,7 @@ values_refused ds before word fault none refused = inl (none, refused)
 pub refused_behind_any : (ds : List Declaration) (before : List InputWord) (word : List ℕ) (fault : WordFaultKind) → IsRefusedInput ds [] word fault → IsRefusedInput ds before word fault
 refused_behind_any ds before word fault (inl values) = inl values
 refused_behind_any ds before word fault (inr (inl range)) = inr (inl range)
-refused_behind_any ds before word fault (inr (inr (same, input, is, (j, other, within, at, place)))) = absurd (omega arith)
+refused_behind_any ds before word fault (inr (inr (same, (input, is, (j, other, within, at, place))))) = absurd (omega arith)
 
 -- one word more tells of an input
 pub input_more : (ds : List Declaration) (words : List (Bor (List ℕ))) (n : ℕ) (d : Bor (List ℕ)) (before : List InputWord) (input : InputWord) → n < length words

@@ -104,6 +104,7 @@ not_refused ds before name text NoVariable series refused is = absurd (refused s
 not_refused ds before name text BadDigits series refused is = absurd (not_bad kind.Bool ds name text series refused is)
 not_refused ds before name text BadNumbers series refused is = absurd (not_bad kind.Int ds name text series refused is)
 not_refused ds before name text BadDurations series refused is = absurd (not_bad kind.Time ds name text series refused is)
+not_refused ds before name text BadRange series refused is = absurd refused
 not_refused ds before name text Twice series (other, is_other, (j, found, within, at, same)) is =
     (j, found, within, at, same ∙ one_place ds name other.place series.place is_other.k is.k is_other.named is.named)
 not_refused ds before name text NoProgram series refused is = absurd refused
