@@ -33,17 +33,6 @@ pub(crate) struct Follower {
     pub trail: Trail,
 }
 
-/// Equal values.
-fn copies(alloc: Global, kept: &[Retained]) -> Result<Vec<Retained>, AllocError>
-    ensures { IfOk result (λ copy. copy.items ≡ kept.now) }
-{
-    let mut copy = Vec::with_capacity(alloc, kept.len())?;
-    for retained in kept {
-        copy.push(retained.try_copy()?)?;
-    }
-    Ok(copy)
-}
-
 /// The retained values with which a resource opens: those of its first START.
 fn opening_in(
     alloc: Global,
@@ -57,7 +46,7 @@ fn opening_in(
     if let Some(first) = lines.first() {
         if let Item::Start { kept, .. } = &first.item {
             if is_opening(plant, resource, kept.as_slice()) {
-                return copies(alloc, kept.as_slice());
+                return Retained::try_copy_all(alloc, kept.as_slice());
             }
         }
     }
@@ -134,7 +123,7 @@ impl Follower {
         ensures lines { IfOk result (λ f. f.lines ≡ lines) }
     {
         let opening = opening_in(alloc, plant, resource, lines.as_slice())?;
-        let left = copies(alloc, opening.as_slice())?;
+        let left = Retained::try_copy_all(alloc, opening.as_slice())?;
         let shared = Arc::try_clone(plant)?;
         Ok(Follower {
             standing: begin(alloc, shared, resource, first, opening)?,

@@ -7,7 +7,7 @@ ghost use Rattle.audit.specs.Steps.Following.{OpensNot};
 
 use crate::item::Item;
 use evaluation::Retained;
-use std_blocks::Value;
+use std_blocks::are_same_values;
 
 /// The retained values of a task with which the next line opens, if it is a START.
 pub(crate) fn opened_by(next: Option<&Item>, task: usize) -> Option<&Retained>
@@ -19,18 +19,11 @@ pub(crate) fn opened_by(next: Option<&Item>, task: usize) -> Option<&Retained>
     }
 }
 
-/// Whether both are the same values in the same order.
-fn are_equal(values: &[Value], others: &[Value]) -> bool
-    ensures { IsTrue result ↔ (values.now ≡ others.now) }
-{
-    values == others
-}
-
 /// Whether both have the same values in the same order.
 pub(crate) fn are_same(kept: &Retained, left: &Retained) -> bool
     ensures { IsTrue result ↔ (kept.now ≡ left.now) }
 {
-    are_equal(kept.values(), left.values())
+    are_same_values(kept.values(), left.values())
 }
 
 /// Whether both are the same values of the same tasks.

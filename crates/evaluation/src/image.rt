@@ -1,7 +1,7 @@
 use declared_names::{Kind, first_value, kind_of};
 use std::alloc::{AllocError, Global};
 use std::marker::Model;
-use std_blocks::Value;
+use std_blocks::{Value, are_same_values};
 
 /// The image of a task: the values of its VAR_OUTPUTs, programs and outputs in order of declaration.
 #[derive(Drop)]
@@ -59,7 +59,7 @@ impl Image {
     pub fn same(&self, other: &Self) -> bool
         ensures { IsTrue result ↔ (self.now ≡ other.now) }
     {
-        are_same(self.values.as_slice(), other.values.as_slice())
+        are_same_values(self.values.as_slice(), other.values.as_slice())
     }
 
     /// Whether the values are of these kinds, one for each.
@@ -103,10 +103,4 @@ fn are_initial(values: &[Value], kinds: &[Kind]) -> bool
         }
     }
     true
-}
-
-fn are_same(values: &[Value], others: &[Value]) -> bool
-    ensures { IsTrue result ↔ (values.now ≡ others.now) }
-{
-    values == others
 }

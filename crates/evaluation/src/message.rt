@@ -1,5 +1,6 @@
 use crate::image::Image;
 use crate::name::Name;
+use lists::are_same_numbers;
 use std::alloc::{AllocError, Global};
 use std::marker::Model;
 use std::sync::Arc;
@@ -28,13 +29,6 @@ impl Model for Message {
 ghost use Rattle.std.specs.Prelude.{◌≡◌, ◌↔◌, IsTrue, IfOk};
 ghost use Rattle.evaluation.specs.Heard.{addresses};
 ghost use Rattle.evaluation.specs.Messages.{message, TakenAlike};
-
-/// Whether both have the same numbers in the same order.
-fn are_same_numbers(numbers: &[u32], others: &[u32]) -> bool
-    ensures { IsTrue result ↔ (numbers.now ≡ others.now) }
-{
-    numbers == others
-}
 
 impl Message {
     /// A message of these parts. `heard` has one number for each resource.

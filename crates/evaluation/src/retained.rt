@@ -139,4 +139,15 @@ impl Retained {
             values: self.values.clone()?,
         })
     }
+
+    /// Equal values of each of several tasks.
+    pub fn try_copy_all(alloc: Global, retained: &[Retained]) -> Result<Vec<Retained>, AllocError>
+        ensures { IfOk result (λ copies. copies.items ≡ retained.now) }
+    {
+        let mut copies = Vec::with_capacity(alloc, retained.len())?;
+        for of_task in retained {
+            copies.push(of_task.try_copy()?)?;
+        }
+        Ok(copies)
+    }
 }

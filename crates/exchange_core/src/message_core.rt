@@ -56,17 +56,6 @@ ghost use Rattle.exchange_core.specs.Steps.KnowingMessages.{Holds};
 ghost use Rattle.exchange_core.specs.declared.accepted.Accepted.TheVariants.{Taken};
 ghost use Rattle.exchange_core.specs.declared.eval_fault.EvalFault.TheVariants.{Memory};
 
-/// Equal values.
-fn copies(alloc: Global, opening: &[Retained]) -> Result<Vec<Retained>, AllocError>
-    ensures { IfOk result (λ kept. kept.items ≡ opening.now) }
-{
-    let mut kept = Vec::with_capacity(alloc, opening.len())?;
-    for retained in opening {
-        kept.push(retained.try_copy()?)?;
-    }
-    Ok(kept)
-}
-
 impl MessageCore {
     /// A core of a resource in its first incarnation. It holds nothing, each of its tasks begins with its opening, and of each other resource it has heard the first incarnation.
     /// `first` has the first incarnation of each resource, `opening` what each task of this one begins with. The numbers of its evaluations go up to `max_number`.
@@ -90,7 +79,7 @@ impl MessageCore {
         let incarnation = first[resource];
         let heard = Vec::from_slice(alloc, first)?;
         let first = Vec::from_slice(alloc, first)?;
-        let kept = copies(alloc, opening)?;
+        let kept = Retained::try_copy_all(alloc, opening)?;
         let table = Known::empty(alloc, &plant)?;
         Ok(MessageCore {
             plant,

@@ -7,7 +7,7 @@ ghost use Rattle.name_faults.specs.Steps.Named.{IsInRange};
 
 use declared_names::Kind;
 use std_blocks::Value;
-use words::{Text, duration_up_to, is_duration, is_number, number_up_to};
+use words::{Text, is_duration, is_number, number_up_to, small_duration};
 
 /// What an operand is by itself.
 #[derive(Clone, Copy)]
@@ -38,8 +38,8 @@ fn time_of(word: &[u8]) -> Literal
     requires { IsTrue (is_duration word.now) }
     ensures { result ≡ literal_of (Some (Value.Time (duration_value word.now))) }
 {
-    match duration_up_to(word, 2_147_483_647) {
-        Some(milliseconds) => Literal::Value(Value::Time(milliseconds as u32)),
+    match small_duration(word) {
+        Some(milliseconds) => Literal::Value(Value::Time(milliseconds)),
         None => Literal::TooLarge(Kind::Time),
     }
 }

@@ -1,18 +1,13 @@
--- The networks that are kept, one after the other; and what two lists of elements tell that are the same item by item.
-use Rattle.std.proofs.Common.{◌≡◌, ℕ, zero, suc, ◌+◌, List, [], ◌∷◌, ◌++◌, Bool, true, false, Some, IsTrue, map, take, slice_get, get_or, append-nil, refl, sym, ap, ◌∙◌, arith}
+-- The networks that are kept, one after the other.
+use Rattle.std.proofs.Common.{◌≡◌, ℕ, zero, suc, ◌+◌, List, [], ◌∷◌, ◌++◌, Bool, true, false, Some, map, take, slice_get, get_or, append-nil, refl, sym, ap, ◌∙◌, arith}
 use Rattle.std.specs.Prelude.{if◌then◌else◌}
 use Rattle.std.proofs.lemmas.List.{map-append}
 use Rattle.std.proofs.lemmas.Option.{none-some, same_Some}
-use Rattle.lists.specs.Alike.{Tells}
-use Rattle.lists.proofs.Places.{same_by_each}
 use Rattle.drawings.specs.declared.place.Place.{Place}
 use Rattle.network.specs.declared.element.Element.{Element}
 use Rattle.network.specs.Links.{Diagram}
 use Rattle.network.specs.GraphValue.{diagram}
 use Rattle.needed_networks.specs.Slices.{HaveRails, kept_networks}
-
-pub equal_if_told : {X : Type 0} {answers : X → X → Bool → Type 0} (xs ys : List X) (told : Bool) → Tells answers told xs ys → ((x y : X) → answers x y true → x ≡ y) → IsTrue told → xs ≡ ys
-equal_if_told xs ys told tells each on = let all = tells.same on in same_by_each xs ys all.many (λ k x y at bt. each x y (all.each x y (k, at, bt)))
 
 -- one more network
 kept_here : Bool → Diagram → List Diagram

@@ -18,5 +18,4 @@ pub use count_limit::CountLimit;
 pub use laws::{counts_follow, slices_follow};
 pub use limits::count_limits;
 pub use needs::Needs;
-pub use same_networks::has_elements;
 pub use slice::{Slice, slice_of};

@@ -6,12 +6,12 @@ ghost use Rattle.power_flow.specs.LadderValue.{IsLadderOfGraph};
 
 use crate::blank_page::BlankPage;
 use crate::places::has_mark;
-use crate::same_networks::{are_kept, are_same_rails};
+use crate::same_networks::are_kept;
 use declared_names::{Declarations, DeclareFault};
 use drawings::{Drawing, Place};
 use ladder_text::{DrawFaultKind, ReadText};
 use name_faults::BindKind;
-use network::{Graph, GraphFaultKind};
+use network::{Graph, GraphFaultKind, are_same_places};
 use power_flow::Ladder;
 use std::alloc::{AllocError, Global};
 use std::str::from_utf8;
@@ -128,7 +128,7 @@ pub fn slice_of(
     let Some(graph) = graph_of(alloc, page.kept())? else {
         return Ok(None);
     };
-    if !are_same_rails(graph.rails(), rails) || !are_kept(ladder, omitted, graph.networks()) {
+    if !are_same_places(graph.rails(), rails) || !are_kept(ladder, omitted, graph.networks()) {
         return Ok(None);
     }
     let Some(declarations) = same_declarations(alloc, ladder.declarations())? else {

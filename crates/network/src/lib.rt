@@ -10,6 +10,7 @@ mod listing;
 mod networks;
 mod order;
 mod places;
+mod same_elements;
 mod seeking;
 
 pub use element::Element;
@@ -18,3 +19,4 @@ pub use fault::{GraphFault, GraphFaultKind};
 pub use graph::Graph;
 pub use networks::Network;
 pub use places::rails::Rails;
+pub use same_elements::{are_same_boxes, are_same_elements, are_same_places};

@@ -3,13 +3,7 @@ ghost use Rattle.evaluation.specs.Meaning.{IsMeant, IsWhole};
 ghost use Rattle.node_reports.specs.Steps.Comparing.{AreAskedAlike};
 
 use evaluation::{Evaluation, Frame, are_same_takes, one_evaluation};
-
-/// Whether both have the same numbers in the same order.
-fn are_same_numbers(numbers: &[u32], others: &[u32]) -> bool
-    ensures { IsTrue result ↔ (numbers.now ≡ others.now) }
-{
-    numbers == others
-}
+use lists::are_same_numbers;
 
 /// Whether the same was asked of both, of the same state before.
 fn are_asked_alike(evaluation: &Evaluation, other: &Evaluation) -> bool

@@ -1,11 +1,13 @@
 -- The first item of a list that fails.
-use Rattle.std.proofs.Common.{◌≡◌, ℕ, ◌+◌, ◌<◌, List, [], ◌∷◌, ◌++◌, Some, length, take, drop, get_or, refl, sym, ap, subst, ◌∙◌, append_assoc, arith}
+use Rattle.std.proofs.Common.{◌≡◌, ℕ, ◌+◌, ◌<◌, List, [], ◌∷◌, ◌++◌, Some, length, take, drop, get_or, map, refl, sym, ap, subst, ◌∙◌, append_assoc, arith}
+use Rattle.std.specs.Borrow.{Bor}
 use Rattle.std.specs.Prelude.{slice_get, All}
 use Rattle.std.specs.List.{flat_map}
 use Rattle.std.proofs.lemmas.Grind.{flat_map-append}
-use Rattle.std.proofs.lemmas.List.{take_more, take-append-drop, length-take}
+use Rattle.std.proofs.lemmas.List.{take_more, take-append-drop, length-take, map-append}
 use Rattle.std.proofs.lemmas.List.Elements.{All-append}
 use Rattle.plant.specs.SourceFaults.{FailsFirst}
+use Rattle.plant.proofs.Zips.{all_at}
 
 -- a list around one of its places
 around : {A : Type 0} (xs : List A) (n : ℕ) (x : A) → n < length xs → x ≡ get_or xs n x → xs ≡ take n xs ++ x ∷ drop (n + 1) xs
@@ -50,3 +52,20 @@ fails_moved P R Q S xs passes fails of = record {
   pass = λ k d lt. passes (get_or of.before k d) (of.pass k d lt);
   fails = fails (length of.before) of.first (ap (λ ys. slice_get ys (length of.before)) of.parts ∙ behind_others of.before of.behind of.first) of.fails;
 }
+
+-- where all that references point to before one pass
+pub seen_fails : {A : Type 0} (P Q : A → Type 0) (xs : List (Bor A)) (n : ℕ) (x : Bor A) → n < length xs → x ≡ get_or xs n x → All P (map (λ (p : Bor A). p.now) (take n xs)) → Q x.now
+    → FailsFirst P (λ k y. Q y) (map (λ (p : Bor A). p.now) xs)
+seen_fails {A} P Q xs n x lt is pass fails = record {
+  before = map (λ (p : Bor A). p.now) (take n xs);
+  first = x.now;
+  behind = map (λ (p : Bor A). p.now) (drop (n + 1) xs);
+  parts = ap (map (λ (p : Bor A). p.now)) (around xs n x lt is) ∙ map-append (λ (p : Bor A). p.now) (take n xs) (x ∷ drop (n + 1) xs);
+  pass = pass;
+  fails = fails;
+}
+
+-- where none that passes fails, not all pass
+pub none_fails : {A : Type 0} (P : A → Type 0) (Q : ℕ → A → Type 0) (xs : List A) → ((k : ℕ) (x : A) → Q k x → P x → ⊥) → FailsFirst P Q xs → All P xs → ⊥
+none_fails P Q xs excluded of all =
+    excluded (length of.before) of.first of.fails (all_at P xs all (length of.before) of.first (ap (λ ys. slice_get ys (length of.before)) of.parts ∙ behind_others of.before of.behind of.first))

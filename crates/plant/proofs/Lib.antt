@@ -21,7 +21,9 @@ mod DueTasks
 pub mod WordFaults
 pub mod DrawnTrees
 pub mod Members
+pub mod FedUses
 pub mod Sourcing
+pub mod ToldSources
 pub mod SameTrees
 pub mod FaultySources
 pub mod FirstFailing

@@ -9,7 +9,7 @@ use Rattle.std.proofs.lemmas.List.Sums.{fails_before_first}
 use Rattle.std.proofs.lemmas.Option.{slice_get_within, slice_get-map, get_or_from_slice_get}
 use Rattle.lists.proofs.Places.{some_same}
 use Rattle.lists.proofs.Members.{any_at, any_found, contains_at, at_contains}
-use Rattle.lists.proofs.Zips.{zip_at, zip_back}
+use Rattle.lists.proofs.Zips.{zip_length, zip_at, zip_back}
 use Rattle.lists.proofs.Mapped.{mapped_at, in_flat}
 use Rattle.plant_grammar.specs.Steps.SameNames.{named_back, named_both}
 use Rattle.declared_names.specs.declared.declarations.Kind.{Kind}
@@ -38,15 +38,18 @@ use Rattle.plant.specs.Ladders.{IsLadderOf}
 use Rattle.plant.specs.ProgramTypes.{TypeValue}
 use Rattle.plant.specs.declared.sources.feed.Origin.{Origin}
 use Rattle.plant.specs.declared.sources.feed.Origin.TheVariants as origin
+use Rattle.plant.specs.declared.sources.feed.Feed.{Feed}
 use Rattle.plant.specs.PlantValue.{ResourceValue, PlantValue}
 use Rattle.plant.specs.StandsFor.{runs_in, IsOrigin}
 use Rattle.plant.specs.Faultless.{DeclaresOutput, RunsType, GivesOutput, HasSource, IsFed, AreBindsFed}
-use Rattle.plant.specs.Steps.Drafts.{drafted, programs_in, IsProgramOf, IsDraftOf, IsResourceDraft, IsPlacedAt, IsOutputAt, IsInstanceAt, IsImageKind, IsValue, HasNoValue, IsOriginOf, HasNoOrigin, HasFeed, IsCodeApart, AreInstancesOnce, AreDraftsApart, IsUseResolved, AreResourcesFed, IsTypeKnown}
+use Rattle.plant.specs.Steps.Drafts.{drafted, programs_in, IsProgramOf, IsDraftOf, IsResourceDraft, IsPlacedAt, IsOutputAt, IsInstanceAt, IsImageKind, IsValue, HasNoValue, IsOriginOf, HasNoOrigin, HasFeed, IsCodeApart, AreInstancesOnce, AreDraftsApart, IsUseResolved, IsTypeKnown, IsFeedOf, AreFeedsOf, Triples}
+use Rattle.plant.specs.Steps.FedUses.{FedUseValue, IsUseFed, AreUsesFed, fed_in, runs_in_fed, feeds_in, AreRunsFed, IsResourceFed}
 use Rattle.plant.proofs.FoldedNames.{same_letters, named_alike, at_place}
 use Rattle.plant.proofs.ProgramOutputs.{outputs_placed}
 use Rattle.plant.proofs.LinkedPlants.{code_found, code_stands, uses_all}
 use Rattle.plant.proofs.Drafting.{found_place}
-use Rattle.plant.proofs.FirstMentions.{flat_all, all_flat}
+use Rattle.plant.proofs.FedUses.{runs_of_task, runs_are}
+use Rattle.plant.proofs.FirstMentions.{all_flat}
 use Rattle.plant.proofs.Members.{first_found}
 use Rattle.plant.proofs.Zips.{all_at}
 
@@ -278,14 +281,6 @@ before_all P xs k any =
     let at = at_contains (flat_map task_of xs) found.1 (subst (λ (ts : List TaskLine). Contains ts found.1) (sym whole) there) in
     any_at P (flat_map task_of xs) at.0 found.1 at.1 found.3
 
--- a bind whose source is of another kind has no feed
-pub no_feed : (ds : List ResourceValue) → AreDraftsApart ds → (vs : List Declaration) (b : Bind) (place : ℕ) (kind given : Kind) (o : Origin) → place_of vs b.input ≡ Some place → input_kind_at vs place ≡ Some kind
-    → IsOriginOf (drafted ds) b.source o given → (given ≡ kind → ⊥) → HasFeed (drafted ds) vs b → ⊥
-no_feed ds apart vs b place kind given o input is from other (f, fed) =
-    let here : place ≡ f.place = some_same (sym input ∙ fed.input_is) in
-    let kinds : kind ≡ f.kind = some_same (sym is ∙ ap (input_kind_at vs) here ∙ fed.input_kind_is) in
-    other (origin_once ds apart b.source o f.origin given f.kind from fed.origin_is ∙ sym kinds)
-
 -- drafts of a lawful tree
 module _ (programs : List Program) (name : List ℕ) (rs : List Resource) (ds : List ResourceValue) (known : AllZip (IsResourceDraft programs) rs ds) where
   abbrev tree : Tree
@@ -482,22 +477,47 @@ module _ (types : List TypeValue) (name : List ℕ) (rs : List Resource) (ds : L
   pub resolved_from_fed : All (AreBindsFed written) (flat_map uses_of rs) → All (IsUseResolved (drafted ds) types) (flat_map uses_of rs)
   resolved_from_fed each k d lt = use_in_drafts (get_or (flat_map uses_of rs) k d) (each k d lt)
 
-  -- so the binds of each program of a draft are fed
-  pub resources_fed : All (IsUseResolved (drafted ds) types) (flat_map uses_of rs) → AreResourcesFed (drafted ds) rs ds
-  resources_fed each i r d at at' j t c line code n u p run program =
-      let rd = zip_at (IsResourceDraft (programs_in types)) rs ds known i r at in
-      let of_resource : IsResourceDraft (programs_in types) r d = subst (IsResourceDraft (programs_in types) r) (some_same (sym rd.1 ∙ at')) rd.2 in
-      let td = zip_at (IsDraftOf (programs_in types) r) (tasks_of r) d.codes of_resource.codes_are j t line in
-      let of_task : IsDraftOf (programs_in types) r t c = subst (IsDraftOf (programs_in types) r t) (some_same (sym td.1 ∙ code)) td.2 in
-      let pd = zip_at (IsProgramOf (programs_in types)) (runs_in r t) c.programs of_task.programs_are n u run in
+  -- so the binds of each program of a draft are resolved, by its variables
+  run_fed : (r : Resource) (t : TaskLine) (c : CodeValue) (fed : List FedUseValue) → IsDraftOf (programs_in types) r t c → AreUsesFed (drafted ds) types r fed → (n : ℕ) (u : Use) (p : ProgramValue) (fs : List Feed)
+      → slice_get (runs_in_fed (fed_in t fed)) n ≡ Some u → slice_get c.programs n ≡ Some p → slice_get (feeds_in (fed_in t fed)) n ≡ Some fs → AreFeedsOf (drafted ds) u p fs
+  run_fed r t c fed of_task of_fed n u p fs run program feeds =
+      let plant = drafted ds in
+      let a = mapped_at (λ (f : FedUseValue). f.run) (fed_in t fed) n u run in
+      let b = mapped_at (λ (f : FedUseValue). f.feeds) (fed_in t fed) n fs feeds in
+      let one : b.0 ≡ a.0 = some_same (sym b.1 ∙ a.1) in
+      let placed_run = filtered (λ (f : FedUseValue). is_named f.run.task t.name) fed n a.0 a.1 in
+      let written_run = zip_back (IsUseFed plant types) (uses_of r) fed of_fed placed_run.0 a.0 placed_run.1 in
+      let is : IsUseFed plant types u a.0 = subst (λ (v : Use). IsUseFed plant types v a.0) (sym written_run.2.run_is ∙ a.2) written_run.2 in
+      let listed : slice_get (runs_in r t) n ≡ Some u = ap (λ (us : List Use). slice_get us n) (sym (runs_of_task fed r t (runs_are plant types (uses_of r) fed of_fed))) ∙ run in
+      let pd = zip_at (IsProgramOf (programs_in types)) (runs_in r t) c.programs of_task.programs_are n u listed in
       let of_program : IsProgramOf (programs_in types) u p = subst (IsProgramOf (programs_in types) u) (some_same (sym pd.1 ∙ program)) pd.2 in
-      let placed_run = filtered (λ (u : Use). is_named u.task t.name) (uses_of r) n u run in
-      let all : All (λ r. All (IsUseResolved (drafted ds) types) (uses_of r)) rs = flat_all (IsUseResolved (drafted ds) types) uses_of rs each in
-      let is : IsUseResolved (drafted ds) types u = all_at (IsUseResolved (drafted ds) types) (uses_of r) (all_at (λ r. All (IsUseResolved (drafted ds) types) (uses_of r)) rs all i r at) placed_run.0 u placed_run.1 in
       let found = type_of u is.type is.type_is in
       let same : is.type.program ≡ of_program.type = one_type (programs_in types) name rs ds known lawful u found.0 is.type.program of_program.type of_program.place found.1 of_program.type_is in
       let list : is.type.ladder.declarations ≡ p.ladder.declarations = found.2 ∙ ap variables same ∙ sym of_program.ladder_is.declared in
-      subst (λ (vs : List Declaration). All (HasFeed (drafted ds) vs) (binds_of u)) list is.each
+      let fed_so : fs ≡ a.0.feeds = sym b.2 ∙ ap (λ (f : FedUseValue). f.feeds) one in
+      let each : AllZip (IsFeedOf plant is.type.ladder.declarations) (binds_of u) fs = subst (λ (gs : List Feed). AllZip (IsFeedOf plant is.type.ladder.declarations) (binds_of u) gs) (sym fed_so) is.each in
+      subst (λ (vs : List Declaration). AllZip (IsFeedOf plant vs) (binds_of u) fs) list each
+
+  runs_fed : (r : Resource) (t : TaskLine) (c : CodeValue) (fed : List FedUseValue) → IsDraftOf (programs_in types) r t c → AreUsesFed (drafted ds) types r fed → AreRunsFed (drafted ds) c.programs (fed_in t fed)
+  runs_fed r t c fed of_task of_fed =
+      let runs : runs_in_fed (fed_in t fed) ≡ runs_in r t = runs_of_task fed r t (runs_are (drafted ds) types (uses_of r) fed of_fed) in
+      record {
+        many = sym (length-map (fed_in t fed) (λ (f : FedUseValue). f.run)) ∙ ap length runs ∙ zip_length (IsProgramOf (programs_in types)) (runs_in r t) c.programs of_task.programs_are;
+        each = λ n u p fs run program feeds. run_fed r t c fed of_task of_fed n u p fs run program feeds;
+      }
+
+  pub resources_fed : (fed : List (List FedUseValue)) → AllZip (AreUsesFed (drafted ds) types) rs fed → Triples (IsResourceFed (drafted ds)) rs ds fed
+  resources_fed fed all i r d fs at at' given =
+      let rd = zip_at (IsResourceDraft (programs_in types)) rs ds known i r at in
+      let of_resource : IsResourceDraft (programs_in types) r d = subst (IsResourceDraft (programs_in types) r) (some_same (sym rd.1 ∙ at')) rd.2 in
+      let rf = zip_at (AreUsesFed (drafted ds) types) rs fed all i r at in
+      let of_fed : AreUsesFed (drafted ds) types r fs = subst (AreUsesFed (drafted ds) types r) (some_same (sym rf.1 ∙ given)) rf.2 in
+      record {
+        runs_are = runs_are (drafted ds) types (uses_of r) fs of_fed;
+        each = λ j t c line code.
+            let td = zip_at (IsDraftOf (programs_in types) r) (tasks_of r) d.codes of_resource.codes_are j t line in
+            runs_fed r t c fs (subst (IsDraftOf (programs_in types) r t) (some_same (sym td.1 ∙ code)) td.2) of_fed;
+      }
 
 -- the type of each instance of a lawful tree is known
 pub types_known : (types : List TypeValue) (name : List ℕ) (rs : List Resource) → IsTreeLawful (record { programs = programs_in types; name = name; resources = rs }) → All (IsTypeKnown types) (flat_map uses_of rs)

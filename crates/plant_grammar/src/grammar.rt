@@ -3,8 +3,10 @@
 pub mod known_names;
 pub mod name;
 pub mod program_text;
+pub mod read_instance;
 pub mod read_program;
 pub mod read_resource;
+pub mod read_task;
 pub mod read_tree;
 pub mod reader;
 pub mod retained_places;

@@ -3,11 +3,10 @@
 ghost use Rattle.std.specs.Prelude.{◌≡◌, IfOk, unwrap_or};
 ghost use Rattle.plant_text.specs.declared.token.Token.TheVariants as token;
 ghost use Rattle.plant_text.specs.Words.{program_keyword, configuration_keyword, task_keyword, keyword, punctuation, fixed_word, value_word, name, word_of};
-ghost use Rattle.words.specs.Numbers.{duration_up_to};
 
 use crate::token::{Keyword, Punctuation, Token};
 use std::alloc::{AllocError, Global};
-use words::{Address, Text, block_type, duration_up_to, is_plain_name, small_number};
+use words::{Address, Text, block_type, is_plain_name, small_duration, small_number};
 
 #[tactic(auto, unfolding(crate::specs::Words::program_keyword))]
 fn program_keyword(word: &[u8]) -> Option<Keyword>
@@ -112,16 +111,6 @@ fn punctuation(word: &[u8]) -> Option<Punctuation>
     }
 }
 
-/// A duration up to 2,147,483,647 ms.
-fn milliseconds(word: &[u8]) -> Option<u32>
-    ensures { result ≡ duration_up_to 2147483647 word.now }
-{
-    match duration_up_to(word, 2_147_483_647) {
-        Some(length) => u32::try_from(length).ok(),
-        None => None,
-    }
-}
-
 /// What a word is, if it is fixed: a keyword, a block type or a mark.
 #[tactic(auto, unfolding(crate::specs::Words::fixed_word))]
 fn fixed_word(word: &[u8]) -> Option<Token>
@@ -147,7 +136,7 @@ fn value_word(word: &[u8]) -> Option<Token>
     if let Some(found) = small_number(word) {
         return Some(Token::Number(found));
     }
-    if let Some(found) = milliseconds(word) {
+    if let Some(found) = small_duration(word) {
         return Some(Token::Duration(found));
     }
     match Address::of_word(word) {

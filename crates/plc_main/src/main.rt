@@ -5,101 +5,54 @@ mod answering;
 mod audit_command;
 mod clashes;
 mod joining;
+mod journal_files;
 mod journal_head;
+mod keeper_faults;
 mod new_beside;
 mod node_command;
 mod run_command;
+mod run_keepers;
 mod running_alone;
 mod standard_files;
 mod told_run;
 mod trace_files;
 mod used_files;
 
-ghost use Rattle.std.specs.Prelude.{◌≡◌, All, length, map, string_bytes, vec_len, IfOk};
+ghost use Rattle.std.specs.Prelude.{◌≡◌, length, vec_len};
 ghost use Rattle.evaluation.specs.InputTexts.{IsRead};
-ghost use Rattle.text_lines.specs.LineParts.{resource_text};
-ghost use Rattle.text_commands.specs.Rows.{texts};
 ghost use Rattle.console.specs.FieldWords.{one_text_of};
-ghost use Rattle.plc_main.specs.AuditCommand.{AreNamed};
 
 use answering::{Terminals, answer_words};
-use audit::JournalFile;
 use audit_command::audit_text;
 use console::{
-    Answered, AuditRequest, CommandFault, FAILED, Pace, Prepared, RunRequest, Shown, file_bytes,
-    file_plant, given_words, prepare, print_failure, print_fault, print_given_fault,
+    Answered, AuditRequest, CommandFault, FAILED, Pace, Prepared, RunRequest, file_plant,
+    given_words, prepare, print_failure, print_fault, print_given_fault,
 };
 use joining::joined_journals;
-use keepers::{
-    BadLine, FileKeeper, FolderLock, Keeper, KeeperFault, LockFault, MemoryKeeper, SystemFolder,
-};
+use journal_files::file_journals;
+use keeper_faults::{print_keeper_faults, print_lock_fault};
+use keepers::{FolderLock, Keeper, LockFault};
 use node::{ClockGate, FreeGate, Gate, PacedGate};
 use node_loop::{ReaderEnds, read_field, read_input};
 use node_reports::RunFault;
-use plant::{Plant, TaskCode, TaskRef};
 use run_command::{Ran, obey_run};
+use run_keepers::{keepers_in, memory_keepers};
 use running_alone::Inputs;
 use standard_files::hold_standard;
-use std::alloc::{AllocError, Global};
 use std::env::VarError;
-use std::io::{ErrorKind, IsTerminal, Read};
+use std::io::{ErrorKind, IsTerminal};
 use std::process::ExitCode;
 use std::rt::{Clock, Env, Files};
 use std::sync::{Arc, Mutex, Wait};
 use std::thread::Threads;
-use std::{env, fs, io, thread};
+use std::{env, io, thread};
 use text_commands::plan_of;
-use text_lines::{OnTerminal, resource_name};
+use text_lines::OnTerminal;
 use told_run::{ToldGate, UntoldWriter};
 use trace_files::SystemFiles;
 
 /// How often a command looks, at most, whether it may go: with `--paced` or `--clock`.
 const TURNS: u64 = 10_000_000;
-
-/// A keeper for each resource, in memory. The first incarnations are 1, and no retained variables are kept yet.
-fn memory_keepers(alloc: Global, plant: &Plant) -> Result<Vec<MemoryKeeper>, AllocError>
-    ensures count { IfOk result (λ keepers. vec_len keepers ≡ length plant.now.resources) }
-    ensures first { IfOk result (λ keepers. All (λ k. k.last ≡ 0) keepers.items) }
-{
-    let mut keepers = Vec::with_capacity(alloc, plant.resources())?;
-    for _resource in 0..plant.resources() {
-        keepers.push(MemoryKeeper::new(alloc, 0))?;
-    }
-    Ok(keepers)
-}
-
-/// A keeper of a resource, in a folder of the system.
-fn keeper_in(
-    alloc: Global,
-    host: &HostRuntime,
-    plant: &Plant,
-    resource: usize,
-    folder: &str,
-) -> Result<FileKeeper<SystemFolder<HostRuntime>>, AllocError>
-    ensures { IfOk result (λ k. string_bytes k.resource ≡ resource_text plant.now resource) }
-{
-    let name = resource_name(plant, resource);
-    let folder = SystemFolder::new(host.clone()?, folder)?.private();
-    FileKeeper::new(alloc, folder, name)
-}
-
-/// A keeper for each resource, in a folder of the system.
-fn keepers_in(
-    alloc: Global,
-    host: &HostRuntime,
-    plant: &Plant,
-    folder: &str,
-) -> Result<Vec<FileKeeper<SystemFolder<HostRuntime>>>, AllocError>
-    ensures count { IfOk result (λ keepers. vec_len keepers ≡ length plant.now.resources) }
-    ensures named { IfOk result (λ keepers.
-        map (λ k. string_bytes k.resource) keepers.items ≡ map (λ r. r.name) plant.now.resources) }
-{
-    let mut keepers = Vec::with_capacity(alloc, plant.resources())?;
-    for resource in 0..plant.resources() {
-        keepers.push(keeper_in(alloc, host, plant, resource, folder)?)?;
-    }
-    Ok(keepers)
-}
 
 /// Runs a plant with these keepers, through a gate, and writes what its threads did; whether there was a fault in them.
 /// `told` is whether it is told on standard error how many commands are done with, until the first line goes out.
@@ -183,147 +136,6 @@ fn run_anew<R: Clock + Print + Eprint + AllocGlobal + Threads + Wait + Sync>(
     }
 }
 
-/// Tells why a folder can't be held; the status.
-fn print_lock_fault<R: Eprint>(rt: &R, folder: &str, fault: LockFault) -> io::Result<u8> {
-    let folder = Shown(folder);
-    eprintln!(rt; "plc: {folder}: {fault}")?;
-    Ok(FAILED)
-}
-
-/// How many bytes of a task's file are looked at for how its lines end.
-const MOST_BYTES: u64 = 1_048_576;
-
-/// The first bytes of a file; none of one that can't be read.
-fn first_bytes(host: &HostRuntime, path: &str) -> io::Result<Vec<u8>> {
-    let mut bytes = Vec::new(host.alloc());
-    let file = fs::open(host, path)?;
-    file.take(MOST_BYTES).read_to_end(&mut bytes)?;
-    Ok(bytes)
-}
-
-/// What is told of the end of a line, where it isn't a line feed alone; lines count from 1. Nothing is where the text has no such
-/// line, or goes on behind the bytes that are looked at.
-fn told_end(text: &[u8], line: usize) -> &'static str {
-    let mut rows = text
-        .split(|byte| *byte == b'\n')
-        .skip(line.saturating_sub(1));
-    let Some(row) = rows.next() else {
-        return "";
-    };
-    if row.ends_with(b"\r") {
-        return ", and a line feed alone: a carriage return stands before it";
-    }
-    let is_whole = (text.len() as u64) < MOST_BYTES;
-    if is_whole && !row.is_empty() && rows.next().is_none() {
-        ", and a line feed: the file ends without one"
-    } else {
-        ""
-    }
-}
-
-/// Tells of the line of a task's file that isn't what is kept of its retained variables.
-fn print_bad_line<R: Eprint>(
-    rt: &R,
-    host: &HostRuntime,
-    file: &str,
-    code: &TaskCode,
-    bad: &BadLine,
-) -> io::Result<()> {
-    let BadLine { line, expected } = bad;
-    let is_of_variable = *line <= code.retained().len();
-    let end = match first_bytes(host, file) {
-        Ok(text) if is_of_variable => told_end(&text, *line),
-        _ => "",
-    };
-    let file = Shown(file);
-    eprintln!(rt; "plc: {file}:{line}: Unreadable: expected {expected}{end}")
-}
-
-/// Tells of a task's file where it isn't what is kept of its retained variables.
-fn print_task_fault<R: Eprint>(
-    rt: &R,
-    host: &HostRuntime,
-    file: &str,
-    code: &TaskCode,
-    found: Result<Option<BadLine>, KeeperFault>,
-) -> io::Result<()> {
-    match found {
-        Ok(None) => Ok(()),
-        Ok(Some(bad)) => print_bad_line(rt, host, file, code, &bad),
-        Err(fault) => {
-            let file = Shown(file);
-            eprintln!(rt; "plc: {file}: {fault}")
-        }
-    }
-}
-
-/// Tells of which tasks of a resource the retained variables couldn't be told.
-fn print_task_faults<R: Eprint + AllocGlobal>(
-    rt: &R,
-    host: &HostRuntime,
-    plant: &Plant,
-    resource: usize,
-    path: &str,
-    keeper: &FileKeeper<SystemFolder<HostRuntime>>,
-) -> io::Result<()> {
-    for task in 0..plant.tasks(resource).len() {
-        if let Some(code) = plant.code(TaskRef { resource, task }) {
-            let file = format!(in rt.alloc(); "{path}.{task}.ret")?;
-            print_task_fault(rt, host, file.as_str(), code, keeper.bad_line(task, code))?;
-        }
-    }
-    Ok(())
-}
-
-/// Tells whether a resource's incarnation couldn't be raised, and of which of its tasks the retained variables couldn't be
-/// told.
-fn print_resource_faults<R: Eprint + AllocGlobal>(
-    rt: &R,
-    host: &HostRuntime,
-    plant: &Plant,
-    resource: usize,
-    folder: &str,
-    keeper: &FileKeeper<SystemFolder<HostRuntime>>,
-) -> io::Result<()> {
-    let name = resource_name(plant, resource);
-    let path = format!(in rt.alloc(); "{folder}/{name}")?;
-    if let Err(fault) = keeper.next_number() {
-        let shown = Shown(path.as_str());
-        eprintln!(rt; "plc: {shown}.inc: {fault}")?;
-    }
-    print_task_faults(rt, host, plant, resource, path.as_str(), keeper)
-}
-
-/// Tells where there is no folder of this name; whether that is so.
-fn print_no_folder<R: Eprint>(rt: &R, host: &HostRuntime, folder: &str) -> io::Result<bool> {
-    let is_there = match fs::metadata(host, folder) {
-        Ok(found) => found.is_dir(),
-        Err(_) => false,
-    };
-    if !is_there {
-        let folder = Shown(folder);
-        eprintln!(rt; "plc: {folder}: there is no folder of this name")?;
-    }
-    Ok(!is_there)
-}
-
-/// Tells of which resources an incarnation couldn't be raised, or retained variables couldn't be told.
-fn print_keeper_faults<R: Eprint + AllocGlobal>(
-    rt: &R,
-    host: &HostRuntime,
-    plant: &Plant,
-    folder: &str,
-) -> io::Result<()> {
-    if print_no_folder(rt, host, folder)? {
-        return Ok(());
-    }
-    let keepers = keepers_in(rt.alloc(), host, plant, folder)?;
-    for (resource, keeper) in keepers.iter().enumerate() {
-        print_resource_faults(rt, host, plant, resource, folder, keeper)?;
-    }
-    Ok(())
-}
-
 /// Runs a plant whose incarnations and retained variables are kept in a folder, which no other run uses meanwhile; the
 /// status, and the texts for the files of its trace.
 fn run_kept<R: Clock + Print + Eprint + AllocGlobal + Threads + Wait + Sync>(
@@ -373,38 +185,6 @@ fn answer_run<R: Files + Clock + Print + Eprint + AllocGlobal + Threads + Wait +
         Some(folder) => run_kept(rt, host, told, request, prepared, folder),
         None => run_anew(rt, told, request, prepared),
     }
-}
-
-/// The journal in a file, or the status after its fault was told.
-fn file_journal<R: Files + Eprint + AllocGlobal>(
-    rt: &R,
-    name: &str,
-) -> io::Result<Result<JournalFile, u8>>
-    ensures { IfOk result (λ read. IfOk read (λ journal. string_bytes journal.name ≡ name.now)) }
-{
-    let text = match file_bytes(rt, name)? {
-        Ok(text) => text,
-        Err(status) => return Ok(Err(status)),
-    };
-    let name = String::from_str(rt.alloc(), name)?;
-    Ok(Ok(JournalFile { name, text }))
-}
-
-/// The journals in files, or the status after the fault of one was told.
-fn file_journals<R: Files + Eprint + AllocGlobal>(
-    rt: &R,
-    names: &[&str],
-) -> io::Result<Result<Vec<JournalFile>, u8>>
-    ensures { IfOk result (λ read. IfOk read (λ journals. AreNamed journals.items (texts names.now))) }
-{
-    let mut journals = Vec::new(rt.alloc());
-    for name in names {
-        match file_journal(rt, name)? {
-            Ok(journal) => journals.push(journal)?,
-            Err(status) => return Ok(Err(status)),
-        }
-    }
-    Ok(Ok(journals))
 }
 
 /// Reads a plant and the journals of its nodes, and writes what is shown of them; the status.

@@ -9,8 +9,9 @@ ghost use Rattle.console.specs.NodeWords.{NamesResource};
 ghost use Rattle.plc_main.specs.NodeCommand.{RunsNode, StopsRunning};
 
 use crate::journal_head::begins_as_journal;
+use crate::keeper_faults::{print_lock_fault, print_no_folder, print_resource_faults};
+use crate::run_keepers::keeper_in;
 use crate::running_alone::{Inputs, is_alone, run_alone};
-use crate::{keeper_in, print_lock_fault, print_no_folder, print_resource_faults};
 use console::{
     FAILED, JournalFull, NodeRequest, PreparedNode, Shown, WordRefusal, prepare_node,
     print_word_refusal,

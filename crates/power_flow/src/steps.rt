@@ -8,5 +8,4 @@ pub mod lone_rung;
 pub mod room;
 pub mod row_ends;
 pub mod rows;
-pub mod same_elements;
 pub mod steps;

@@ -39,24 +39,13 @@ fn first_incarnations(alloc: Global, journals: &[Journal]) -> Result<Vec<u32>, A
     Ok(first)
 }
 
-/// Equal openings of one resource.
-fn copy_of_opening(alloc: Global, opening: &[Retained]) -> Result<Vec<Retained>, AllocError>
-    ensures { IfOk result (λ copy. copy.items ≡ opening.now) }
-{
-    let mut copy = Vec::with_capacity(alloc, opening.len())?;
-    for retained in opening {
-        copy.push(retained.try_copy()?)?;
-    }
-    Ok(copy)
-}
-
 /// The retained values with which the tasks of each resource open.
 fn openings(alloc: Global, journals: &[Journal]) -> Result<Vec<Vec<Retained>>, AllocError>
     ensures { IfOk result (λ openings. lists_of openings.items ≡ openings_of journals.now) }
 {
     let mut openings = Vec::with_capacity(alloc, journals.len())?;
     for journal in journals {
-        openings.push(copy_of_opening(alloc, journal.opening.as_slice())?)?;
+        openings.push(Retained::try_copy_all(alloc, journal.opening.as_slice())?)?;
     }
     Ok(openings)
 }

@@ -3,7 +3,10 @@
 
 mod bound_box;
 mod bound_contact;
+mod box_rows;
+mod contact_rows;
 mod digests;
+mod joined_rows;
 mod passing;
 mod rung;
 mod seat;

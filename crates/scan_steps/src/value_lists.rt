@@ -7,6 +7,7 @@ ghost use Rattle.scan_steps.specs.Steps.Seats.{slot_at};
 
 use crate::seat::Seat;
 use crate::slot::{Instance, Slot};
+use lists::are_same_bits;
 use std::alloc::{AllocError, Global};
 use std::marker::Model;
 use std_blocks::{BlockType, Value};
@@ -38,12 +39,6 @@ fn copy_of<T: Copy>(items: &Vec<T>) -> Result<Vec<T>, AllocError>
     ensures { IfOk result (λ copy. copy.items ≡ items.now.items) }
 {
     Vec::from_slice(*items.allocator(), items)
-}
-
-fn are_same_bits(bits: &[bool], others: &[bool]) -> bool
-    ensures { IsTrue result ↔ (bits.now ≡ others.now) }
-{
-    bits == others
 }
 
 impl Lists {

@@ -11,4 +11,4 @@ pub use block_state::BlockState;
 pub use block_type::BlockType;
 pub use pin::{Field, Pin};
 pub use pins::{PinsIn, PinsOut};
-pub use value::Value;
+pub use value::{Value, are_same_values};

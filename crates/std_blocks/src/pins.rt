@@ -1,5 +1,7 @@
 ghost use Rattle.std.specs.Prelude.{◌≡◌, ◌↔◌, IsTrue};
 
+use lists::are_same_bits;
+
 /// What a block reads in a step, in the order of its pins. Pins that its type doesn't have are ignored.
 #[derive(Clone, Copy, Debug, PartialEq, Eq)]
 pub struct PinsIn {
@@ -18,12 +20,6 @@ pub struct PinsOut {
     pub int: i16,
     /// ET of a timer, in milliseconds.
     pub time: u32,
-}
-
-fn are_same_bits(bits: &[bool], others: &[bool]) -> bool
-    ensures { IsTrue result ↔ (bits.now ≡ others.now) }
-{
-    bits == others
 }
 
 impl PinsOut {

@@ -22,3 +22,10 @@ impl Value {
         }
     }
 }
+
+/// Whether both are the same values in the same order.
+pub fn are_same_values(values: &[Value], others: &[Value]) -> bool
+    ensures { IsTrue result ↔ (values.now ≡ others.now) }
+{
+    values == others
+}

@@ -87,7 +87,7 @@ impl TaskCode {
     }
 
     /// The places of the retained variables of the program at a position.
-    pub(crate) fn retained_places(&self, i: usize) -> Option<&[usize]>
+    pub fn retained_places(&self, i: usize) -> Option<&[usize]>
         ensures { option_map (λ l. l.now) result ≡ option_map (λ p. p.retained) (slice_get self.now.programs i) }
     {
         match self.programs.get(i) {

@@ -7,7 +7,7 @@ ghost use Rattle.text_commands.specs.Steps.Series.{IsShort, once_values};
 use crate::bits::are_digits;
 use declared_names::Kind;
 use std_blocks::Value;
-use words::{duration_up_to, number_up_to};
+use words::{number_up_to, small_duration};
 
 /// What an item of a word NAME=VALUES gives each time: the values that digits 0 and 1 are, or one value.
 #[derive(Clone, Copy, Debug)]
@@ -61,9 +61,6 @@ fn int_of(word: &[u8]) -> Option<i16>
     }
 }
 
-/// The greatest duration that is read, in ms.
-const LONGEST: u64 = 2_147_483_647;
-
 /// What a text says of a variable of a kind: of a BOOL 1 to 1,000 digits 0 or 1, of an INT a number, of a TIME a duration.
 pub fn once_of(kind: Kind, text: &str) -> Option<Once<'_>>
     ensures read { MatchOption result ((once : List Held) → Says kind text.now once → ⊥)
@@ -83,8 +80,8 @@ pub fn once_of(kind: Kind, text: &str) -> Option<Once<'_>>
             Some(Once::One(Value::Int(number)))
         }
         Kind::Time => {
-            let milliseconds = duration_up_to(text.as_bytes(), LONGEST)?;
-            Some(Once::One(Value::Time(milliseconds as u32)))
+            let milliseconds = small_duration(text.as_bytes())?;
+            Some(Once::One(Value::Time(milliseconds)))
         }
     }
 }

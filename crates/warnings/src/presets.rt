@@ -9,10 +9,7 @@ use drawings::{DrawnPin, Operand, Place, Side};
 use network::Element;
 use std::alloc::{AllocError, Global};
 use std_blocks::BlockType;
-use words::duration_up_to;
-
-/// The longest duration at a pin, in milliseconds.
-const LONGEST: u64 = 2_147_483_647;
+use words::small_duration;
 
 fn is_timer(block: BlockType) -> bool
     ensures { result ≡ is_timer block }
@@ -34,17 +31,17 @@ fn is_input_named(name: &str, pin: &DrawnPin) -> bool
 }
 
 /// Whether no scan comes this long after another, where each comes `dt` milliseconds after the one before.
-fn is_between_scans(dt: u32, time: u64) -> bool
+fn is_between_scans(dt: u32, time: u32) -> bool
     ensures { result ≡ is_between_scans dt time }
 {
-    dt != 0 && time % dt as u64 != 0
+    dt != 0 && time % dt != 0
 }
 
 /// Whether a word is a duration that ends between two scans.
 fn ends_between_scans(dt: u32, word: &[u8]) -> bool
     ensures { result ≡ ends_between_scans dt word.now }
 {
-    match duration_up_to(word, LONGEST) {
+    match small_duration(word) {
         Some(time) => is_between_scans(dt, time),
         None => false,
     }

@@ -14,5 +14,5 @@ pub use address::{Address, Space};
 pub use durations::{duration_up_to, is_duration};
 pub use names::{block_type, is_identifier, is_name, is_operand, is_plain_name, is_word_char};
 pub use numbers::{is_number, number_up_to};
-pub use small_numbers::small_number;
+pub use small_numbers::{small_duration, small_number};
 pub use text::Text;

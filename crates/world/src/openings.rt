@@ -38,17 +38,6 @@ pub fn are_openings(plant: &Plant, opening: &[Vec<Retained>]) -> bool
     true
 }
 
-/// Equal openings of one resource.
-fn copy_of_opening(alloc: Global, opening: &[Retained]) -> Result<Vec<Retained>, AllocError>
-    ensures { IfOk result (λ copy. copy.items ≡ opening.now) }
-{
-    let mut copy = Vec::with_capacity(alloc, opening.len())?;
-    for retained in opening {
-        copy.push(retained.try_copy()?)?;
-    }
-    Ok(copy)
-}
-
 /// Equal openings.
 pub fn copy_of_openings(
     alloc: Global,
@@ -58,7 +47,7 @@ pub fn copy_of_openings(
 {
     let mut copy = Vec::with_capacity(alloc, opening.len())?;
     for tasks in opening {
-        copy.push(copy_of_opening(alloc, tasks.as_slice())?)?;
+        copy.push(Retained::try_copy_all(alloc, tasks.as_slice())?)?;
     }
     Ok(copy)
 }

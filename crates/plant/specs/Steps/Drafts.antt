@@ -1,8 +1,6 @@
 -- What is known of a plant while its sources are resolved. Its codes have programs and outputs, and no bindings yet.
 use Rattle.std.specs.Prelude.{◌≡◌, ℕ, ◌<◌, List, [], ◌∷◌, ◌++◌, map, slice_get, length, Some, All, Any, Contains, IsTrue}
 use Rattle.std.specs.Borrow.{Bor}
-use Rattle.std.specs.Global.{Global, Vec}
-use Rattle.std.specs.declared.sync.Arc.{Arc}
 use Rattle.std.specs.List.{flat_map, filter, find, AllZip}
 use Rattle.declared_names.specs.declared.declarations.Kind.{Kind}
 use Rattle.declared_names.specs.declared.declarations.Declaration.{Declaration}
@@ -12,7 +10,6 @@ use Rattle.task_codes.specs.declared.binding.Source.TheVariants as source
 use Rattle.task_codes.specs.declared.binding.Binding.{Binding}
 use Rattle.task_codes.specs.declared.task_ref.TaskRef.{TaskRef}
 use Rattle.task_codes.specs.declared.task_output.TaskOutput.{TaskOutput}
-use Rattle.task_codes.specs.declared.task_code.TaskCode.{TaskCode}
 use Rattle.plant_grammar.specs.declared.grammar.tree.Program.{Program}
 use Rattle.plant_grammar.specs.declared.grammar.tree.TaskLine.{TaskLine}
 use Rattle.plant_grammar.specs.declared.grammar.tree.SourceName.{SourceName}
@@ -31,7 +28,7 @@ use Rattle.plant_grammar.specs.Lawful.{use_of, tasks_of, uses_of, binds_of}
 use Rattle.plant.specs.ProgramTypes.{TypeValue}
 use Rattle.declared_names.specs.Kinds.{input_kind_at, kind_of_space}
 use Rattle.plant.specs.PlantValue.{ResourceValue, PlantValue, code_at, AreProducersOf}
-use Rattle.task_codes.specs.CodeValue.{ProgramValue, CodeValue, lists_of, image_kinds, outputs_of, source_kind, bindings_at, IsSoundCode}
+use Rattle.task_codes.specs.CodeValue.{ProgramValue, CodeValue, image_kinds, outputs_of, source_kind, bindings_at, IsSoundCode}
 use Rattle.plant.specs.StandsFor.{runs_in, IsOrigin, IsSourceOf, firsts, mention, task_value}
 
 -- what references point to
@@ -73,10 +70,6 @@ pub record IsResourceDraft (programs : List Program) (r : Resource) (v : Resourc
 -- the instance of a line, if the task of this name runs it
 abbrev pub runs_at : List ℕ → Item → List Use
 runs_at task x = filter (λ u. is_named u.task task) (use_of x)
-
--- the drafts of tasks of a resource, by some program types
-abbrev pub AreDrafts : Resource → List TaskLine → List CodeValue → Type 0
-AreDrafts r tasks drafts = (programs : List Program) × AllZip (IsDraftOf programs r) tasks drafts
 
 -- the instance binds no input twice
 abbrev pub IsOnceBound : Use → Type 0
@@ -179,29 +172,6 @@ Triples {A} {B} {C} R xs ys zs =
 abbrev pub AreFeedsOf : PlantValue → Use → ProgramValue → List Feed → Type 0
 AreFeedsOf plant u p fs = AllZip (IsFeedOf plant p.ladder.declarations) (binds_of u) fs
 
--- the binds of each instance are resolved, by the variables of its program
-abbrev pub AreAllFeeds : PlantValue → List (Bor Use) → List ProgramValue → List (Vec Feed) → Type 0
-AreAllFeeds plant runs programs feeds = Triples (AreFeedsOf plant) (seen runs) programs (lists_of feeds)
-
--- each bind of an instance has an input of its program, and a source of that input's kind
-abbrev pub IsRunFed : PlantValue → Use → ProgramValue → Type 0
-IsRunFed plant u p = All (HasFeed plant p.ladder.declarations) (binds_of u)
-
--- so it is with each of the instances that programs are made of
-abbrev pub AreRunsFed : PlantValue → List Use → List ProgramValue → Type 0
-AreRunsFed plant us ps = (i : ℕ) (u : Use) (p : ProgramValue) → slice_get us i ≡ Some u → slice_get ps i ≡ Some p
-    → IsRunFed plant u p
-
--- and with the instances of each task of a resource
-abbrev pub AreTasksFed : PlantValue → Resource → List TaskLine → List CodeValue → Type 0
-AreTasksFed plant r ts cs = (i : ℕ) (t : TaskLine) (c : CodeValue) → slice_get ts i ≡ Some t → slice_get cs i ≡ Some c
-    → AreRunsFed plant (runs_in r t) c.programs
-
--- and with the tasks of each resource
-abbrev pub AreResourcesFed : PlantValue → List Resource → List ResourceValue → Type 0
-AreResourcesFed plant rs ds = (i : ℕ) (r : Resource) (d : ResourceValue) → slice_get rs i ≡ Some r
-    → slice_get ds i ≡ Some d → AreTasksFed plant r (tasks_of r) d.codes
-
 -- the type of an instance is one of these
 abbrev pub IsTypeKnown : List TypeValue → Use → Type 0
 IsTypeKnown types u = Any (λ t. IsTrue (is_named u.program t.program.name)) types
@@ -248,11 +218,6 @@ pub record IsPlacedBinding (producers : List TaskRef) (f : Feed) (b : Binding) :
   pub place_is : b.place ≡ f.place
   pub source_is : IsPlacedSource producers f.origin b.source
 
--- the bindings of the bound inputs of each program
-abbrev pub AreAllBindings : List TaskRef → List (Vec Feed) → List (Vec Binding) → Type 0
-AreAllBindings producers feeds bindings =
-    AllZip (AllZip (IsPlacedBinding producers)) (lists_of feeds) (lists_of bindings)
-
 -- a code has the programs and outputs of a draft
 pub record HasPrograms (draft code : CodeValue) : Type 0 where
   pub programs_are : code.programs ≡ draft.programs
@@ -276,19 +241,9 @@ pub record IsCodeLinked (plant : PlantValue) (us : List Use) (draft code : CodeV
   pub sound : IsSoundCode code
   pub taken : AreProducersOf plant code
 
--- the code of the draft of a task of a resource, in the plant that is drafted
-abbrev pub IsTaskLinked : List ResourceValue → Resource → TaskLine → CodeValue → CodeValue → Type 0
-IsTaskLinked drafts r t draft code = IsCodeLinked (drafted drafts) (runs_in r t) draft code
-
 -- the codes of drafts of tasks of a resource
 abbrev pub AreCodesLinked : PlantValue → Resource → List TaskLine → List CodeValue → List CodeValue → Type 0
 AreCodesLinked plant r tasks drafts codes = Triples (λ t d c. IsCodeLinked plant (runs_in r t) d c) tasks drafts codes
-
--- the codes of drafts of tasks of a resource, in the plant that is drafted
-abbrev pub AreTasksLinked : List ResourceValue → Resource → List (Bor TaskLine) → List CodeValue
-    → List (Arc TaskCode Global) → Type 0
-AreTasksLinked drafts r tasks task_drafts codes =
-    AreCodesLinked (drafted drafts) r (seen tasks) task_drafts (map (λ c. c.value) codes)
 
 -- a resource with its tasks, and the code of each draft
 pub record IsResourceLinked (plant : PlantValue) (r : Resource) (draft v : ResourceValue) : Type 0 where

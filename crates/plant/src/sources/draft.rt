@@ -1,20 +1,15 @@
 //! What a plant runs, before its sources are resolved: the programs of each task, and their outputs.
 
-ghost use Rattle.std.specs.Prelude.{◌≡◌, ◌≢◌, ◌++◌, All, IfOk, OnOk, IfErr};
-ghost use Rattle.plant.specs.Steps.Found.{TellsOfSource};
-ghost use Rattle.plant_grammar.specs.WordFaults.{IsGrammarFault};
+ghost use Rattle.std.specs.Prelude.{◌≡◌, ◌++◌, All, IfOk, OnOk};
 ghost use Rattle.std.specs.List.{AllZip, flat_map};
-ghost use Rattle.plant_grammar.specs.Lawful.{tasks_of, task_of, uses_of};
-ghost use Rattle.plant_grammar.specs.declared.grammar_fault.GrammarFaultKind.TheVariants.{Memory};
+ghost use Rattle.plant_grammar.specs.Lawful.{tasks_of, task_of, use_of, uses_of};
 ghost use Rattle.plant.specs.StandsFor.{runs_in};
 ghost use Rattle.plant.specs.Steps.Drafts.{seen, runs_at, programs_in, IsProgramOf, IsDraftOf, IsResourceDraft, IsTypeKnown};
 
 use crate::program_type::{ProgramType, type_named};
 use crate::sources::resource_draft::ResourceDraft;
 use crate::sources::task_draft::TaskDraft;
-use plant_grammar::{
-    GrammarFault, GrammarFaultKind, Item, Name, Resource, TaskLine, Use, retained_places,
-};
+use plant_grammar::{Item, Name, Resource, TaskLine, Use, retained_places};
 use std::alloc::{AllocError, Global};
 use std::sync::Arc;
 use task_codes::ProgramInstance;
@@ -41,6 +36,30 @@ pub fn tasks_of<'a>(alloc: Global, resource: &'a Resource) -> Result<Vec<&'a Tas
         push_task(&mut tasks, item)?;
     }
     Ok(tasks)
+}
+
+/// Adds an item if it is an instance.
+fn push_use<'a>(uses: &mut Vec<&'a Use>, item: &'a Item) -> Result<(), AllocError>
+    ensures { OnOk result (seen uses.new.items ≡ seen uses.old.items ++ use_of item.now) }
+{
+    match item {
+        Item::Task(_) => Ok(()),
+        Item::Use(run) => {
+            uses.push(run)?;
+            Ok(())
+        }
+    }
+}
+
+/// The instances of a resource, in order of declaration.
+pub fn uses_of<'a>(alloc: Global, resource: &'a Resource) -> Result<Vec<&'a Use>, AllocError>
+    ensures { IfOk result (λ us. seen us.items ≡ uses_of resource.now) }
+{
+    let mut uses = Vec::new(alloc);
+    for item in &resource.items {
+        push_use(&mut uses, item)?;
+    }
+    Ok(uses)
 }
 
 /// Adds an item if it is an instance that the task of a name runs.
@@ -76,14 +95,12 @@ fn draft_program(
     alloc: Global,
     types: &[ProgramType],
     run: &Use,
-) -> Result<ProgramInstance, GrammarFault>
-    ensures ok { IfOk result (λ p. IsProgramOf (programs_in types.now) run.now p) }
-    ensures refused { IfErr result (λ e. e.kind ≢ Memory → IsTypeKnown types.now run.now → ⊥) }
-    ensures tells { IfErr result (λ e. TellsOfSource e.kind) }
-    ensures value { IfErr result IsGrammarFault }
+) -> Result<ProgramInstance, AllocError>
+    requires { IsTypeKnown types.now run.now }
+    ensures { IfOk result (IsProgramOf (programs_in types.now) run.now) }
 {
     let Some(found) = type_named(types, &run.program) else {
-        return Err(GrammarFault::at(GrammarFaultKind::UnknownName, run.program.line()));
+        unreachable!()
     };
     let name = run.instance.try_text(alloc)?;
     let ladder = Arc::try_clone(found.ladder())?;
@@ -96,11 +113,9 @@ fn draft_programs(
     alloc: Global,
     types: &[ProgramType],
     runs: &[&Use],
-) -> Result<Vec<ProgramInstance>, GrammarFault>
-    ensures ok { IfOk result (λ ps. AllZip (IsProgramOf (programs_in types.now)) (seen runs.now) ps.items) }
-    ensures refused { IfErr result (λ e. e.kind ≢ Memory → All (IsTypeKnown types.now) (seen runs.now) → ⊥) }
-    ensures tells { IfErr result (λ e. TellsOfSource e.kind) }
-    ensures value { IfErr result IsGrammarFault }
+) -> Result<Vec<ProgramInstance>, AllocError>
+    requires { All (IsTypeKnown types.now) (seen runs.now) }
+    ensures { IfOk result (λ ps. AllZip (IsProgramOf (programs_in types.now)) (seen runs.now) ps.items) }
 {
     let mut programs = Vec::new(alloc);
     for run in runs {
@@ -115,11 +130,9 @@ fn draft_task(
     types: &[ProgramType],
     resource: &Resource,
     task: &TaskLine,
-) -> Result<TaskDraft, GrammarFault>
-    ensures ok { IfOk result (λ d. IsDraftOf (programs_in types.now) resource.now task.now d) }
-    ensures refused { IfErr result (λ e. e.kind ≢ Memory → All (IsTypeKnown types.now) (uses_of resource.now) → ⊥) }
-    ensures tells { IfErr result (λ e. TellsOfSource e.kind) }
-    ensures value { IfErr result IsGrammarFault }
+) -> Result<TaskDraft, AllocError>
+    requires { All (IsTypeKnown types.now) (uses_of resource.now) }
+    ensures { IfOk result (IsDraftOf (programs_in types.now) resource.now task.now) }
 {
     let runs = runs_in(alloc, resource, task)?;
     let programs = draft_programs(alloc, types, runs.as_slice())?;
@@ -133,11 +146,9 @@ fn draft_tasks(
     types: &[ProgramType],
     resource: &Resource,
     tasks: &[&TaskLine],
-) -> Result<Vec<TaskDraft>, GrammarFault>
-    ensures ok { IfOk result (λ ds. AllZip (IsDraftOf (programs_in types.now) resource.now) (seen tasks.now) ds.items) }
-    ensures refused { IfErr result (λ e. e.kind ≢ Memory → All (IsTypeKnown types.now) (uses_of resource.now) → ⊥) }
-    ensures tells { IfErr result (λ e. TellsOfSource e.kind) }
-    ensures value { IfErr result IsGrammarFault }
+) -> Result<Vec<TaskDraft>, AllocError>
+    requires { All (IsTypeKnown types.now) (uses_of resource.now) }
+    ensures { IfOk result (λ ds. AllZip (IsDraftOf (programs_in types.now) resource.now) (seen tasks.now) ds.items) }
 {
     let mut drafts = Vec::new(alloc);
     for task in tasks {
@@ -151,11 +162,9 @@ fn draft_resource(
     alloc: Global,
     types: &[ProgramType],
     resource: &Resource,
-) -> Result<ResourceDraft, GrammarFault>
-    ensures ok { IfOk result (λ d. IsResourceDraft (programs_in types.now) resource.now d) }
-    ensures refused { IfErr result (λ e. e.kind ≢ Memory → All (IsTypeKnown types.now) (uses_of resource.now) → ⊥) }
-    ensures tells { IfErr result (λ e. TellsOfSource e.kind) }
-    ensures value { IfErr result IsGrammarFault }
+) -> Result<ResourceDraft, AllocError>
+    requires { All (IsTypeKnown types.now) (uses_of resource.now) }
+    ensures { IfOk result (IsResourceDraft (programs_in types.now) resource.now) }
 {
     let tasks = tasks_of(alloc, resource)?;
     let drafts = draft_tasks(alloc, types, resource, tasks.as_slice())?;
@@ -168,11 +177,9 @@ pub fn draft_resources(
     alloc: Global,
     types: &[ProgramType],
     resources: &[Resource],
-) -> Result<Vec<ResourceDraft>, GrammarFault>
-    ensures ok { IfOk result (λ ds. AllZip (IsResourceDraft (programs_in types.now)) resources.now ds.items) }
-    ensures refused { IfErr result (λ e. e.kind ≢ Memory → All (IsTypeKnown types.now) (flat_map uses_of resources.now) → ⊥) }
-    ensures tells { IfErr result (λ e. TellsOfSource e.kind) }
-    ensures value { IfErr result IsGrammarFault }
+) -> Result<Vec<ResourceDraft>, AllocError>
+    requires { All (IsTypeKnown types.now) (flat_map uses_of resources.now) }
+    ensures { IfOk result (λ ds. AllZip (IsResourceDraft (programs_in types.now)) resources.now ds.items) }
 {
     let mut drafts = Vec::new(alloc);
     for resource in resources {

@@ -1,24 +1,22 @@
 //! The codes of tasks: their drafts with each source resolved.
 
-ghost use Rattle.std.specs.Prelude.{◌≡◌, ◌≢◌, ◌<◌, List, IfOk, All, length, map, IfErr};
-ghost use Rattle.plant.specs.Steps.Found.{TellsOfSource};
-ghost use Rattle.plant_grammar.specs.WordFaults.{IsGrammarFault};
-ghost use Rattle.plant_grammar.specs.declared.grammar_fault.GrammarFaultKind.TheVariants.{Memory};
+ghost use Rattle.std.specs.Prelude.{◌≡◌, ◌<◌, ◌∷◌, ◌++◌, [], List, IfOk, OnOk, All, length, map};
 ghost use Rattle.std.specs.List.{AllZip};
 ghost use Rattle.plant_grammar.specs.declared.grammar.tree.Program.{Program};
-ghost use Rattle.plant_grammar.specs.Lawful.{tasks_of, uses_of};
-ghost use Rattle.plant.specs.StandsFor.{runs_in, task_value};
-ghost use Rattle.plant.specs.Steps.Drafts.{seen, drafted, AreDrafts, IsResourceDraft, IsReady, IsOnceBound, IsCodeLinked, IsTaskLinked, AreTasksLinked, IsResourceLinked, AreResourcesLinked, AreDraftsApart, AreRunsFed, AreTasksFed, AreResourcesFed};
+ghost use Rattle.task_codes.specs.CodeValue.{lists_of};
+ghost use Rattle.plant.specs.StandsFor.{task_value};
+ghost use Rattle.plant.specs.Steps.Drafts.{seen, drafted, Triples, IsResourceDraft, IsReady, IsOnceBound, IsCodeLinked, IsResourceLinked, AreResourcesLinked};
+ghost use Rattle.plant.specs.Steps.FedUses.{fed_in, runs_in_fed, AreRunsFed, AreTasksFed, AreTasksLinked, IsResourceFed};
 
 use crate::plant_resource::PlantResource;
-use crate::sources::draft::{runs_in, tasks_of};
-use crate::sources::feeds::feeds_of;
+use crate::sources::draft::tasks_of;
+use crate::sources::fed_use::FedUse;
 use crate::sources::producers::{bindings_of, expected_of, producers_of};
 use crate::sources::resource_draft::ResourceDraft;
 use crate::sources::retained::retained_of;
 use crate::sources::task_draft::TaskDraft;
 use crate::task::Task;
-use plant_grammar::{GrammarFault, Resource, TaskLine, Use};
+use plant_grammar::{Resource, TaskLine};
 use std::alloc::{AllocError, Global};
 use std::sync::Arc;
 use task_codes::{ProgramInstance, TaskCode};
@@ -40,65 +38,86 @@ fn link_runs(
     alloc: Global,
     drafts: &[ResourceDraft],
     draft: &TaskDraft,
-    runs: &[&Use],
-) -> Result<TaskCode, GrammarFault>
-    requires many { length runs.now ≡ length draft.now.programs }
-    requires once { All IsOnceBound (seen runs.now) }
-    ensures ok { IfOk result (IsCodeLinked (drafted drafts.now) (seen runs.now) draft.now) }
-    ensures refused { IfErr result (λ e. e.kind ≢ Memory → AreDraftsApart drafts.now → AreRunsFed (drafted drafts.now) (seen runs.now) draft.now.programs → ⊥) }
-    ensures tells { IfErr result (λ e. TellsOfSource e.kind) }
-    ensures value { IfErr result IsGrammarFault }
+    fed: &[&FedUse<'_>],
+) -> Result<TaskCode, AllocError>
+    requires once { All IsOnceBound (runs_in_fed (seen fed.now)) }
+    requires fed { AreRunsFed (drafted drafts.now) draft.now.programs (seen fed.now) }
+    ensures { IfOk result (IsCodeLinked (drafted drafts.now) (runs_in_fed (seen fed.now)) draft.now) }
 {
-    let feeds = feeds_of(alloc, drafts, draft.programs(), runs)?;
-    let producers = producers_of(alloc, feeds.as_slice())?;
+    let producers = producers_of(alloc, fed)?;
     let expected = expected_of(alloc, drafts, producers.as_slice())?;
-    let bindings = bindings_of(alloc, producers.as_slice(), feeds.as_slice())?;
+    let bindings = bindings_of(alloc, producers.as_slice(), fed)?;
     let programs = copies(alloc, draft.programs())?;
     let outputs = Vec::from_slice(alloc, draft.outputs())?;
     let retained = retained_of(alloc, draft.programs())?;
     Ok(TaskCode::new(programs, bindings, producers, expected, outputs, retained))
 }
 
-/// The code of a task of a resource.
+/// Adds an instance if a task runs it.
+fn push_fed<'a, 'b>(
+    runs: &mut Vec<&'a FedUse<'b>>,
+    task: &TaskLine,
+    run: &'a FedUse<'b>,
+) -> Result<(), AllocError>
+    ensures { OnOk result (seen runs.new.items ≡ seen runs.old.items ++ fed_in task.now (run.now ∷ [])) }
+{
+    if !run.task().is_same(&task.name) {
+        return Ok(());
+    }
+    runs.push(run)?;
+    Ok(())
+}
+
+/// Those of the instances that a task runs.
+fn fed_in<'a, 'b>(
+    alloc: Global,
+    fed: &'a [FedUse<'b>],
+    task: &TaskLine,
+) -> Result<Vec<&'a FedUse<'b>>, AllocError>
+    ensures { IfOk result (λ us. seen us.items ≡ fed_in task.now fed.now) }
+{
+    let mut runs = Vec::new(alloc);
+    for run in fed {
+        push_fed(&mut runs, task, run)?;
+    }
+    Ok(runs)
+}
+
+/// The code of a task of a resource with these instances.
 fn link_task(
     alloc: Global,
     drafts: &[ResourceDraft],
-    resource: &Resource,
+    fed: &[FedUse<'_>],
     task: &TaskLine,
     draft: &TaskDraft,
-) -> Result<Arc<TaskCode>, GrammarFault>
-    requires many { length (runs_in resource.now task.now) ≡ length draft.now.programs }
-    requires once { All IsOnceBound (runs_in resource.now task.now) }
-    ensures ok { IfOk result (λ c. IsTaskLinked drafts.now resource.now task.now draft.now c.value) }
-    ensures refused { IfErr result (λ e. e.kind ≢ Memory → AreDraftsApart drafts.now → AreRunsFed (drafted drafts.now) (runs_in resource.now task.now) draft.now.programs → ⊥) }
-    ensures tells { IfErr result (λ e. TellsOfSource e.kind) }
-    ensures value { IfErr result IsGrammarFault }
+) -> Result<Arc<TaskCode>, AllocError>
+    requires once { All IsOnceBound (runs_in_fed fed.now) }
+    requires fed { AreRunsFed (drafted drafts.now) draft.now.programs (fed_in task.now fed.now) }
+    ensures { IfOk result (λ c. IsCodeLinked (drafted drafts.now) (runs_in_fed (fed_in task.now fed.now)) draft.now c.value) }
 {
-    let runs = runs_in(alloc, resource, task)?;
+    let runs = fed_in(alloc, fed, task)?;
     let code = link_runs(alloc, drafts, draft, runs.as_slice())?;
     let shared = Arc::new(alloc, code)?;
     Ok(shared)
 }
 
-/// The codes of tasks of a resource.
+/// The codes of tasks of a resource with these instances.
 fn link_tasks(
     alloc: Global,
     drafts: &[ResourceDraft],
-    resource: &Resource,
+    fed: &[FedUse<'_>],
     tasks: &[&TaskLine],
     task_drafts: &[TaskDraft],
-) -> Result<Vec<Arc<TaskCode>>, GrammarFault>
-    requires known { AreDrafts resource.now (seen tasks.now) task_drafts.now }
-    requires once { All IsOnceBound (uses_of resource.now) }
+) -> Result<Vec<Arc<TaskCode>>, AllocError>
+    requires many { length tasks.now ≡ length task_drafts.now }
+    requires once { All IsOnceBound (runs_in_fed fed.now) }
+    requires fed { AreTasksFed (drafted drafts.now) (seen tasks.now) task_drafts.now fed.now }
     ensures many { IfOk result (λ cs. length cs.items ≡ length tasks.now) }
-    ensures each { IfOk result (λ cs. AreTasksLinked drafts.now resource.now tasks.now task_drafts.now cs.items) }
-    ensures refused { IfErr result (λ e. e.kind ≢ Memory → AreDraftsApart drafts.now → AreTasksFed (drafted drafts.now) resource.now (seen tasks.now) task_drafts.now → ⊥) }
-    ensures tells { IfErr result (λ e. TellsOfSource e.kind) }
-    ensures value { IfErr result IsGrammarFault }
+    ensures each { IfOk result (λ cs. AreTasksLinked drafts.now fed.now tasks.now task_drafts.now cs.items) }
 {
     let mut codes = Vec::new(alloc);
     for (i, draft) in task_drafts.iter().enumerate() {
-        let code = link_task(alloc, drafts, resource, tasks[i], draft)?;
+        let code = link_task(alloc, drafts, fed, tasks[i], draft)?;
         codes.push(code)?;
     }
     Ok(codes)
@@ -122,17 +141,16 @@ fn link_resource(
     alloc: Global,
     drafts: &[ResourceDraft],
     resource: &Resource,
+    fed: &[FedUse<'_>],
     draft: &ResourceDraft,
-) -> Result<PlantResource, GrammarFault>
+) -> Result<PlantResource, AllocError>
     requires known { (programs : List Program) × IsResourceDraft programs resource.now draft.now }
     requires ready { IsReady resource.now }
-    ensures ok { IfOk result (λ v. IsResourceLinked (drafted drafts.now) resource.now draft.now v) }
-    ensures refused { IfErr result (λ e. e.kind ≢ Memory → AreDraftsApart drafts.now → AreTasksFed (drafted drafts.now) resource.now (tasks_of resource.now) draft.now.codes → ⊥) }
-    ensures tells { IfErr result (λ e. TellsOfSource e.kind) }
-    ensures value { IfErr result IsGrammarFault }
+    requires fed { IsResourceFed (drafted drafts.now) resource.now draft.now fed.now }
+    ensures { IfOk result (IsResourceLinked (drafted drafts.now) resource.now draft.now) }
 {
     let lines = tasks_of(alloc, resource)?;
-    let codes = link_tasks(alloc, drafts, resource, lines.as_slice(), draft.tasks())?;
+    let codes = link_tasks(alloc, drafts, fed, lines.as_slice(), draft.tasks())?;
     let tasks = declared_tasks(alloc, lines.as_slice())?;
     let name = resource.name.try_text(alloc)?;
     Ok(PlantResource::new(name, tasks, codes))
@@ -143,18 +161,18 @@ pub fn link_resources(
     alloc: Global,
     drafts: &[ResourceDraft],
     resources: &[Resource],
-) -> Result<Vec<PlantResource>, GrammarFault>
+    fed: &[Vec<FedUse<'_>>],
+) -> Result<Vec<PlantResource>, AllocError>
     requires known { (programs : List Program) × AllZip (IsResourceDraft programs) resources.now drafts.now }
     requires ready { All IsReady resources.now }
+    requires many { length fed.now ≡ length resources.now }
+    requires fed { Triples (IsResourceFed (drafted drafts.now)) resources.now drafts.now (lists_of fed.now) }
     ensures many { IfOk result (λ vs. length vs.items ≡ length resources.now) }
     ensures each { IfOk result (λ vs. AreResourcesLinked drafts.now resources.now vs.items) }
-    ensures refused { IfErr result (λ e. e.kind ≢ Memory → AreDraftsApart drafts.now → AreResourcesFed (drafted drafts.now) resources.now drafts.now → ⊥) }
-    ensures tells { IfErr result (λ e. TellsOfSource e.kind) }
-    ensures value { IfErr result IsGrammarFault }
 {
     let mut linked = Vec::new(alloc);
     for (i, draft) in drafts.iter().enumerate() {
-        let resource = link_resource(alloc, drafts, &resources[i], draft)?;
+        let resource = link_resource(alloc, drafts, &resources[i], &fed[i], draft)?;
         linked.push(resource)?;
     }
     Ok(linked)

@@ -5,8 +5,10 @@ ghost use Rattle.std.specs.List.{AllZip, flat_map};
 ghost use Rattle.plant.specs.PlantValue.{code_at};
 ghost use Rattle.task_codes.specs.CodeValue.{lists_of};
 ghost use Rattle.plant.specs.StandsFor.{firsts};
-ghost use Rattle.plant.specs.Steps.Drafts.{drafted, AddsFirsts, tasks_taken, all_taken, AreKindsOf, IsPlacedBinding, AreAllBindings, IsTakenFrom, IsTaskOf};
+ghost use Rattle.plant.specs.Steps.Drafts.{seen, drafted, AddsFirsts, tasks_taken, all_taken, AreKindsOf, IsPlacedBinding, IsTakenFrom, IsTaskOf};
+ghost use Rattle.plant.specs.Steps.FedUses.{feeds_in};
 
+use crate::sources::fed_use::FedUse;
 use crate::sources::feed::{Feed, Origin};
 use crate::sources::resource_draft::ResourceDraft;
 use crate::sources::task_draft::TaskDraft;
@@ -48,13 +50,13 @@ fn push_all_taken(producers: &mut Vec<TaskRef>, feeds: &[Feed]) -> Result<(), Al
     Ok(())
 }
 
-/// The tasks from which the programs of a task take, in order of first mention.
-pub fn producers_of(alloc: Global, feeds: &[Vec<Feed>]) -> Result<Vec<TaskRef>, AllocError>
-    ensures { IfOk result (λ ps. ps.items ≡ firsts (all_taken (lists_of feeds.now))) }
+/// The tasks from which instances take, in order of first mention.
+pub fn producers_of(alloc: Global, fed: &[&FedUse<'_>]) -> Result<Vec<TaskRef>, AllocError>
+    ensures { IfOk result (λ ps. ps.items ≡ firsts (all_taken (feeds_in (seen fed.now)))) }
 {
     let mut producers = Vec::new(alloc);
-    for of_program in feeds {
-        push_all_taken(&mut producers, of_program)?;
+    for run in fed {
+        push_all_taken(&mut producers, run.feeds())?;
     }
     Ok(producers)
 }
@@ -142,18 +144,18 @@ fn bindings(
     Ok(bindings)
 }
 
-/// The bindings of the programs of a task.
+/// The bindings of instances.
 pub fn bindings_of(
     alloc: Global,
     producers: &[TaskRef],
-    feeds: &[Vec<Feed>],
+    fed: &[&FedUse<'_>],
 ) -> Result<Vec<Vec<Binding>>, AllocError>
-    requires { All (All (IsTakenFrom producers.now)) (lists_of feeds.now) }
-    ensures { IfOk result (λ bs. AreAllBindings producers.now feeds.now bs.items) }
+    requires { All (All (IsTakenFrom producers.now)) (feeds_in (seen fed.now)) }
+    ensures { IfOk result (λ bs. AllZip (AllZip (IsPlacedBinding producers.now)) (feeds_in (seen fed.now)) (lists_of bs.items)) }
 {
     let mut all = Vec::new(alloc);
-    for of_program in feeds {
-        all.push(bindings(alloc, producers, of_program)?)?;
+    for run in fed {
+        all.push(bindings(alloc, producers, run.feeds())?)?;
     }
     Ok(all)
 }

@@ -11,7 +11,7 @@ ghost use Rattle.plant.specs.SourceFaults.{HasFirstSourceFault};
 
 use crate::plant::Plant;
 use crate::sources::draft::draft_resources;
-use crate::sources::feeds::check_sources;
+use crate::sources::feeds::fed_resources;
 use crate::sources::link::link_resources;
 use crate::sources::reading::Reading;
 use plant_grammar::GrammarFault;
@@ -31,7 +31,7 @@ pub fn resolve(alloc: Global, reading: &Reading) -> Result<Plant, GrammarFault>
     let types = reading.types();
     let resources = reading.resources();
     let drafts = draft_resources(alloc, types, resources)?;
-    check_sources(drafts.as_slice(), types, resources)?;
-    let linked = link_resources(alloc, drafts.as_slice(), resources)?;
+    let fed = fed_resources(alloc, drafts.as_slice(), types, resources)?;
+    let linked = link_resources(alloc, drafts.as_slice(), resources, fed.as_slice())?;
     Ok(Plant::new(linked))
 }

@@ -11,11 +11,10 @@ use crate::steps::circuit::Circuit;
 use crate::steps::fused::fused;
 use crate::steps::lone_rung::lone_rung;
 use crate::steps::rows::Rows;
-use crate::steps::same_elements::{are_same_elements, are_same_places};
 use crate::steps::steps::steps_of;
 use declared_names::{Declarations, names_of_one_place_are_one};
 use drawings::Place;
-use network::{Element, Network, Rails};
+use network::{Element, Network, Rails, are_same_elements, are_same_places};
 use scan_steps::BoundCoil;
 use std::alloc::{AllocError, Global};
 

@@ -16,8 +16,8 @@ use drawings::{Drawing, Place};
 use ladder_text::ReadText;
 use lists::are_same;
 use name_faults::Guess;
-use needed_networks::{has_elements, is_closed};
-use network::{Graph, Network};
+use needed_networks::is_closed;
+use network::{Graph, Network, are_same_elements};
 use power_flow::Ladder;
 use std::alloc::{AllocError, Global};
 
@@ -44,7 +44,7 @@ fn are_joined_rails(rails: &[Place], first: &[Place], second: &[Place]) -> bool
 fn is_same_network(network: &Network, other: &Network) -> bool
     ensures { IsTrue result → network.now ≡ other.now }
 {
-    has_elements(network, other.elements())
+    are_same_elements(network.elements(), other.elements())
 }
 
 fn are_same_networks(networks: &[Network], others: &[Network]) -> bool

@@ -8,4 +8,4 @@ returns-in-Some-3-clause-networks c =
     let graph = c.in-Some.graph in
     let ladder = subst (λ made. IfSome made (IsLadderOfGraph c.in-Some-2.declarations graph)) c.in-Some-3.is c.in_ok-ladder.ensures in
     slice_networks c.args.omitted.now c.args.ladder.now.networks c.in-Some-3.ladder.networks c.args.rails.now graph.rails graph.networks
-    (sym c.rails.ensures ∙ c.are_same_rails.ensures.0 c.if-not-are_same_rails.false) (sym c.networks.ensures.networks ∙ c.are_kept.ensures c.if-not-are_kept.false) ladder.1 c.requires
+    (sym c.rails.ensures ∙ c.are_same_places.ensures.0 c.if-not-are_same_places.false) (sym c.networks.ensures.networks ∙ c.are_kept.ensures c.if-not-are_kept.false) ladder.1 c.requires

@@ -8,10 +8,10 @@ loop-tasks-preserved c =
     let xs = c.args.opening.now in
     let i = c.loop-tasks.tasks-index in
     let s = c.tasks-item.result in
-    let value : c.in_ok-copy_of_opening.field-0.items ≡ s.items = c.in_ok-copy_of_opening.ensures ∙ c.as_slice.ensures.value in
+    let value : c.in_ok-try_copy_all.field-0.items ≡ s.items = c.in_ok-try_copy_all.ensures ∙ c.as_slice.ensures.value in
     ap lists_of c.in_ok-push.ensures.items
-    ∙ map-append (λ v. v.items) c.loop-tasks.copy.items (c.in_ok-copy_of_opening.field-0 ∷ [])
-    ∙ ap (λ l. l ++ c.in_ok-copy_of_opening.field-0.items ∷ []) c.loop-tasks.invariant
+    ∙ map-append (λ v. v.items) c.loop-tasks.copy.items (c.in_ok-try_copy_all.field-0 ∷ [])
+    ∙ ap (λ l. l ++ c.in_ok-try_copy_all.field-0.items ∷ []) c.loop-tasks.invariant
     ∙ ap (λ v. lists_of (take i xs) ++ v ∷ []) value
     ∙ sym (map-append (λ v. v.items) (take i xs) (s ∷ []))
     ∙ ap (λ x. lists_of (take i xs ++ x ∷ [])) c.tasks-item.is

@@ -8,14 +8,14 @@ use Rattle.task_codes.specs.CodeValue.{ProgramValue}
 use Rattle.plant.proofs.Drafting.{program_made}
 use Rattle.plant.proofs.sources.draft.draft_program.Goals as goal
 
-pub returns-clause-ok : goal.returns-clause-ok
-returns-clause-ok c =
+pub returns : goal.returns
+returns c =
     let found : find (λ (t : TypeValue). is_named c.args.run.now.program t.program.name) c.args.types.now ≡ Some c.in-Some.found.now = search rules in
     let kept : c.new.result.ladder ≡ c.in-Some.found.now.ladder = ap (λ (p : ProgramValue). p.ladder) c.new.ensures ∙ c.in_ok-ladder.ensures ∙ c.ladder.ensures.ladder in
     program_made c.args.types.now c.args.run.now c.in-Some.found.now c.new.result found c.ladder.ensures.drawn (ap (λ (p : ProgramValue). p.name) c.new.ensures ∙ c.in_ok-name.ensures) kept
     (ap (λ (p : ProgramValue). p.retained) c.new.ensures ∙ rw c.program.ensures at c.in_ok-retained.ensures)
 
-pub returns-in_default-clause-refused : goal.returns-in_default-clause-refused
-returns-in_default-clause-refused c = λ other known.
+pub unreachable-requires : goal.unreachable-requires
+unreachable-requires c =
     let none : find (λ (t : TypeValue). is_named c.args.run.now.program t.program.name) c.args.types.now ≡ None = search rules in
-    type_found c.args.types.now c.args.run.now known none
+    type_found c.args.types.now c.args.run.now c.requires none

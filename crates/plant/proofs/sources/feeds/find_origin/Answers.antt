@@ -1,8 +1,10 @@
+use Rattle.std.proofs.Common.{[]}
 use Rattle.plant.proofs.sources.feeds.find_origin.Goals as goal
 use Rattle.plant.proofs.Sourcing.{no_origin}
+use Rattle.plant.proofs.ToldSources.{origin_missing}
 use Rattle.plant.specs.Steps.Drafts.{drafted, HasNoOrigin}
 use Rattle.plant.specs.Steps.Drafts.{AreDraftsApart}
-use Rattle.plant.specs.Steps.SourceFaults.{IsOriginMissing}
+use Rattle.plant.specs.Steps.SourceFaults.{IsOriginMissing, IsUnknownOn}
 use Rattle.lists.proofs.Results.{kept_fault}
 
 pub returns-in_err-task-in-Output-clause-refused : goal.returns-in_err-task-in-Output-clause-refused
@@ -12,5 +14,5 @@ returns-in_err-task-in-Output-clause-refused c =
 
 pub returns-in_err-task-in-Output-clause-missing : goal.returns-in_err-task-in-Output-clause-missing
 returns-in_err-task-in-Output-clause-missing c =
-    kept_fault c.in_err-task-in-Output.field-0.0 (λ e. IsOriginMissing (drafted c.args.drafts.now) c.args.source.now c.args.lines e.line) c.from_residual.result c.from_residual.ensures.1
-    (rw c.in-Output.is c.in_err-task-in-Output.ensures.missing)
+    kept_fault c.in_err-task-in-Output.field-0.0 (λ e. IsUnknownOn (λ line. IsOriginMissing (drafted c.args.drafts.now) c.args.source.now c.args.lines line) e) c.from_residual.result c.from_residual.ensures.1
+    (rw c.in-Output.is (origin_missing (drafted c.args.drafts.now) _ _ [] c.args.lines c.in_err-task-in-Output.field-0.0 c.in_err-task-in-Output.ensures.missing))

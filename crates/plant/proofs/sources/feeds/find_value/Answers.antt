@@ -6,7 +6,7 @@ use Rattle.task_codes.specs.CodeValue.{ProgramValue, CodeValue}
 use Rattle.plant_grammar.specs.Names.{IsAt}
 use Rattle.lists.proofs.Places.{some_same}
 use Rattle.std.proofs.lemmas.Option.{slice_get_within}
-use Rattle.std.proofs.Common.{rules, ◌≡◌, ◌∙◌, ◌<◌, length, sym, subst, inl, inr}
+use Rattle.std.proofs.Common.{rules, ◌≡◌, ◌∙◌, ◌<◌, length, refl, sym, subst, inl, inr}
 
 pub returns-in_default-find_instance-clause-refused : goal.returns-in_default-find_instance-clause-refused
 returns-in_default-find_instance-clause-refused c = λ apart.
@@ -64,7 +64,7 @@ returns-in_default-find_instance-clause-missing c =
     let d = c.index-drafts-position.result in
     let found = rw c.as_str.ensures at c.in-Some.ensures in
     let at = read_at (λ (r : ResourceValue). r.name) drafts c.args.resource.now k found.0 d found.1 c.index-drafts-position.is in
-    inr (inl (k, d, at, (λ m n is. (rw (c.tasks-tasks.ensures, c.as_str-2.ensures) at c.in_default-find_instance.ensures) m n is), c.unknown-in_default-find_instance.ensures.line))
+    inr (inl (k, d, at, (λ m n is. (rw (c.tasks-tasks.ensures, c.as_str-2.ensures) at c.in_default-find_instance.ensures) m n is), refl))
 
 pub returns-in_default-find_output-clause-missing : goal.returns-in_default-find_output-clause-missing
 returns-in_default-find_output-clause-missing c =
@@ -74,4 +74,4 @@ returns-in_default-find_output-clause-missing c =
     let found = rw c.as_str.ensures at c.in-Some.ensures in
     let at = read_at (λ (r : ResourceValue). r.name) drafts c.args.resource.now k found.0 d found.1 c.index-drafts-position.is in
     let run = rw (c.tasks-tasks.ensures, c.as_str-2.ensures) at c.in-Some-find_instance.ensures in
-    inr (inr (k, d, at, c.in-Some-find_instance.task, c.in-Some-find_instance.program, run, c.unknown-in_default-find_output.ensures.line))
+    inr (inr (k, d, at, c.in-Some-find_instance.task, c.in-Some-find_instance.program, run, refl))

@@ -1,13 +1,16 @@
+use Rattle.plant_grammar.specs.declared.grammar.tree.Use.{Use}
+use Rattle.plant_grammar.specs.Names.{is_named}
+use Rattle.plant.specs.Steps.Drafts.{IsOnceBound}
+use Rattle.plant.specs.Steps.FedUses.{runs_in_fed}
+use Rattle.plant.proofs.FedUses.{runs_in_fed-fed_in}
+use Rattle.plant.proofs.Zips.{all_filter}
 use Rattle.plant.proofs.sources.link.link_task.Goals as goal
-use Rattle.plant.specs.Steps.Drafts.{drafted, AreRunsFed}
-use Rattle.plant.specs.StandsFor.{runs_in}
-use Rattle.plant.specs.Steps.Drafts.{AreDraftsApart}
-use Rattle.std.proofs.Common.{◌≢◌}
-use Rattle.lists.proofs.Results.{kept_fault}
-use Rattle.plant_grammar.specs.declared.grammar_fault.GrammarFaultKind.TheVariants.{Memory}
 
-pub returns-in_err-code-clause-refused : goal.returns-in_err-code-clause-refused
-returns-in_err-code-clause-refused c =
-    let drafts = c.args.drafts.now in
-    kept_fault c.in_err-code.field-0.0 (λ e. e.kind ≢ Memory → AreDraftsApart drafts → AreRunsFed (drafted drafts) (runs_in c.args.resource.now c.args.task.now) c.args.draft.now.programs → ⊥) c.from_residual-in_err-code.result c.from_residual-in_err-code.ensures.1
-    (λ other apart. rw (c.as_slice.ensures.value, c.in_ok-runs.ensures) at (c.in_err-code.ensures.refused other apart))
+pub link_runs-requires-clause-once : goal.link_runs-requires-clause-once
+link_runs-requires-clause-once c =
+    let fed = c.args.fed.now in
+    let t = c.args.task.now in
+    rw (c.as_slice.ensures.value, c.in_ok-runs.ensures, runs_in_fed-fed_in fed t) (all_filter IsOnceBound (λ (u : Use). is_named u.task t.name) (runs_in_fed fed) c.requires.once)
+
+pub link_runs-requires-clause-fed : goal.link_runs-requires-clause-fed
+link_runs-requires-clause-fed c = rw (c.as_slice.ensures.value, c.in_ok-runs.ensures) c.requires.fed

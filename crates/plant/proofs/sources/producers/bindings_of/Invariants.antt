@@ -1,7 +1,9 @@
 use Rattle.std.proofs.Common.{take, map}
+use Rattle.std.specs.Borrow.{Bor}
 use Rattle.std.specs.List.{AllZip}
 use Rattle.plant.specs.Steps.Drafts.{IsPlacedBinding}
+use Rattle.plant.specs.Steps.FedUses.{FedUseValue, feeds_in}
 use Rattle.plant.proofs.sources.producers.bindings_of.Given as goal
 
-abbrev pub invariant-loop-of_program : goal.invariant-loop-of_program
-invariant-loop-of_program l = AllZip (AllZip (IsPlacedBinding l.producers)) (map (λ f. f.items) (take l.of_program-index l.feeds)) (map (λ b. b.items) l.all.items)
+abbrev pub invariant-loop-run : goal.invariant-loop-run
+invariant-loop-run l = AllZip (AllZip (IsPlacedBinding l.producers)) (feeds_in (map (λ (u : Bor FedUseValue). u.now) (take l.run-index l.fed))) (map (λ b. b.items) l.all.items)

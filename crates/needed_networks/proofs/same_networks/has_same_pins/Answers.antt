@@ -1,9 +1,0 @@
-use Rattle.std.proofs.Common.{sym, refl, ◌∙◌}
-use Rattle.needed_networks.proofs.Kept.{equal_if_told}
-use Rattle.needed_networks.proofs.same_networks.has_same_pins.Goals as goal
-
-pub returns : goal.returns
-returns c = λ on.
-    sym c.as_slice.ensures
-    ∙ equal_if_told c.as_slice.result.now c.as_slice-2.result.now c.are_same.result c.are_same.ensures (λ x y answer. rw (← answer.shows.0, ← answer.shows.1) (answer.says.met refl)) on
-    ∙ c.as_slice-2.ensures

@@ -1,5 +1,0 @@
-use Rattle.lists.proofs.Alike.{equal_as_told}
-use Rattle.power_flow.proofs.steps.same_elements.are_same_elements.Goals as goal
-
-pub returns : goal.returns
-returns c = equal_as_told _ _ _ c.are_same.ensures (λ x y told answer. rw (← answer.shows.0, ← answer.shows.1) answer.says.met)
