@@ -61,7 +61,7 @@ pub struct FileRow<R: Files<File = File> + Alloc<A = Global> + Clone + Drop> {
     rt: R,
     path: String,
     /// The first file, whose lock is kept, where it is there and another one is the last.
-    first: Option<SystemFile>,
+    first: Option<FileNotes<SystemFile>>,
     notes: FileNotes<SystemFile>,
 }
 
@@ -273,11 +273,11 @@ fn lock_first<R: Files<File = File>>(
     rt: &R,
     path: &str,
     number: u64,
-) -> Result<Option<SystemFile>, RowFault> {
+) -> Result<Option<FileNotes<SystemFile>>, RowFault> {
     if number == 0 || !is_there(rt, path)? {
         return Ok(None);
     }
-    Ok(Some(SystemFile::open(rt, path)?))
+    Ok(Some(FileNotes::new(SystemFile::open(rt, path)?)))
 }
 
 impl<R: Files<File = File> + Alloc<A = Global> + Clone + Drop> FileRow<R> {
