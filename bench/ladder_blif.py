@@ -1,8 +1,8 @@
 #!/usr/bin/env python3
-"""bench/ladder_blif.py DRAWING NAME [--dt MS]: writes, as BLIF, the circuit whose output is on where NAME is TRUE after a scan.
+"""bench/ladder_blif.py DRAWING CLAIM [--dt MS]: writes, as BLIF, the circuit whose output is on where CLAIM, NAME or N>5, is so after a scan.
 
 Written from the rules alone: the model's reader (tests/model/rules) tells what stands where, and what a scan does is done here with
-gates in the place of bits. So another checker (`berkeley-abc -c "read_blif F; strash; pdr"`) answers the claim that NAME is never TRUE.
+gates in the place of bits. So another checker (`berkeley-abc -c "read_blif F; strash; pdr"`) answers whether it never is.
 """
 import argparse
 import os
@@ -299,7 +299,7 @@ class Scan:
 
 
 class Circuit:
-    """The circuit of a claim: its output is on where a run whose scans all leave TRUE what is given sets the claim's variable."""
+    """The circuit of a claim: its output is on where the claim is so after a run after each of whose scans what is given is."""
 
     def __init__(self, question, claim):
         self.gates, ladder = Gates(), question.part()
@@ -313,13 +313,25 @@ class Circuit:
         if question.kept is not None:
             restarts = self.input()
             state.update((key, self.gates.choose(restarts, first[key], before[key])) for key in changing if key not in question.kept)
-        state.update((name, self.input()) for name in question.free_in(ladder))
-        kinds = {words.fold(it.name): it.kind for it in ladder.declarations}
+        self.kinds = kinds = {words.fold(it.name): it.kind for it in ladder.declarations}
+        free = question.free_in(ladder)
+        state.update((it.name, [self.input() for _ in range(SIZES[kinds[it.name]])] if it.is_number else self.input()) for it in free)
+        in_ranges = [self.is_so(state, it.name, sign, end) for it in free if it.is_number for sign, end in ((">=", it.least), ("<=", it.greatest))]
         state.update((name, word(value, kinds[name])) for name, value in question.held.items())
         Scan(ladder, self.gates, state, question.elapsed).run()
-        self.now_met = self.gates.all_of([self.met, *(state[it] for it in question.given)])
-        self.bad = self.gates.both(self.now_met, state[claim])
+        self.now_met = self.gates.all_of([self.met, *in_ranges, *(self.is_so(state, it.name, it.sign, it.bound) for it in question.given)])
+        self.bad = self.gates.both(self.now_met, self.is_so(state, claim.name, claim.sign, claim.bound))
         self.latches = [it for key in changing for it in zip(bits_of(state[key]), bits_of(before[key]))]
+
+    def is_so(self, state, name, sign, bound):
+        """Whether a BOOL is TRUE, or a number compares so."""
+        if not sign:
+            return state[name]
+        kind, value = self.kinds[name], state[name]
+        at_most = self.gates.int_at_most if kind == "INT" else self.gates.at_most
+        below, above = at_most(value, word(bound, kind)), at_most(word(bound, kind), value)
+        signals = {"<": negated(above), "<=": below, "=": self.gates.both(below, above), ">=": above, ">": negated(below)}
+        return negated(signals["="]) if sign == "<>" else signals[sign]
 
     def fresh(self, value):
         return [self.gates.input() for _ in value] if isinstance(value, list) else self.gates.input()
@@ -355,21 +367,21 @@ def copied(name, signal):
 
 
 def blif_of(ladder, claim, options=None, held=()):
-    """The claim of a variable's name about a ladder, with options and held inputs as words of the program tell them."""
+    """A claim about a ladder, with options and inputs as words of the program tell them."""
     options = {"--never": [claim], "--by": "induction", **(options or {})}
     question = question_of_drawing(ladder, options, list(held), kept_by_restarts(ladder))
-    return "".join(f"{line}\n" for line in Circuit(question, words.fold(claim)).blif())
+    return "".join(f"{line}\n" for line in Circuit(question, question.claims[0]).blif())
 
 
 def main():
     asked = argparse.ArgumentParser(description="Writes a claim about a drawing as BLIF.")
     asked.add_argument("drawing")
-    asked.add_argument("name")
+    asked.add_argument("claim")
     asked.add_argument("--dt", type=int, default=0)
     asked = asked.parse_args()
     with open(asked.drawing, encoding="utf-8") as file:
         ladder = ladder_of(file.read())
-    sys.stdout.write(blif_of(ladder, asked.name, {"--dt": asked.dt} if asked.dt else {}))
+    sys.stdout.write(blif_of(ladder, asked.claim, {"--dt": asked.dt} if asked.dt else {}))
 
 
 if __name__ == "__main__":

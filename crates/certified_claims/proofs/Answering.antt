@@ -6,6 +6,7 @@ use Rattle.std.proofs.lemmas.List.{take_more}
 use Rattle.std.proofs.lemmas.Option.{get_or_from_slice_get}
 use Rattle.std.proofs.lemmas.Slice.Zip.{AllZip-long, all_zipped_more}
 use Rattle.lists.proofs.Places.{element_at}
+use Rattle.verifying.specs.declared.condition.Condition.{Condition}
 use Rattle.verifying.specs.Runs.{SetupValue, first}
 use Rattle.text_commands.specs.Sources.{SourceValue}
 use Rattle.text_commands.specs.declared.text_command_fault.TextCommandFault.TheVariants.{Text, Word, Write, Memory}
@@ -23,31 +24,31 @@ use Rattle.certified_claims.specs.declared.verdict.CertifiedVerdict.TheVariants.
 use Rattle.certified_claims.proofs.Leading.{rows_whole}
 
 -- what stands at a place of a list
-pub there : (xs : List ℕ) (i d : ℕ) → i < length xs → slice_get xs i ≡ Some (get_or xs i d)
+pub there : (xs : List Condition) (i : ℕ) (d : Condition) → i < length xs → slice_get xs i ≡ Some (get_or xs i d)
 there xs i d lt = let at = element_at xs i lt in at.1 ∙ ap (λ x. Some x) (sym (get_or_from_slice_get xs i at.0 d at.1))
 
 -- one more verdict
-pub certified_more : (u v : SetupValue) (places : List ℕ) (i d : ℕ) (verdicts later : List CertifiedVerdict) (verdict : CertifiedVerdict) → i < length places
-    → AreCertified u v (take i places) verdicts → IsCertified u v (get_or places i d) verdict → later ≡ verdicts ++ verdict ∷ [] → AreCertified u v (take (i + 1) places) later
-certified_more u v places i d verdicts later verdict lt before is pushed =
-    rw (pushed, take_more places i d lt) (all_zipped_more (IsCertified u v) (take i places) verdicts (get_or places i d) verdict before is)
+pub certified_more : (u v : SetupValue) (claims : List Condition) (i : ℕ) (d : Condition) (verdicts later : List CertifiedVerdict) (verdict : CertifiedVerdict) → i < length claims
+    → AreCertified u v (take i claims) verdicts → IsCertified u v (get_or claims i d) verdict → later ≡ verdicts ++ verdict ∷ [] → AreCertified u v (take (i + 1) claims) later
+certified_more u v claims i d verdicts later verdict lt before is pushed =
+    rw (pushed, take_more claims i d lt) (all_zipped_more (IsCertified u v) (take i claims) verdicts (get_or claims i d) verdict before is)
 
 -- the rows of each run have all their digits
-fits_one : (u v : SetupValue) (place : ℕ) (verdict : CertifiedVerdict) → IsCertified u v place verdict → FitsSetup u verdict
-fits_one u v place (Holds certified) is = tt
-fits_one u v place (Fails rows) is = rows_whole u rows.items (first u) is.last is.run
-fits_one u v place (Undecided depth) is = tt
+fits_one : (u v : SetupValue) (claim : Condition) (verdict : CertifiedVerdict) → IsCertified u v claim verdict → FitsSetup u verdict
+fits_one u v claim (Holds certified) is = tt
+fits_one u v claim (Fails rows) is = rows_whole u rows.items (first u) is.last is.run.run
+fits_one u v claim (Undecided depth) is = tt
 
-each_fits : (u v : SetupValue) (places : List ℕ) (verdicts : List CertifiedVerdict) → AreCertified u v places verdicts → AllByRecursion (FitsSetup u) verdicts
-each_fits u v places [] are = tt
+each_fits : (u v : SetupValue) (claims : List Condition) (verdicts : List CertifiedVerdict) → AreCertified u v claims verdicts → AllByRecursion (FitsSetup u) verdicts
+each_fits u v claims [] are = tt
 each_fits u v [] (x ∷ verdicts) are = absurd are
-each_fits u v (p ∷ places) (x ∷ verdicts) are = (fits_one u v p x are.0, each_fits u v places verdicts are.1)
+each_fits u v (c ∷ claims) (x ∷ verdicts) are = (fits_one u v c x are.0, each_fits u v claims verdicts are.1)
 
-pub verdicts_fit : (u v : SetupValue) (places : List ℕ) (verdicts : List CertifiedVerdict) → AreCertified u v places verdicts → All (FitsSetup u) verdicts
-verdicts_fit u v places verdicts are = All-from_recursion (FitsSetup u) verdicts (each_fits u v places verdicts are)
+pub verdicts_fit : (u v : SetupValue) (claims : List Condition) (verdicts : List CertifiedVerdict) → AreCertified u v claims verdicts → All (FitsSetup u) verdicts
+verdicts_fit u v claims verdicts are = All-from_recursion (FitsSetup u) verdicts (each_fits u v claims verdicts are)
 
 -- there are as many verdicts as names
-pub names_long : {A B : Type 0} (C : A → ℕ → Type 0) (R : ℕ → B → Type 0) (names : List A) (places : List ℕ) (verdicts : List B) → AllZip C names places → AllZip R places verdicts
+pub names_long : {A B : Type 0} (C : A → Condition → Type 0) (R : Condition → B → Type 0) (names : List A) (places : List Condition) (verdicts : List B) → AllZip C names places → AllZip R places verdicts
     → length verdicts ≡ length names
 names_long C R names places verdicts claims are = AllZip-long R places verdicts are ∙ AllZip-long C names places claims
 

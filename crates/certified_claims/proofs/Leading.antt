@@ -1,13 +1,13 @@
 -- Runs that are done scan by scan.
-use Rattle.std.proofs.Common.{◌≡◌, ◌<◌, ◌+◌, ◌++◌, ℕ, List, [], ◌∷◌, Bool, length, get_or, take, refl, sym, subst, arith}
+use Rattle.std.proofs.Common.{◌≡◌, ◌==◌, ◌<◌, ◌+◌, ◌++◌, ℕ, List, [], ◌∷◌, Bool, false, length, get_or, take, refl, sym, ◌∙◌, subst, arith}
 use Rattle.std.proofs.lemmas.List.{take_more}
 use Rattle.std.specs.List.{AllByRecursion}
 use Rattle.std.proofs.lemmas.List.Elements.{All-from_recursion}
 use Rattle.power_flow.specs.Meaning.{Moment}
-use Rattle.verifying.specs.Runs.{IsOn, Leads, SetupValue, StepsWith, width}
+use Rattle.verifying.specs.declared.condition.Condition.{Condition}
+use Rattle.verifying.specs.Runs.{Leads, SetupValue, StepsWith, width}
 use Rattle.verifying.specs.Verdicts.{NeverWithin}
 use Rattle.verifying.specs.Steps.Adding.{AreWholeRows}
-use Rattle.ladder_systems.proofs.NotOn.{first_not_on}
 
 -- one more scan
 leads_more : (u : SetupValue) (rows : List (List Bool)) (row : List Bool) (s between t : Moment) → Leads u s rows between → StepsWith u row between t → Leads u s (rows ++ row ∷ []) t
@@ -27,7 +27,11 @@ rows_long u (r ∷ rows) s t (between, step, leads) = (step.scan.whole, rows_lon
 pub rows_whole : (u : SetupValue) (rows : List (List Bool)) (s t : Moment) → Leads u s rows t → AreWholeRows u rows
 rows_whole u rows s t leads = All-from_recursion (λ (row : List Bool). length row ≡ width u) rows (rows_long u rows s t leads)
 
--- a run of no scans sets nothing
-pub never_at_once : (u : SetupValue) (place : ℕ) → NeverWithin u 0 place
-never_at_once u place [] s few same on = first_not_on u.ladder.declarations place (subst (λ m. IsOn m place) (sym same) on)
-never_at_once u place (row ∷ rows) s few run on = absurd (omega arith)
+-- there is no run of a scan or more within none
+pub never_at_once : (u : SetupValue) (claim : Condition) → NeverWithin u 0 claim
+never_at_once u claim rows s few ends so = absurd (let some = ends.some in omega arith)
+
+-- where there are rows, there is one at least
+pub some_rows : (rows : List (List Bool)) (empty : Bool) → empty ≡ (length rows == 0) → empty ≡ false → 0 < length rows
+some_rows [] empty is some = absurd (let no = sym is ∙ some in cc)
+some_rows (row ∷ rows) empty is some = omega arith

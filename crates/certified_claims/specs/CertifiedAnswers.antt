@@ -7,6 +7,7 @@ use Rattle.text_commands.specs.declared.text_command_fault.TextCommandFault.TheV
 use Rattle.verifying.specs.Premises.{premise_line, premises}
 use Rattle.verifying.specs.Preparing.{IsPrepared, RefusesPreparing}
 use Rattle.verifying.specs.Questions.{QuestionValue}
+use Rattle.verifying.specs.declared.condition.Condition.{Condition}
 use Rattle.verifying.specs.Runs.{SetupValue}
 use Rattle.verifying.specs.Summaries.{Sums}
 use Rattle.verifying.specs.declared.summary.Summary.{Summary}
@@ -30,21 +31,21 @@ IsOpen (Holds certified) = ⊥
 IsOpen (Fails rows) = ⊥
 IsOpen (Undecided depth) = Unit {0}
 
--- A text that answers the question by induction: the ladder with its inputs, the claims at their places, what is looked at
--- in its place, how much that is and whether a run meets what is given, and a verdict for each claim that is proved of all
+-- A text that answers the question by induction: the ladder with its inputs, the claims, what is looked at in its place,
+-- how much that is and whether a run meets what is given, and a verdict for each claim that is proved of all
 -- runs of the whole ladder; their texts, and behind them a line of what the answers depend on. Beside it the certificates,
 -- in words of what is looked at; and what comes of all claims.
 pub record IsCertifiedAnswer (source : SourceValue) (q : QuestionValue) (text certificates : List ℕ) (summary : Summary) : Type 0 where
   pub setup : SetupValue
   pub idle : List Bool
   pub searched : SetupValue
-  pub places : List ℕ
+  pub claims : List Condition
   pub constants : List ℕ
   pub scope : Scope
-  pub prepared : IsPrepared source q setup idle searched places constants scope.needed scope.networks
+  pub prepared : IsPrepared source q setup idle searched claims constants scope.needed scope.networks
   pub meeting : IsMeeting setup scope.meeting
   pub verdicts : List CertifiedVerdict
-  pub proved : AreCertified setup searched places verdicts
+  pub proved : AreCertified setup searched claims verdicts
   pub lines : List ℕ
   pub texts : AreCertifiedTexts setup q.file scope q.claims verdicts lines
   pub whole : text ≡ lines ++ premise_line (premises setup constants)

@@ -2,7 +2,7 @@
 use Rattle.std.specs.Prelude.{◌≡◌, ℕ, ◌++◌, List, [], ◌∷◌, codes}
 use Rattle.std.specs.Fmt.{decimal}
 use Rattle.verifying.specs.Runs.{SetupValue}
-use Rattle.verifying.specs.VerdictLines.{IsFailText, counted, needed_of, unmet}
+use Rattle.verifying.specs.VerdictLines.{IsFailText, counted, needed_of, told_of, unmet}
 use Rattle.certified_claims.specs.declared.verdict.CertificateSize.{CertificateSize}
 use Rattle.certified_claims.specs.declared.verdict.CertifiedVerdict.{CertifiedVerdict}
 use Rattle.certified_claims.specs.declared.verdict.CertifiedVerdict.TheVariants.{Holds, Fails, Undecided}
@@ -27,12 +27,12 @@ held_by u scope Unknown size = shown_by scope size ++ codes ", and no run was fo
 
 -- a claim holds
 abbrev pub holds_line : SetupValue → Scope → List ℕ → CertificateSize → List ℕ
-holds_line u scope name size = codes "HOLDS " ++ name ++ codes " is never on" ++ held_by u scope scope.meeting size
+holds_line u scope claim size = codes "HOLDS " ++ told_of claim (codes " is never ") ++ held_by u scope scope.meeting size
 
 -- neither a certificate nor a run was found
 abbrev pub undecided_line : List ℕ → ℕ → List ℕ
-undecided_line name depth =
-    codes "UNDECIDED " ++ name ++ codes " is not on within " ++ counted depth (codes "scan")
+undecided_line claim depth =
+    codes "UNDECIDED " ++ told_of claim (codes " is not ") ++ codes " within " ++ counted depth (codes "scan")
     ++ codes ": by induction, no certificate and no run was found\n"
 
 -- the text of a verdict; a run that breaks a claim is written as it is without induction

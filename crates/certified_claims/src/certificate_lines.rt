@@ -15,7 +15,7 @@ use clauses::Literal;
 use power_flow::Ladder;
 use std::alloc::{AllocError, Global};
 use std::fmt::Write;
-use verifying::push_counted;
+use verifying::{push_counted, push_told_of};
 
 /// The opposite of a literal.
 fn push_opposite(text: &mut String, names: &[String], literal: Literal) -> Result<(), AllocError>
@@ -78,8 +78,8 @@ fn push_certified(
 ) -> Result<(), AllocError>
     ensures { OnOk result (GrowsBy text.old text.new (certificate_text (map (λ n. string_bytes n) names.now) claim.now (Holds certified.now))) }
 {
-    text.push_str(claim)?;
-    text.push_str(" is never on: ")?;
+    push_told_of(text, claim, " is never ")?;
+    text.push_str(": ")?;
     push_counted(text, certified.size.clauses, "clause")?;
     text.push_str("\n")?;
     push_clauses(text, names, &certified.clauses)?;

@@ -5,10 +5,11 @@ ghost use Rattle.ladder_systems.specs.LadderSystems.{IsSystemOf};
 ghost use Rattle.verifying.specs.Needed.{IsSearched};
 ghost use Rattle.verifying.specs.Preparing.{searched_of};
 ghost use Rattle.verifying.specs.Runs.{SetupValue};
+ghost use Rattle.verifying.specs.declared.condition.Condition.{Condition as ClaimedCondition};
 ghost use Rattle.certified_claims.specs.Certified.{IsCertified};
 
 use crate::certificate_size::size_of;
-use crate::replay::{rows_of, sets};
+use crate::replay::{is_so_after, rows_of};
 use crate::verdict::{Certified, CertifiedVerdict};
 use clauses::Literal;
 use invariant_search::{Found, find};
@@ -16,22 +17,22 @@ use ladder_systems::{never_bad_is_never, never_bad_within_is_never_within, syste
 use needed_networks::slices_follow;
 use std::alloc::{AllocError, Global};
 use transition_systems::TransitionSystem;
-use verifying::{Prepared, never_of_whole, whole_rows};
+use verifying::{Condition, Prepared, never_of_whole, whole_rows};
 
 /// What a certificate shows that was checked.
 fn holds(
     prepared: &Prepared,
-    place: usize,
+    claim: &Condition,
     system: &TransitionSystem,
     clauses: Vec<Vec<Literal>>,
 ) -> CertifiedVerdict
-    requires searched { (claims : List ℕ) × (number : ℕ) × IsSearched prepared.now.whole claims prepared.now.idle.items
-        (searched_of prepared.now.slice prepared.now.whole) × (slice_get claims number ≡ Some place) }
-    requires system { IsSystemOf (searched_of prepared.now.slice prepared.now.whole) place system.now }
+    requires searched { (claims : List ClaimedCondition) × (number : ℕ) × IsSearched prepared.now.whole claims prepared.now.idle.items
+        (searched_of prepared.now.slice prepared.now.whole) × (slice_get claims number ≡ Some claim.now) }
+    requires system { IsSystemOf (searched_of prepared.now.slice prepared.now.whole) claim.now system.now }
     requires whole { IsWhole system.now }
     requires inductive { AreInductive system.now clauses.items }
     requires never { NeverBad system.now }
-    ensures { IsCertified prepared.now.whole (searched_of prepared.now.slice prepared.now.whole) place result }
+    ensures { IsCertified prepared.now.whole (searched_of prepared.now.slice prepared.now.whole) claim.now result }
 {
     let _wide = prepared.searched().ladder().declarations();
     never_bad_is_never();
@@ -43,16 +44,16 @@ fn holds(
 /// What depths show that were checked.
 fn undecided(
     prepared: &Prepared,
-    place: usize,
+    claim: &Condition,
     system: &TransitionSystem,
     depth: usize,
 ) -> CertifiedVerdict
-    requires searched { (claims : List ℕ) × (number : ℕ) × IsSearched prepared.now.whole claims prepared.now.idle.items
-        (searched_of prepared.now.slice prepared.now.whole) × (slice_get claims number ≡ Some place) }
-    requires system { IsSystemOf (searched_of prepared.now.slice prepared.now.whole) place system.now }
+    requires searched { (claims : List ClaimedCondition) × (number : ℕ) × IsSearched prepared.now.whole claims prepared.now.idle.items
+        (searched_of prepared.now.slice prepared.now.whole) × (slice_get claims number ≡ Some claim.now) }
+    requires system { IsSystemOf (searched_of prepared.now.slice prepared.now.whole) claim.now system.now }
     requires whole { 0 < depth → IsWhole system.now }
     requires never { NeverBadWithin system.now depth }
-    ensures { IsCertified prepared.now.whole (searched_of prepared.now.slice prepared.now.whole) place result }
+    ensures { IsCertified prepared.now.whole (searched_of prepared.now.slice prepared.now.whole) claim.now result }
 {
     let _wide = prepared.searched().ladder().declarations();
     never_bad_within_is_never_within();
@@ -62,7 +63,7 @@ fn undecided(
 
 /// Nothing is shown.
 fn nothing() -> CertifiedVerdict
-    ensures { (whole searched : SetupValue) (place : ℕ) → IsCertified whole searched place result }
+    ensures { (whole searched : SetupValue) (claim : ClaimedCondition) → IsCertified whole searched claim result }
 {
     CertifiedVerdict::Undecided(0)
 }
@@ -71,37 +72,37 @@ fn nothing() -> CertifiedVerdict
 fn fails(
     alloc: Global,
     prepared: &Prepared,
-    place: usize,
+    claim: &Condition,
     found: Vec<Vec<bool>>,
 ) -> Result<CertifiedVerdict, AllocError>
-    ensures { IfOk result (IsCertified prepared.now.whole (searched_of prepared.now.slice prepared.now.whole) place) }
+    ensures { IfOk result (IsCertified prepared.now.whole (searched_of prepared.now.slice prepared.now.whole) claim.now) }
 {
     let whole = &prepared.whole;
     let rows = rows_of(alloc, found)?;
     let rows = whole_rows(alloc, &prepared.idle, whole.free(), &rows)?;
-    if sets(alloc, whole, place, &rows)? {
+    if is_so_after(alloc, whole, claim, &rows)? {
         return Ok(CertifiedVerdict::Fails(rows));
     }
     Ok(nothing())
 }
 
-/// Looks by induction whether a run sets the variable at the place of a claim, with at most so many queries of the search.
+/// Looks by induction whether a claim is so after any run, with at most so many queries of the search.
 pub fn certify_claim(
     alloc: Global,
     prepared: &Prepared,
-    place: usize,
+    claim: &Condition,
     effort: u64,
 ) -> Result<CertifiedVerdict, AllocError>
-    requires { (claims : List ℕ) × (number : ℕ) × IsSearched prepared.now.whole claims prepared.now.idle.items
-        (searched_of prepared.now.slice prepared.now.whole) × (slice_get claims number ≡ Some place) }
-    ensures { IfOk result (IsCertified prepared.now.whole (searched_of prepared.now.slice prepared.now.whole) place) }
+    requires { (claims : List ClaimedCondition) × (number : ℕ) × IsSearched prepared.now.whole claims prepared.now.idle.items
+        (searched_of prepared.now.slice prepared.now.whole) × (slice_get claims number ≡ Some claim.now) }
+    ensures { IfOk result (IsCertified prepared.now.whole (searched_of prepared.now.slice prepared.now.whole) claim.now) }
 {
-    let system = system_of(alloc, prepared.searched(), place)?;
+    let system = system_of(alloc, prepared.searched(), claim)?;
     match find(alloc, &system, effort)? {
         Found::Certificate(certificate) => {
-            Ok(holds(prepared, place, &system, certificate.clauses))
+            Ok(holds(prepared, claim, &system, certificate.clauses))
         }
-        Found::Run(run) => fails(alloc, prepared, place, run.rows),
-        Found::Ended(depth) => Ok(undecided(prepared, place, &system, depth)),
+        Found::Run(run) => fails(alloc, prepared, claim, run.rows),
+        Found::Ended(depth) => Ok(undecided(prepared, claim, &system, depth)),
     }
 }

@@ -20,8 +20,8 @@ pub fn certify_claims(
         prepared.now.claims.items verdicts.items) }
 {
     let mut verdicts = Vec::new(alloc);
-    for place in &prepared.claims {
-        let verdict = certify_claim(alloc, prepared, *place, effort)?;
+    for claim in &prepared.claims {
+        let verdict = certify_claim(alloc, prepared, claim, effort)?;
         verdicts.push(verdict)?;
     }
     Ok(verdicts)

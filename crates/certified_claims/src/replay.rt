@@ -1,20 +1,23 @@
 //! Runs that were found, done scan by scan.
 
 ghost use Rattle.std.specs.Prelude.{IfOk, IsTrue};
-ghost use Rattle.certified_claims.specs.Certified.{Sets};
+ghost use Rattle.certified_claims.specs.Certified.{IsSoAfter};
 
 use std::alloc::{AllocError, Global};
-use verifying::{Row, Setup, is_on};
+use verifying::{Condition, Row, Setup, satisfies};
 
-/// Whether the run of these rows sets the variable at a place.
-pub(crate) fn sets(
+/// Whether a claim is so after the run of these rows.
+pub(crate) fn is_so_after(
     alloc: Global,
     setup: &Setup,
-    place: usize,
+    claim: &Condition,
     rows: &[Row],
 ) -> Result<bool, AllocError>
-    ensures { IfOk result (λ yes. IsTrue yes → Sets setup.now place rows.now) }
+    ensures { IfOk result (λ yes. IsTrue yes → IsSoAfter setup.now claim.now rows.now) }
 {
+    if rows.is_empty() {
+        return Ok(false);
+    }
     let mut state = setup.begin(alloc)?;
     for row in rows {
         if row.len() != setup.width() {
@@ -25,7 +28,7 @@ pub(crate) fn sets(
             return Ok(false);
         }
     }
-    Ok(is_on(&state, place))
+    Ok(satisfies(&state, claim))
 }
 
 /// The same as rows of inputs.

@@ -39,7 +39,7 @@ pub struct Scope {
     pub meeting: Meeting,
 }
 
-/// What is told of a claim that a variable is never TRUE.
+/// What is told of a claim that something never is so.
 #[derive(Debug, Drop)]
 pub enum CertifiedVerdict {
     /// It never is: this shows it.

@@ -9,7 +9,9 @@ ghost use Rattle.certified_claims.specs.Steps.Adding.{AddsCertifiedText, FitsSet
 use crate::verdict::{CertificateSize, CertifiedVerdict, Meeting, Scope};
 use std::alloc::{AllocError, Global};
 use std::fmt::Write;
-use verifying::{Setup, push_counted, push_needed_of, push_run, push_unmet};
+use verifying::{
+    Setup, push_counted, push_needed_of, push_run, push_told_of, push_unmet,
+};
 
 /// How large a certificate is.
 fn push_size(text: &mut String, size: CertificateSize) -> Result<(), AllocError>
@@ -58,23 +60,22 @@ fn push_held_by(text: &mut String, told: &Told<'_>, size: CertificateSize) -> Re
 fn push_holds(
     text: &mut String,
     told: &Told<'_>,
-    name: &str,
+    claim: &str,
     size: CertificateSize,
 ) -> Result<(), AllocError>
-    ensures { OnOk result (GrowsBy text.old text.new (holds_line told.now.setup.now told.now.scope name.now size)) }
+    ensures { OnOk result (GrowsBy text.old text.new (holds_line told.now.setup.now told.now.scope claim.now size)) }
 {
     text.push_str("HOLDS ")?;
-    text.push_str(name)?;
-    text.push_str(" is never on")?;
+    push_told_of(text, claim, " is never ")?;
     push_held_by(text, told, size)
 }
 
-fn push_undecided(text: &mut String, name: &str, depth: usize) -> Result<(), AllocError>
-    ensures { OnOk result (GrowsBy text.old text.new (undecided_line name.now depth)) }
+fn push_undecided(text: &mut String, claim: &str, depth: usize) -> Result<(), AllocError>
+    ensures { OnOk result (GrowsBy text.old text.new (undecided_line claim.now depth)) }
 {
     text.push_str("UNDECIDED ")?;
-    text.push_str(name)?;
-    text.push_str(" is not on within ")?;
+    push_told_of(text, claim, " is not ")?;
+    text.push_str(" within ")?;
     push_counted(text, depth, "scan")?;
     text.push_str(": by induction, no certificate and no run was found\n")?;
     Ok(())

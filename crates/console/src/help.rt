@@ -72,11 +72,13 @@ FILE:LINE: Kind, or with --strict where there is a warning; 2 if a word is refus
 pub const VERIFY_HELP: &str = "\
 Each --never NAME claims that the BOOL variable NAME is never TRUE after a scan, whatever the inputs do and however long
 the drawing runs. The inputs are the BOOL variables that no coil and no output pin stores: each has any value in each scan,
-unless a word NAME=BIT holds it at 0 or 1. An INT or TIME that nothing stores is 0, or held by a word NAME=VALUE. A claim is
-a rung: draw a coil that turns ON where what must not happen has happened. --given NAME leaves out all runs in which a scan
-leaves NAME FALSE: what is known of the inputs is a rung, too.
+unless a word NAME=BIT holds it at 0 or 1. An INT or TIME that nothing stores is 0, or held by a word NAME=VALUE, or free from
+one number to another, in each scan, by a word NAME=0..7 or NAME=T#0ms..T#50ms. A claim is a rung: draw a coil that turns ON
+where what must not happen has happened. Of an INT or TIME that something stores a claim is also how it never compares with a
+number: --never 'N>5', 'D<=T#1s', with < <= = >= > or <>. --given NAME leaves out all runs in which a scan leaves NAME FALSE:
+what is known of the inputs is a rung, too; --given 'N<=5' likewise.
 Looked at are the networks that store what claims and givens read, those that store what these read, and so on; of the inputs
-that they read at most 20 may be free, with --by induction any number. Each scan comes --dt MS after the one before; a drawing
+that they read at most 20 may be free, with --by induction any number; a range of 8 values counts as 3. Each scan comes --dt MS after the one before; a drawing
 with a timer (TON, TOF, TP) needs it, above 0. With --restarts it may restart before any scan, as plc eval --restart has it.
 
 A line is written for each claim, in the order given:
@@ -87,8 +89,8 @@ A line is written for each claim, in the order given:
              of at most 1,000 scans and with an input, the words with which plc eval makes it
   UNDECIDED  more than N states were met, and the claim is broken in no run of so many scans or fewer
 
-and last, if there is any of that, `given` with what all depend on: --dt, the inputs that are held, each INT and TIME that
-is 0 since nothing stores it, the names behind --given, and restarts.
+and last, if there is any of that, `given` with what all depend on: --dt, the inputs that are held or free in a range, each
+INT and TIME that is 0 since nothing stores it, what stands behind --given, and restarts.
 
 Example:
 

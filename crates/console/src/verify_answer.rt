@@ -221,7 +221,9 @@ fn print_claim_fault<R: Eprint + AllocGlobal>(
         ClaimFaultKind::NoVariable => {
             print_unknown_name(rt, source, names, fault.number, Meant::Flags)
         }
-        ClaimFaultKind::NeverStored => print_fault_of_word(rt, names, fault.number, fault),
+        ClaimFaultKind::NoComparison | ClaimFaultKind::NeverStored => {
+            print_fault_of_word(rt, names, fault.number, fault)
+        }
     }
 }
 

@@ -8,7 +8,6 @@ pub mod Made
 pub mod Opened
 pub mod Scanned
 pub mod Truths
-pub mod NotOn
 pub mod Never
 pub mod Leading
 pub mod NeverOn

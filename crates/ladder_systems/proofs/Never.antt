@@ -50,7 +50,7 @@ off_after M Steps Given Bad t before after one wide step goes given claim whole 
     off_after M Steps Given Bad t before after one wide step goes given claim whole rows next (bits_at v t.next.items) between last
     (subst Stand (sym is) (goes v agrees)) (length-map t.next.items (signal_value v) ∙ whole.next_fits) rest leads bad
 
--- so it is after some rows under which the system is never bad, if it isn't bad at first
+-- so it is after some rows under which the system is never bad
 pub never_bad : (M : Type 0) (Steps : List Bool → M → M → Type 0) (Given Bad : M → Type 0) (t : TransitionSystem) (before after : (ℕ → Bool) → M) (first : M)
     → ((row : List Bool) (s a b : M) → Steps row s a → Steps row s b → a ≡ b)
     → ((row : List Bool) (s a : M) → Steps row s a → length row ≡ length t.inputs.items)
@@ -58,11 +58,10 @@ pub never_bad : (M : Type 0) (Steps : List Bool → M → M → Type 0) (Given B
     → ((v : ℕ → Bool) → Agrees v t.gates → StandFor M t before (bits_at v t.next.items) (after v))
     → ((v : ℕ → Bool) → Agrees v t.gates → Given (after v) → signal_value v t.constraint ≡ true)
     → ((v : ℕ → Bool) → Agrees v t.gates → Bad (after v) → signal_value v t.bad ≡ true)
-    → StandFor M t before t.first.items first → (Bad first → ⊥) → (rows : List (List Bool)) → (0 < length rows → IsWhole t) → NeverBadFrom t t.first.items rows
+    → StandFor M t before t.first.items first → (rows : List (List Bool)) → 0 < length rows → IsWhole t → NeverBadFrom t t.first.items rows
     → (last : M) → Leads M Steps Given first rows last → Bad last → ⊥
-never_bad M Steps Given Bad t before after first one wide step goes given claim stand off [] is never last same bad = off (subst Bad (sym same) bad)
-never_bad M Steps Given Bad t before after first one wide step goes given claim stand off (row ∷ rows) is never last leads bad =
-    let whole : IsWhole t = is (omega arith) in
+never_bad M Steps Given Bad t before after first one wide step goes given claim stand [] some whole never last same bad = absurd (omega arith)
+never_bad M Steps Given Bad t before after first one wide step goes given claim stand (row ∷ rows) some whole never last leads bad =
     off_after M Steps Given Bad t before after one wide step goes given claim whole rows row t.first.items first last stand whole.first_fits never leads bad
 
 -- where clauses are inductive, they hold of bits that stand for what rows lead to

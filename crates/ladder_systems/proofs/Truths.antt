@@ -18,14 +18,14 @@ both_true true b is = (refl, is)
 both_true false b is = absurd cc
 
 -- of all but the last, and of that
-split : (P : ℕ → Type 0) (xs : List ℕ) (x : ℕ) → ByRecursion P (xs ++ x ∷ []) → ByRecursion P xs × P x
+split : {A : Type 0} (P : A → Type 0) (xs : List A) (x : A) → ByRecursion P (xs ++ x ∷ []) → ByRecursion P xs × P x
 split P [] x (here, rest) = (tt, here)
 split P (y ∷ xs) x (here, rest) = let parts = split P xs x rest in ((here, parts.0), parts.1)
 
-pub all_more : (P : ℕ → Type 0) (xs : List ℕ) (i d : ℕ) → i < length xs
+pub all_more : {A : Type 0} (P : A → Type 0) (xs : List A) (i : ℕ) (d : A) → i < length xs
     → (All P (take i xs) → P (get_or xs i d) → All P (take (i + 1) xs)) × (All P (take (i + 1) xs) → All P (take i xs) × P (get_or xs i d))
-all_more P xs i d lt =
-    let Of : List ℕ → Type 0 = λ l. ByRecursion P l in (
+all_more {A} P xs i d lt =
+    let Of : List A → Type 0 = λ l. ByRecursion P l in (
       λ all here. All-more P xs i d lt all here,
       λ all.
           let parts = split P (take i xs) (get_or xs i d) (subst Of (take_more xs i d lt) (recursion_from_All P (take (i + 1) xs) all)) in

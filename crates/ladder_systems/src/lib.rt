@@ -1,8 +1,9 @@
-//! The system of state bits that a ladder is under a setup, for certificates that a variable is never TRUE. In this
-//! order: what stands at names before the first scan, which elements remember anything, state bits, restarts, what a scan
-//! finds, a scan, systems, and what they show.
+//! The system of state bits that a ladder is under a setup, for certificates that a claim never is so. In this order: what
+//! stands at names before the first scan, which elements remember anything, state bits, restarts, what a scan finds, a
+//! scan, conditions, systems, and what they show.
 #![tactic(auto)]
 
+mod conditions;
 mod first;
 mod laws;
 mod opening;

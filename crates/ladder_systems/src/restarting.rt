@@ -19,7 +19,7 @@ use scan_gates::{EncodedSlot, EncodedValue, chosen, declared_are_like, kinds_are
 use std::alloc::{AllocError, Global};
 
 /// The variable at a place, if one stands there.
-fn variable_in(slots: &[EncodedSlot], place: usize) -> Option<EncodedValue>
+pub(crate) fn variable_in(slots: &[EncodedSlot], place: usize) -> Option<EncodedValue>
     ensures value { (v : ℕ → Bool) → variable_at (slots_at v slots.now) place ≡ option_map (value_at v) result }
     ensures there { (x : Value) → result ≡ Some x → slice_get slots.now place ≡ Some (Variable x) }
 {

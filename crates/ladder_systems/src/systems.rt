@@ -1,20 +1,17 @@
-ghost use Rattle.std.specs.Prelude.{◌≡◌, ◌↔◌, All, IfOk, OnOk, Some, length, true};
-ghost use Rattle.std_blocks.specs.declared.value.Value.TheVariants as value;
+ghost use Rattle.std.specs.Prelude.{◌≡◌, IfOk, OnOk, length};
 ghost use Rattle.gates.specs.Gates.{IsBuilt};
-ghost use Rattle.gates.specs.Signals.{signal_value};
-ghost use Rattle.scan_steps.specs.Slots.{variable_at};
-ghost use Rattle.scan_gates.specs.Encoded.{slots_at};
 ghost use Rattle.ladder_systems.specs.LadderSystems.{IsSystemOf};
 
+use crate::conditions::{all_so, is_so};
 use crate::remembering::memory_marks;
 use crate::scanning::scan_signals;
 use crate::state_bits::bits_of;
 use crate::state_signals::state_signals;
 use gates::{Gates, Signal};
-use scan_gates::{EncodedSlot, declared_are_like, states_are_signals, variable_on};
+use scan_gates::{declared_are_like, states_are_signals};
 use std::alloc::{AllocError, Global};
 use transition_systems::TransitionSystem;
-use verifying::Setup;
+use verifying::{Condition, Setup};
 
 /// A signal for each digit of a row, behind the state bits.
 fn row_signals(
@@ -34,22 +31,13 @@ fn row_signals(
     Ok(row)
 }
 
-/// A signal that is TRUE where all these variables are.
-fn all_on(gates: &mut Gates, slots: &[EncodedSlot], places: &[usize]) -> Result<Signal, AllocError>
-    ensures { IfOk result (λ s. IsBuilt gates.old gates.new (λ v. (signal_value v s ≡ true)
-        ↔ All (λ place. variable_at (slots_at v slots.now) place ≡ Some (value.Bool true)) places.now)) }
-{
-    let mut on = gates.constant(true);
-    for place in places {
-        let here = variable_on(gates, slots, *place);
-        on = gates.and(on, here)?;
-    }
-    Ok(on)
-}
-
-/// The system that the ladder of a setup is, where it is bad that the variable at a place is TRUE after a scan.
-pub fn system_of(alloc: Global, setup: &Setup, place: usize) -> Result<TransitionSystem, AllocError>
-    ensures { IfOk result (IsSystemOf setup.now place) }
+/// The system that the ladder of a setup is, where it is bad that a claim is so after a scan.
+pub fn system_of(
+    alloc: Global,
+    setup: &Setup,
+    claim: &Condition,
+) -> Result<TransitionSystem, AllocError>
+    ensures { IfOk result (IsSystemOf setup.now claim.now) }
 {
     declared_are_like();
     states_are_signals();
@@ -69,8 +57,8 @@ pub fn system_of(alloc: Global, setup: &Setup, place: usize) -> Result<Transitio
         &mut memories,
     )?;
     let next = bits_of(alloc, &slots, &marks, &memories)?;
-    let constraint = all_on(&mut gates, &slots, setup.given())?;
-    let bad = variable_on(&gates, &slots, place);
+    let constraint = all_so(alloc, &mut gates, &slots, setup.given())?;
+    let bad = is_so(alloc, &mut gates, &slots, claim)?;
     Ok(TransitionSystem {
         gates,
         state: state.bits,

@@ -4,6 +4,7 @@ pub mod WordTexts
 pub mod SeriesValues
 pub mod SeriesWords
 pub mod SettingWords
+pub mod InputReading
 pub mod Explaining
 pub mod Counting
 pub mod PlanLines

@@ -20,7 +20,7 @@ use Rattle.declared_names.specs.Kinds.{kind_of}
 use Rattle.name_faults.specs.BindFaults.{IsVariable}
 use Rattle.text_commands.specs.declared.word_fault.WordFault.{WordFault}
 use Rattle.text_commands.specs.declared.word_fault.WordFaultKind.{WordFaultKind}
-use Rattle.text_commands.specs.declared.word_fault.WordFaultKind.TheVariants.{NoEquals, NoVariable, BadDigits, BadNumbers, BadDurations, Twice, NoProgram}
+use Rattle.text_commands.specs.declared.word_fault.WordFaultKind.TheVariants.{NoEquals, NoVariable, BadDigits, BadNumbers, BadDurations, BadRange, Twice, NoProgram}
 use Rattle.text_commands.specs.declared.text_command_fault.TextCommandFault.{TextCommandFault}
 use Rattle.text_commands.specs.declared.text_command_fault.TextCommandFault.TheVariants.{Text, Word, Write, Memory}
 use Rattle.text_commands.specs.Rows.{name_in, digits_in, texts}
@@ -35,6 +35,7 @@ refused_behind_any ds before name text NoVariable refused = refused
 refused_behind_any ds before name text BadDigits refused = refused
 refused_behind_any ds before name text BadNumbers refused = refused
 refused_behind_any ds before name text BadDurations refused = refused
+refused_behind_any ds before name text BadRange refused = refused
 refused_behind_any ds before name text Twice (series, is, (j, other, within, at, same)) = absurd (omega arith)
 refused_behind_any ds before name text NoProgram refused = refused
 
@@ -103,6 +104,7 @@ not_refused ds before name text NoVariable series refused is = absurd (refused s
 not_refused ds before name text BadDigits series refused is = absurd (not_bad kind.Bool ds name text series refused is)
 not_refused ds before name text BadNumbers series refused is = absurd (not_bad kind.Int ds name text series refused is)
 not_refused ds before name text BadDurations series refused is = absurd (not_bad kind.Time ds name text series refused is)
+not_refused ds before name text BadRange series refused is = absurd refused
 not_refused ds before name text Twice series (other, is_other, (j, found, within, at, same)) is =
     (j, found, within, at, same ∙ one_place ds name other.place series.place is_other.k is.k is_other.named is.named)
 not_refused ds before name text NoProgram series refused is = absurd refused

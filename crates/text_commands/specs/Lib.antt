@@ -1,5 +1,7 @@
 pub mod Rows
+pub mod Numbers
 pub mod Series
+pub mod InputWords
 pub mod Lines
 pub mod Comments
 pub mod EvalText

@@ -16,7 +16,7 @@ use Rattle.declared_names.specs.Kinds.{kind_of}
 use Rattle.declared_names.specs.Names.{place_of}
 use Rattle.text_commands.specs.declared.word_fault.WordFault.{WordFault}
 use Rattle.text_commands.specs.declared.word_fault.WordFaultKind.{WordFaultKind}
-use Rattle.text_commands.specs.declared.word_fault.WordFaultKind.TheVariants.{NoEquals, NoVariable, BadDigits, BadNumbers, BadDurations, Twice, NoProgram}
+use Rattle.text_commands.specs.declared.word_fault.WordFaultKind.TheVariants.{NoEquals, NoVariable, BadDigits, BadNumbers, BadDurations, BadRange, Twice, NoProgram}
 use Rattle.text_commands.specs.Rows.{AreDigits, HasEquals, name_in, digits_in}
 
 -- the place of a variable, and a value for each of the first scans
@@ -120,6 +120,7 @@ IsRefusedSeries ds before name text NoVariable = (place : ℕ) (k : Kind) → Is
 IsRefusedSeries ds before name text BadDigits = IsBad kind.Bool ds name text
 IsRefusedSeries ds before name text BadNumbers = IsBad kind.Int ds name text
 IsRefusedSeries ds before name text BadDurations = IsBad kind.Time ds name text
+IsRefusedSeries ds before name text BadRange = ⊥
 IsRefusedSeries ds before name text Twice =
     (series : SeriesValue) × IsSeries ds name text series × Any (λ other. other.place ≡ series.place) before
 IsRefusedSeries ds before name text NoProgram = ⊥

@@ -7,6 +7,7 @@ pub mod Testing
 pub mod Showing
 pub mod Tracing
 pub mod Setting
+pub mod Inputs
 pub mod Opening
 pub mod Marks
 pub mod PlantRefusing

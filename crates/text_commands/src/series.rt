@@ -61,7 +61,7 @@ fn variable_kind(declared: Declared) -> Option<Kind>
 }
 
 /// The place and the kind of the variable of this name.
-fn named(declarations: &Declarations, name: &str) -> Option<(usize, Kind)>
+pub fn variable_named(declarations: &Declarations, name: &str) -> Option<(usize, Kind)>
     ensures { MatchOption result ((place : ℕ) (kind : OfKind) → IsNamed declarations.now name.now place kind → ⊥)
         (λ found. IsNamed declarations.now name.now found.0 found.1) }
 {
@@ -92,7 +92,7 @@ pub fn read_series<'a>(
     ensures { IfOk result (λ read. MatchResult read (IsSeries declarations.now name.now values.now)
         (IsRefusedSeries declarations.now [] name.now values.now)) }
 {
-    let Some((place, kind)) = named(declarations, name) else {
+    let Some((place, kind)) = variable_named(declarations, name) else {
         return Ok(Err(WordFaultKind::NoVariable));
     };
     match read_items(alloc, kind, values)? {

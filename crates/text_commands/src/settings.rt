@@ -17,7 +17,7 @@ fn has_series(series: &[Series<'_>], place: usize) -> bool
     series.iter().any(|other| other.place() == place)
 }
 
-fn refused(number: usize, kind: WordFaultKind) -> TextCommandFault
+pub(crate) fn refused(number: usize, kind: WordFaultKind) -> TextCommandFault
     ensures { result ≡ Word (record { number = number; kind = kind }) }
 {
     TextCommandFault::Word(WordFault { number, kind })

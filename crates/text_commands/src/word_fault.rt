@@ -13,6 +13,8 @@ pub enum WordFaultKind {
     BadNumbers,
     #[error("a TIME takes durations up to T#2147483647ms, parted by commas")]
     BadDurations,
+    #[error("a range is two numbers of an INT, as 0..7, or two durations of a TIME, as T#0ms..T#50ms, the first no more than the second")]
+    BadRange,
     #[error("another word names the same variable")]
     Twice,
     #[error("the plant has no program type of this name")]

@@ -12,6 +12,7 @@ use Rattle.lists.proofs.Places.{element_at}
 use Rattle.lists.proofs.Zips.{zip_back, zip_length}
 use Rattle.verifying.proofs.Premising.{constants_of}
 use Rattle.verifying.proofs.Slicing.{whole_long}
+use Rattle.verifying.proofs.ToldInputs.{all_free, all_held, told_within}
 use Rattle.std_blocks.specs.declared.value.Value.{Value}
 use Rattle.network.specs.Links.{Diagram}
 use Rattle.declared_names.specs.Kinds.{kind_of}
@@ -19,9 +20,10 @@ use Rattle.declared_names.specs.declared.declarations.Kind.{Kind}
 use Rattle.declared_names.specs.declared.declarations.Declaration.{Declaration}
 use Rattle.text_commands.specs.Sources.{AreRetainedFrom, IsLadderFrom, SourceValue}
 use Rattle.text_commands.specs.Rows.{texts}
-use Rattle.text_commands.specs.Series.{IsOfVariable, IsSetting, IsVariableAt, SeriesValue, SpellSettings}
+use Rattle.text_commands.specs.InputWords.{IsInputWord, SpellInputs, told_place}
+use Rattle.text_commands.specs.Steps.Inputs.{RefusesInputs}
+use Rattle.text_commands.specs.declared.input_words.InputWord.{InputWord}
 use Rattle.text_commands.specs.Steps.Sources.{RefusesFrom}
-use Rattle.text_commands.specs.Steps.Testing.{RefusesSet}
 use Rattle.text_commands.specs.declared.text_command_fault.TextCommandFault.{TextCommandFault}
 use Rattle.text_commands.specs.declared.text_command_fault.TextCommandFault.TheVariants.{Text, Word, Write, Memory}
 use Rattle.needed_networks.specs.declared.count_limit.CountLimit.{CountLimit}
@@ -29,29 +31,35 @@ use Rattle.needed_networks.specs.Counts.{AreLimits}
 use Rattle.needed_networks.specs.Needs.{IsIdle}
 use Rattle.needed_networks.specs.Slices.{kept_networks}
 use Rattle.needed_networks.specs.declared.slice.Slice.{Slice}
+use Rattle.verifying.specs.declared.condition.Condition.{Condition}
+use Rattle.verifying.specs.declared.condition.Condition.TheVariants.{On, Compared}
+use Rattle.verifying.specs.ClaimWords.{Says}
+use Rattle.verifying.specs.Conditions.{place_in}
 use Rattle.verifying.specs.declared.asked.Asked.{Asked}
 use Rattle.verifying.specs.declared.needed.Sliced.{Sliced}
 use Rattle.verifying.specs.declared.verify_command.Marked.{Marked}
-use Rattle.verifying.specs.declared.setup.Setting.{Setting}
+use Rattle.verifying.specs.declared.free_input.FreeInput.{FreeInput}
 use Rattle.verifying.specs.declared.verdict.Verdict.{Verdict}
 use Rattle.verifying.specs.declared.verdict.Verdict.TheVariants.{Holds, Fails, Undecided}
 use Rattle.power_flow.specs.LadderValue.{LadderValue}
 use Rattle.power_flow.specs.Meaning.{Moment}
-use Rattle.verifying.specs.Runs.{CanHold, HasInputs, IsBoolAt, Leads, SetupValue, first, width}
-use Rattle.verifying.specs.Needed.{AreIdle, IsSearched, needed_places, whole_row}
+use Rattle.verifying.specs.Runs.{CanBeFree, CanHold, HasInputs, IsBoolAt, Leads, SetupValue, first, width}
+use Rattle.verifying.specs.Needed.{AreIdle, IsSearched, needed_inputs, whole_row}
 use Rattle.verifying.specs.Verdicts.{AreVerdicts, IsVerdict}
-use Rattle.verifying.specs.Inputs.{AreFree, AreInputs}
+use Rattle.verifying.specs.FreeInputs.{free_digits}
+use Rattle.verifying.specs.Inputs.{AreInputs, IsInput, IsTold, TellsInput}
 use Rattle.text_commands.specs.Stores.{IsStored, stored_places}
 use Rattle.verifying.specs.Premises.{HasTimer, IsTimed}
-use Rattle.verifying.specs.Questions.{HoldsAt, HoldsInput, HoldsNoInput, IsClaim, IsNoClaim, QuestionValue}
+use Rattle.verifying.specs.Questions.{IsClaim, IsNoClaim, QuestionValue, TellsNoInput}
 use Rattle.verifying.specs.VerifyText.{ExplainsAnswer, IsSetup, restarts_of}
 use Rattle.verifying.specs.Steps.Adding.{AreWholeRows, FitsSetup}
 use Rattle.verifying.specs.Preparing.{IsPrepared, RefusesPreparing, searched_of}
-use Rattle.verifying.specs.Steps.Asking.{AreHeldBy, IsAsked, RefusesAnswering, RefusesAsking, RefusesHolding}
+use Rattle.verifying.specs.Steps.Asking.{AreTold, IsAsked, RefusesAnswering, RefusesAsking, RefusesTelling}
 use Rattle.verifying.specs.Steps.Wholes.{AreWholeVerdicts, IsMadeOf, IsMarkedLadder, IsSliced, IsSliceOrAll, IsWholeVerdict, needed_count}
-use Rattle.verifying.specs.Steps.Marks.{AreConstantsOf, AreMarksOf, AreUnmarked, ClaimsRead, ClaimsRefused, GivenRefused, HeldRead, HeldRefused, HoldsOf, HoldsNoneOf, IsClaimOf, IsNoClaimOf}
+use Rattle.verifying.specs.Steps.Marks.{AreMarksOf, AreUnmarked, ClaimsRead, ClaimsRefused, GivenRefused, IsClaimOf, IsHeldFaultOf, IsNoClaimOf, TellsNoneOf, TellsOf, ToldRefused}
 use Rattle.verifying.specs.declared.verify_fault.ClaimFaultKind.{ClaimFaultKind}
-use Rattle.verifying.specs.declared.verify_fault.ClaimFaultKind.TheVariants.{NoVariable, NeverStored}
+use Rattle.verifying.specs.declared.verify_fault.ClaimFaultKind.TheVariants.{NoVariable, NoComparison, NeverStored}
+use Rattle.verifying.specs.declared.verify_fault.HeldFault.{HeldFault}
 use Rattle.verifying.specs.declared.verify_fault.HeldFaultKind.{HeldFaultKind}
 use Rattle.verifying.specs.declared.verify_fault.HeldFaultKind.TheVariants.{NotOneValue, NoInput}
 use Rattle.verifying.specs.declared.verify_fault.VerifyFault.{VerifyFault}
@@ -61,63 +69,53 @@ use Rattle.verifying.specs.declared.verify_fault.VerifyFault.TheVariants.{Comman
 abbrev pub AreLadderMarks : List Declaration → List Diagram → List Bool → Type 0
 AreLadderMarks ds networks marks = AreMarksOf (stored_places ds networks) (length ds) marks
 
--- a word sets a variable that is declared
-row_within : (ds : List Declaration) (word : List ℕ) (row : SeriesValue) → IsSetting ds word row → row.place < length ds
-row_within ds word row is = let (e, at, variable) = is.1.named.1 in slice_get_within ds row.place e at
-
--- the variable can hold the one value that a word gives
-kind_held : (k : Kind) (values : List Value) (value : Value) → All (λ v. kind_of v ≡ k) values → values ≡ value ∷ [] → k ≡ kind_of value
-kind_held k [] value all one = absurd cc
-kind_held k (v ∷ values) value all one = sym (all 0 value (omega arith)) ∙ ap kind_of (let here : v ≡ value = cc in here)
-
-can_hold : (ds : List Declaration) (row : SeriesValue) (s : Setting) → IsOfVariable ds row → HoldsAt row s → CanHold ds s
-can_hold ds row s (k, variable, all) holds =
-    subst (λ place. IsVariableAt ds place (kind_of s.value)) (sym holds.place)
-    (subst (IsVariableAt ds row.place) (kind_held k row.values s.value all holds.value) variable)
-
 within_of : (ds : List Declaration) (place : ℕ) → IsBoolAt ds place → place < length ds
 within_of ds place (e, at, bool) = slice_get_within ds place e at
 
+-- the variable of what a word says is declared
+claim_within : (ds : List Declaration) (word : List ℕ) (claim : Condition) → Says ds word claim → place_in claim < length ds
+claim_within ds word (On place) said = within_of ds place said.1.bool
+claim_within ds word (Compared place comparison bound) said = let (e, at, variable) = said.named.1 in slice_get_within ds place e at
+
 -- a claim by the marks is one
-claim_of : (ds : List Declaration) (networks : List Diagram) (marks : List Bool) (name : List ℕ) (place : ℕ) → AreLadderMarks ds networks marks → IsClaimOf ds marks name place → IsClaim ds networks name place
-claim_of ds networks marks name place are is = record { variable = is.variable; stored = (are.each place (within_of ds place is.variable.bool)).0 is.marked }
+claim_of : (ds : List Declaration) (networks : List Diagram) (marks : List Bool) (word : List ℕ) (claim : Condition) → AreLadderMarks ds networks marks → IsClaimOf ds marks word claim → IsClaim ds networks word claim
+claim_of ds networks marks word claim are is = record { said = is.said; stored = (are.each (place_in claim) (claim_within ds word claim is.said)).0 is.marked }
 
-claims_of : (ds : List Declaration) (networks : List Diagram) (marks : List Bool) (names : List (List ℕ)) (places : List ℕ) → AreLadderMarks ds networks marks → ClaimsRead ds marks names places
-    → AllZip (IsClaim ds networks) names places
+claims_of : (ds : List Declaration) (networks : List Diagram) (marks : List Bool) (words : List (List ℕ)) (claims : List Condition) → AreLadderMarks ds networks marks → ClaimsRead ds marks words claims
+    → AllZip (IsClaim ds networks) words claims
 claims_of ds networks marks [] [] are read = tt
-claims_of ds networks marks [] (p ∷ places) are read = absurd read
-claims_of ds networks marks (n ∷ names) [] are read = absurd read
-claims_of ds networks marks (n ∷ names) (p ∷ places) are read = (claim_of ds networks marks n p are read.0, claims_of ds networks marks names places are read.1)
+claims_of ds networks marks [] (c ∷ claims) are read = absurd read
+claims_of ds networks marks (w ∷ words) [] are read = absurd read
+claims_of ds networks marks (w ∷ words) (c ∷ claims) are read = (claim_of ds networks marks w c are read.0, claims_of ds networks marks words claims are read.1)
 
-no_claim_of : (ds : List Declaration) (networks : List Diagram) (marks : List Bool) (name : List ℕ) (kind : ClaimFaultKind) → AreLadderMarks ds networks marks → IsNoClaimOf ds marks name kind → IsNoClaim ds networks name kind
-no_claim_of ds networks marks name NoVariable are is = is
-no_claim_of ds networks marks name NeverStored are (place, named, unmarked) = (place, named, λ stored. unmarked ((are.each place (within_of ds place named.bool)).1 stored))
+no_claim_of : (ds : List Declaration) (networks : List Diagram) (marks : List Bool) (word : List ℕ) (kind : ClaimFaultKind) → AreLadderMarks ds networks marks → IsNoClaimOf ds marks word kind → IsNoClaim ds networks word kind
+no_claim_of ds networks marks word NoVariable are is = is
+no_claim_of ds networks marks word NoComparison are is = is
+no_claim_of ds networks marks word NeverStored are (claim, said, unmarked) =
+    (claim, said, λ stored. unmarked ((are.each (place_in claim) (claim_within ds word claim said)).1 stored))
 
--- a row that holds an input by the marks holds one
-holds_of : (ds : List Declaration) (networks : List Diagram) (marks : List Bool) (word : List ℕ) (row : SeriesValue) (s : Setting) → AreLadderMarks ds networks marks → IsSetting ds word row → HoldsOf marks row s → HoldsInput ds networks row s
-holds_of ds networks marks word row s are read is =
-    record { holds = is.holds; unstored = λ stored. is.unmarked ((are.each row.place (row_within ds word row read)).1 stored) }
+-- a word that tells of an input by the marks tells of one
+tells_of : (ds : List Declaration) (networks : List Diagram) (marks : List Bool) (word : List ℕ) (input : InputWord) → AreLadderMarks ds networks marks → IsInputWord ds word input → TellsOf marks input → TellsInput ds networks input
+tells_of ds networks marks word input are read is =
+    record { one = is.one; unstored = λ stored. is.unmarked ((are.each (told_place input) (told_within ds word input read)).1 stored) }
 
-held_of : (ds : List Declaration) (networks : List Diagram) (marks : List Bool) (words : List (List ℕ)) (rows : List SeriesValue) (held : List Setting) → AreLadderMarks ds networks marks → AllZip (IsSetting ds) words rows
-    → HeldRead marks rows held → AllZip (HoldsInput ds networks) rows held
-held_of ds networks marks [] [] [] are read is = tt
-held_of ds networks marks [] [] (s ∷ held) are read is = absurd is
-held_of ds networks marks [] (r ∷ rows) held are read is = absurd read
-held_of ds networks marks (w ∷ words) [] held are read is = absurd read
-held_of ds networks marks (w ∷ words) (r ∷ rows) [] are read is = absurd is
-held_of ds networks marks (w ∷ words) (r ∷ rows) (s ∷ held) are read is = (holds_of ds networks marks w r s are read.0 is.0, held_of ds networks marks words rows held are read.1 is.1)
+told_of : (ds : List Declaration) (networks : List Diagram) (marks : List Bool) (words : List (List ℕ)) (inputs : List InputWord) → AreLadderMarks ds networks marks → AllZip (IsInputWord ds) words inputs
+    → All (TellsOf marks) inputs → All (TellsInput ds networks) inputs
+told_of ds networks marks words inputs are read is = λ k d lt.
+    let word = zip_back (IsInputWord ds) words inputs read k (get_or inputs k d) (slice_get-get_or inputs k d lt) in
+    tells_of ds networks marks word.0 (get_or inputs k d) are word.2 (is k d lt)
 
-take_zip : (ds : List Declaration) (n : ℕ) (words : List (List ℕ)) (rows : List SeriesValue) → AllZip (IsSetting ds) words rows → AllZip (IsSetting ds) (take n words) (take n rows)
-take_zip ds zero words rows read = tt
+take_zip : (ds : List Declaration) (n : ℕ) (words : List (List ℕ)) (inputs : List InputWord) → AllZip (IsInputWord ds) words inputs → AllZip (IsInputWord ds) (take n words) (take n inputs)
+take_zip ds zero words inputs read = tt
 take_zip ds (suc n) [] [] read = tt
-take_zip ds (suc n) [] (r ∷ rows) read = absurd read
+take_zip ds (suc n) [] (i ∷ inputs) read = absurd read
 take_zip ds (suc n) (w ∷ words) [] read = absurd read
-take_zip ds (suc n) (w ∷ words) (r ∷ rows) read = (read.0, take_zip ds n words rows read.1)
+take_zip ds (suc n) (w ∷ words) (i ∷ inputs) read = (read.0, take_zip ds n words inputs read.1)
 
-holds_none_of : (ds : List Declaration) (networks : List Diagram) (marks : List Bool) (word : List ℕ) (row : SeriesValue) (kind : HeldFaultKind) → AreLadderMarks ds networks marks → IsSetting ds word row → HoldsNoneOf marks row kind
-    → HoldsNoInput ds networks row kind
-holds_none_of ds networks marks word row NotOneValue are read is = is
-holds_none_of ds networks marks word row NoInput are read is = (are.each row.place (row_within ds word row read)).0 is
+tells_none_of : (ds : List Declaration) (networks : List Diagram) (marks : List Bool) (word : List ℕ) (input : InputWord) (kind : HeldFaultKind) → AreLadderMarks ds networks marks → IsInputWord ds word input → TellsNoneOf marks input kind
+    → TellsNoInput ds networks input kind
+tells_none_of ds networks marks word input NotOneValue are read is = is
+tells_none_of ds networks marks word input NoInput are read is = (are.each (told_place input) (told_within ds word input read)).0 is
 
 -- why nothing was prepared
 pub text_refused : (source : SourceValue) (q : QuestionValue) (fault : TextCommandFault) → RefusesFrom source fault → RefusesPreparing source q (Command fault)
@@ -126,168 +124,137 @@ text_refused source q (Word fault) refused = inl refused
 text_refused source q Write refused = absurd refused
 text_refused source q Memory refused = tt
 
-held_refused : (source : SourceValue) (q : QuestionValue) (ds : List Declaration) (networks : List Diagram) (marks : List Bool) (rows : List SeriesValue) (fault : VerifyFault) → IsLadderFrom source ds networks
-    → AreLadderMarks ds networks marks → SpellSettings ds q.words rows → HeldRefused marks rows fault → RefusesPreparing source q fault
-held_refused source q ds networks marks rows (Command (Text fault)) ladder are read refused = absurd refused
-held_refused source q ds networks marks rows (Command (Word fault)) ladder are read refused = absurd refused
-held_refused source q ds networks marks rows (Command Write) ladder are read refused = absurd refused
-held_refused source q ds networks marks rows (Command Memory) ladder are read refused = tt
-held_refused source q ds networks marks rows (Claim fault) ladder are read refused = absurd refused
-held_refused source q ds networks marks rows (Given fault) ladder are read refused = absurd refused
-held_refused source q ds networks marks rows (TooManyInputs count) ladder are read refused = absurd refused
-held_refused source q ds networks marks rows NoTime ladder are read refused = absurd refused
-held_refused source q ds networks marks rows (Held fault) ladder are read refused =
-    let partner = zip_back (IsSetting ds) q.words rows read.each fault.number refused.row refused.at in
+told_refused : (source : SourceValue) (q : QuestionValue) (ds : List Declaration) (networks : List Diagram) (marks : List Bool) (inputs : List InputWord) (fault : HeldFault) → IsLadderFrom source ds networks
+    → AreLadderMarks ds networks marks → SpellInputs ds q.words inputs → IsHeldFaultOf marks inputs fault → RefusesPreparing source q (Held fault)
+told_refused source q ds networks marks inputs fault ladder are read refused =
+    let partner = zip_back (IsInputWord ds) q.words inputs read.each fault.number refused.word refused.at in
     record {
       declarations = ds;
       networks = networks;
       ladder = ladder;
-      rows = rows;
+      words = inputs;
       read = read;
       first = record {
-        row = refused.row;
+        word = refused.word;
         at = refused.at;
-        held = refused.held;
-        before = held_of ds networks marks (take fault.number q.words) (take fault.number rows) refused.held are (take_zip ds fault.number q.words rows read.each) refused.before;
-        refused = holds_none_of ds networks marks partner.0 refused.row fault.kind are partner.2 refused.refused;
+        before = told_of ds networks marks (take fault.number q.words) (take fault.number inputs) are (take_zip ds fault.number q.words inputs read.each) refused.before;
+        refused = tells_none_of ds networks marks partner.0 refused.word fault.kind are partner.2 refused.refused;
       };
     }
 
-claims_refused : (source : SourceValue) (q : QuestionValue) (ds : List Declaration) (networks : List Diagram) (marks : List Bool) (held : List Setting) (fault : VerifyFault) → IsLadderFrom source ds networks
-    → AreLadderMarks ds networks marks → AreHeldBy ds marks q.words held → ClaimsRefused ds marks q.claims fault → RefusesPreparing source q fault
-claims_refused source q ds networks marks held (Command fault) ladder are by memory = subst (RefusesPreparing source q) (sym memory) tt
-claims_refused source q ds networks marks held (Given fault) ladder are by memory = subst (RefusesPreparing source q) (sym memory) tt
-claims_refused source q ds networks marks held (Held fault) ladder are by memory = subst (RefusesPreparing source q) (sym memory) tt
-claims_refused source q ds networks marks held (TooManyInputs count) ladder are by memory = subst (RefusesPreparing source q) (sym memory) tt
-claims_refused source q ds networks marks held NoTime ladder are by memory = subst (RefusesPreparing source q) (sym memory) tt
-claims_refused source q ds networks marks held (Claim fault) ladder are by refused = record {
+claims_refused : (source : SourceValue) (q : QuestionValue) (ds : List Declaration) (networks : List Diagram) (marks : List Bool) (told : List InputWord) (fault : VerifyFault) → IsLadderFrom source ds networks
+    → AreLadderMarks ds networks marks → AreTold ds marks q.words told → ClaimsRefused ds marks q.claims fault → RefusesPreparing source q fault
+claims_refused source q ds networks marks told (Command fault) ladder are by memory = subst (RefusesPreparing source q) (sym memory) tt
+claims_refused source q ds networks marks told (Given fault) ladder are by memory = subst (RefusesPreparing source q) (sym memory) tt
+claims_refused source q ds networks marks told (Held fault) ladder are by memory = subst (RefusesPreparing source q) (sym memory) tt
+claims_refused source q ds networks marks told (TooManyInputs count) ladder are by memory = subst (RefusesPreparing source q) (sym memory) tt
+claims_refused source q ds networks marks told NoTime ladder are by memory = subst (RefusesPreparing source q) (sym memory) tt
+claims_refused source q ds networks marks told (Claim fault) ladder are by refused = record {
   declarations = ds;
   networks = networks;
   ladder = ladder;
-  rows = by.rows;
+  words = told;
   read = by.read;
-  held = held;
-  holds = held_of ds networks marks q.words by.rows held are by.read.each by.each;
+  told = told_of ds networks marks q.words told are by.read.each by.each;
   first = record {
-    name = refused.name;
+    word = refused.word;
     at = refused.at;
-    places = refused.places;
-    before = claims_of ds networks marks (take fault.number q.claims) refused.places are refused.before;
-    refused = no_claim_of ds networks marks refused.name fault.kind are refused.refused;
+    claims = refused.claims;
+    before = claims_of ds networks marks (take fault.number q.claims) refused.claims are refused.before;
+    refused = no_claim_of ds networks marks refused.word fault.kind are refused.refused;
   };
 }
 
-given_refused : (source : SourceValue) (q : QuestionValue) (ds : List Declaration) (networks : List Diagram) (marks : List Bool) (held : List Setting) (places : List ℕ) (fault : VerifyFault) → IsLadderFrom source ds networks
-    → AreLadderMarks ds networks marks → AreHeldBy ds marks q.words held → ClaimsRead ds marks q.claims places → GivenRefused ds marks q.given fault → RefusesPreparing source q fault
-given_refused source q ds networks marks held places (Command fault) ladder are by claimed memory = subst (RefusesPreparing source q) (sym memory) tt
-given_refused source q ds networks marks held places (Claim fault) ladder are by claimed memory = subst (RefusesPreparing source q) (sym memory) tt
-given_refused source q ds networks marks held places (Held fault) ladder are by claimed memory = subst (RefusesPreparing source q) (sym memory) tt
-given_refused source q ds networks marks held places (TooManyInputs count) ladder are by claimed memory = subst (RefusesPreparing source q) (sym memory) tt
-given_refused source q ds networks marks held places NoTime ladder are by claimed memory = subst (RefusesPreparing source q) (sym memory) tt
-given_refused source q ds networks marks held places (Given fault) ladder are by claimed refused = record {
+given_refused : (source : SourceValue) (q : QuestionValue) (ds : List Declaration) (networks : List Diagram) (marks : List Bool) (told : List InputWord) (claims : List Condition) (fault : VerifyFault) → IsLadderFrom source ds networks
+    → AreLadderMarks ds networks marks → AreTold ds marks q.words told → ClaimsRead ds marks q.claims claims → GivenRefused ds marks q.given fault → RefusesPreparing source q fault
+given_refused source q ds networks marks told claims (Command fault) ladder are by claimed memory = subst (RefusesPreparing source q) (sym memory) tt
+given_refused source q ds networks marks told claims (Claim fault) ladder are by claimed memory = subst (RefusesPreparing source q) (sym memory) tt
+given_refused source q ds networks marks told claims (Held fault) ladder are by claimed memory = subst (RefusesPreparing source q) (sym memory) tt
+given_refused source q ds networks marks told claims (TooManyInputs count) ladder are by claimed memory = subst (RefusesPreparing source q) (sym memory) tt
+given_refused source q ds networks marks told claims NoTime ladder are by claimed memory = subst (RefusesPreparing source q) (sym memory) tt
+given_refused source q ds networks marks told claims (Given fault) ladder are by claimed refused = record {
   declarations = ds;
   networks = networks;
   ladder = ladder;
-  rows = by.rows;
+  words = told;
   read = by.read;
-  held = held;
-  holds = held_of ds networks marks q.words by.rows held are by.read.each by.each;
-  places = places;
-  claims = claims_of ds networks marks q.claims places are claimed;
+  told = told_of ds networks marks q.words told are by.read.each by.each;
+  claims = claims;
+  are_claims = claims_of ds networks marks q.claims claims are claimed;
   first = record {
-    name = refused.name;
+    word = refused.word;
     at = refused.at;
-    places = refused.places;
-    before = claims_of ds networks marks (take fault.number q.given) refused.places are refused.before;
-    refused = no_claim_of ds networks marks refused.name fault.kind are refused.refused;
+    claims = refused.claims;
+    before = claims_of ds networks marks (take fault.number q.given) refused.claims are refused.before;
+    refused = no_claim_of ds networks marks refused.word fault.kind are refused.refused;
   };
 }
 
--- the unmarked places are the free inputs
-free_of : (ds : List Declaration) (networks : List Diagram) (marks : List Bool) (held : List Setting) (free : List ℕ) → AreLadderMarks ds networks marks → AreUnmarked ds marks held (length ds) free → AreFree ds networks held free
-free_of ds networks marks held free are is = record {
-  each = λ place. (
-    (λ has. let known = (is.each place).0 has in
-        (record { bool = known.0.bool; unstored = λ stored. known.0.unmarked ((are.each place known.1).1 stored) }, known.0.unheld)),
-    (λ known. let within = within_of ds place known.0.bool in
-        (is.each place).1 (record { bool = known.0.bool; unmarked = λ marked. known.0.unstored ((are.each place within).0 marked); unheld = known.1 }, within)),
-  );
-  ascending = is.ascending;
-}
+-- the unmarked places are those of the BOOLs that are free
+bits_of : (ds : List Declaration) (networks : List Diagram) (marks : List Bool) (words : List InputWord) (bits : List ℕ) → AreLadderMarks ds networks marks → AreUnmarked ds marks words (length ds) bits
+    → (place : ℕ) → Contains bits place ↔ (IsInput ds networks place × (IsTold words place → ⊥))
+bits_of ds networks marks words bits are is = λ place. (
+  (λ has. let known = (is.each place).0 has in
+      (record { bool = known.0.bool; unstored = λ stored. known.0.unmarked ((are.each place known.1).1 stored) }, known.0.untold)),
+  (λ known. let within = within_of ds place known.0.bool in
+      (is.each place).1 (record { bool = known.0.bool; unmarked = λ marked. known.0.unstored ((are.each place within).0 marked); untold = known.1 }, within)),
+)
 
--- the words hold inputs, where each row does
-pub held_by_rows : (ds : List Declaration) (marks : List Bool) (words : List (List ℕ)) (rows : List SeriesValue) (r : Result (Vec Setting) VerifyFault) → SpellSettings ds words rows
-    → All (IsOfVariable ds) rows → IfOk r (λ held. HeldRead marks rows held.items) → IfOk r (λ held. AreHeldBy ds marks words held.items)
-held_by_rows ds marks words rows (Ok held) read declared each = record { rows = rows; read = read; declared = declared; each = each }
-held_by_rows ds marks words rows (Err fault) read declared each = tt
+pub words_refused : (ds : List Declaration) (marks : List Bool) (words : List (List ℕ)) (fault : TextCommandFault) → RefusesInputs ds words fault → RefusesTelling ds marks words (Command fault)
+words_refused ds marks words (Text fault) refused = absurd refused
+words_refused ds marks words (Word fault) refused = refused
+words_refused ds marks words Write refused = absurd refused
+words_refused ds marks words Memory refused = tt
 
-pub settings_refused : (ds : List Declaration) (marks : List Bool) (words : List (List ℕ)) (rows : List SeriesValue) (r : Result (Vec Setting) VerifyFault) → SpellSettings ds words rows
-    → IfErr r (HeldRefused marks rows) → IfErr r (RefusesHolding ds marks words)
-settings_refused ds marks words rows (Ok held) read refused = tt
-settings_refused ds marks words rows (Err (Command (Text fault))) read refused = absurd refused
-settings_refused ds marks words rows (Err (Command (Word fault))) read refused = absurd refused
-settings_refused ds marks words rows (Err (Command Write)) read refused = absurd refused
-settings_refused ds marks words rows (Err (Command Memory)) read refused = tt
-settings_refused ds marks words rows (Err (Claim fault)) read refused = absurd refused
-settings_refused ds marks words rows (Err (Given fault)) read refused = absurd refused
-settings_refused ds marks words rows (Err (Held fault)) read refused = record { rows = rows; read = read; first = refused }
-settings_refused ds marks words rows (Err (TooManyInputs count)) read refused = absurd refused
-settings_refused ds marks words rows (Err NoTime) read refused = absurd refused
+pub inputs_refused : (ds : List Declaration) (marks : List Bool) (words : List (List ℕ)) (told : List InputWord) (fault : VerifyFault) → SpellInputs ds words told → ToldRefused marks told fault → RefusesTelling ds marks words fault
+inputs_refused ds marks words told (Command fault) read refused = absurd refused
+inputs_refused ds marks words told (Claim fault) read refused = absurd refused
+inputs_refused ds marks words told (Given fault) read refused = absurd refused
+inputs_refused ds marks words told (Held fault) read refused = record { told = told; read = read; first = refused }
+inputs_refused ds marks words told (TooManyInputs count) read refused = absurd refused
+inputs_refused ds marks words told NoTime read refused = absurd refused
 
-pub rows_refused : (ds : List Declaration) (marks : List Bool) (words : List (List ℕ)) (fault : TextCommandFault) → RefusesSet ds words fault → RefusesHolding ds marks words (Command fault)
-rows_refused ds marks words (Text fault) refused = absurd refused
-rows_refused ds marks words (Word fault) refused = refused
-rows_refused ds marks words Write refused = absurd refused
-rows_refused ds marks words Memory refused = tt
-
-holding_refused : (source : SourceValue) (q : QuestionValue) (ds : List Declaration) (networks : List Diagram) (marks : List Bool) (fault : VerifyFault) → IsLadderFrom source ds networks
-    → AreLadderMarks ds networks marks → RefusesHolding ds marks q.words fault → RefusesPreparing source q fault
-holding_refused source q ds networks marks (Command (Text fault)) ladder are refused = absurd refused
-holding_refused source q ds networks marks (Command (Word fault)) ladder are refused = inr (record { declarations = ds; networks = networks; ladder = ladder; refused = refused.0; first = refused.1 })
-holding_refused source q ds networks marks (Command Write) ladder are refused = absurd refused
-holding_refused source q ds networks marks (Command Memory) ladder are refused = tt
-holding_refused source q ds networks marks (Claim fault) ladder are refused = absurd refused
-holding_refused source q ds networks marks (Given fault) ladder are refused = absurd refused
-holding_refused source q ds networks marks (Held fault) ladder are refused = held_refused source q ds networks marks refused.rows (Held fault) ladder are refused.read refused.first
-holding_refused source q ds networks marks (TooManyInputs count) ladder are refused = absurd refused
-holding_refused source q ds networks marks NoTime ladder are refused = absurd refused
+telling_refused : (source : SourceValue) (q : QuestionValue) (ds : List Declaration) (networks : List Diagram) (marks : List Bool) (fault : VerifyFault) → IsLadderFrom source ds networks
+    → AreLadderMarks ds networks marks → RefusesTelling ds marks q.words fault → RefusesPreparing source q fault
+telling_refused source q ds networks marks (Command (Text fault)) ladder are refused = absurd refused
+telling_refused source q ds networks marks (Command (Word fault)) ladder are refused = inr (record { declarations = ds; networks = networks; ladder = ladder; first = refused })
+telling_refused source q ds networks marks (Command Write) ladder are refused = absurd refused
+telling_refused source q ds networks marks (Command Memory) ladder are refused = tt
+telling_refused source q ds networks marks (Claim fault) ladder are refused = absurd refused
+telling_refused source q ds networks marks (Given fault) ladder are refused = absurd refused
+telling_refused source q ds networks marks (Held fault) ladder are refused = told_refused source q ds networks marks refused.told fault ladder are refused.read refused.first
+telling_refused source q ds networks marks (TooManyInputs count) ladder are refused = absurd refused
+telling_refused source q ds networks marks NoTime ladder are refused = absurd refused
 
 pub asking_refused : (source : SourceValue) (q : QuestionValue) (ds : List Declaration) (networks : List Diagram) (marks : List Bool) (fault : VerifyFault) → IsLadderFrom source ds networks
     → AreLadderMarks ds networks marks → RefusesAsking ds marks q fault → RefusesPreparing source q fault
-asking_refused source q ds networks marks fault ladder are (inl refused) = holding_refused source q ds networks marks fault ladder are refused
-asking_refused source q ds networks marks fault ladder are (inr (inl refused)) = claims_refused source q ds networks marks refused.held fault ladder are refused.by refused.refused
-asking_refused source q ds networks marks fault ladder are (inr (inr (inl refused))) = given_refused source q ds networks marks refused.held refused.claims fault ladder are refused.by refused.claimed refused.refused
+asking_refused source q ds networks marks fault ladder are (inl refused) = telling_refused source q ds networks marks fault ladder are refused
+asking_refused source q ds networks marks fault ladder are (inr (inl refused)) = claims_refused source q ds networks marks refused.told fault ladder are refused.by refused.refused
+asking_refused source q ds networks marks fault ladder are (inr (inr (inl refused))) = given_refused source q ds networks marks refused.told refused.claims fault ladder are refused.by refused.claimed refused.refused
 asking_refused source q ds networks marks fault ladder are (inr (inr (inr memory))) = subst (RefusesPreparing source q) (sym memory) tt
 
-inputs_of : (ds : List Declaration) (networks : List Diagram) (rows : List SeriesValue) (held : List Setting) (free : List ℕ) → All (IsOfVariable ds) rows
-    → AllZip (HoldsInput ds networks) rows held → AreFree ds networks held free → AreInputs ds networks free held
-inputs_of ds networks rows held free declared holds are = record {
-  are_free = are;
-  are_held = λ k d lt.
-      let s = get_or held k d in
-      let row = zip_back (HoldsInput ds networks) rows held holds k s (slice_get-get_or held k d lt) in
-      record {
-        can_hold = can_hold ds row.0 s (all_at (IsOfVariable ds) rows k row.0 declared row.1) row.2.holds;
-        unstored = subst (λ place. IsStored ds networks place → ⊥) (sym row.2.holds.place) row.2.unstored;
-      };
+-- the inputs that were asked for
+asked_inputs : (ds : List Declaration) (networks : List Diagram) (marks : List Bool) (q : QuestionValue) (a : Asked) → AreLadderMarks ds networks marks → (asked : IsAsked ds marks q a)
+    → AreInputs ds networks asked.told a.free.items a.held.items
+asked_inputs ds networks marks q a are asked = record {
+  told = told_of ds networks marks q.words asked.told are asked.by.read.each asked.by.each;
+  bits = asked.free.bits;
+  each = bits_of ds networks marks asked.told asked.free.bits are asked.free.unmarked;
+  ascending = asked.free.unmarked.ascending;
+  free_are = asked.free.all;
+  held_are = asked.held;
 }
 
 -- what a ladder with its inputs needs
-has_inputs : (ds : List Declaration) (networks : List Diagram) (free : List ℕ) (held : List Setting) → AreInputs ds networks free held → HasInputs ds free held
-has_inputs ds networks free held are = record {
-  free = λ k d lt. ((are.are_free.each (get_or free k d)).0 (k, lt, get_or_default free k (get_or free k d) d lt)).0.bool;
-  held = λ k d lt. (are.are_held k d lt).can_hold;
-}
-
-asked_inputs : (ds : List Declaration) (networks : List Diagram) (marks : List Bool) (q : QuestionValue) (a : Asked) → AreLadderMarks ds networks marks → IsAsked ds marks q a
-    → AreInputs ds networks a.free.items a.held.items
-asked_inputs ds networks marks q a are asked =
-    inputs_of ds networks asked.by.rows a.held.items a.free.items asked.by.declared (held_of ds networks marks q.words asked.by.rows a.held.items are asked.by.read.each asked.by.each)
-    (free_of ds networks marks a.held.items a.free.items are asked.free)
-
 pub asked_has_inputs : (ds : List Declaration) (networks : List Diagram) (marks : List Bool) (q : QuestionValue) (a : Asked) → AreLadderMarks ds networks marks → IsAsked ds marks q a
     → HasInputs ds a.free.items a.held.items
-asked_has_inputs ds networks marks q a are asked = has_inputs ds networks a.free.items a.held.items (asked_inputs ds networks marks q a are asked)
+asked_has_inputs ds networks marks q a are asked =
+    let bits = asked.free.bits in
+    let bools : All (IsBoolAt ds) bits = λ k d lt. ((asked.free.unmarked.each (get_or bits k d)).0 (k, lt, get_or_default bits k (get_or bits k d) d lt)).0.bool in
+    record {
+      free = subst (All (CanBeFree ds)) (sym asked.free.all) (all_free ds bits q.words asked.told bools asked.by.read.each);
+      held = subst (All (CanHold ds)) (sym asked.held) (all_held ds q.words asked.told asked.by.read.each);
+    }
 
 -- the ladder with what is asked
 abbrev pub setup_of : LadderValue → ℕ → Asked → Option (List ℕ) → List CountLimit → SetupValue
@@ -298,9 +265,8 @@ asked_setup : (source : SourceValue) (q : QuestionValue) (l : LadderValue) (mark
 asked_setup source q l marks retained a restarts limits ladder kept are_restarts are asked = record {
   ladder = ladder;
   dt = refl;
-  rows = asked.by.rows;
+  words = asked.told;
   read = asked.by.read;
-  held = held_of l.declarations l.networks marks q.words asked.by.rows a.held.items are asked.by.read.each asked.by.each;
   inputs = asked_inputs l.declarations l.networks marks q a are asked;
   given = claims_of l.declarations l.networks marks q.given a.given.items are asked.givens;
   retained = retained;
@@ -312,25 +278,25 @@ asked_setup source q l marks retained a restarts limits ladder kept are_restarts
 nothing_idle : (place : ℕ) → IsIdle [] place → ⊥
 nothing_idle place on = cc
 
-all_needed : (ds : List Declaration) (networks : List Diagram) (claims given : List ℕ) → AreIdle ds networks claims given []
+all_needed : (ds : List Declaration) (networks : List Diagram) (claims given : List Condition) → AreIdle ds networks claims given []
 all_needed ds networks claims given = record {
   omitted = [];
   closed = λ k d at e place in' touched on. nothing_idle place on;
-  claims = λ k d lt on. nothing_idle (get_or claims k d) on;
-  given = λ k d lt on. nothing_idle (get_or given k d) on;
+  claims = λ k d lt on. nothing_idle (place_in (get_or claims k d)) on;
+  given = λ k d lt on. nothing_idle (place_in (get_or given k d)) on;
 }
 
 kept_all : (networks : List Diagram) → kept_networks [] networks ≡ networks
 kept_all [] = refl
 kept_all (d ∷ networks) = ap (λ l. d ∷ l) (kept_all networks)
 
-needed_all : (places : List ℕ) → needed_places [] places ≡ places
+needed_all : (free : List FreeInput) → needed_inputs [] free ≡ free
 needed_all [] = refl
-needed_all (p ∷ places) = ap (λ l. p ∷ l) (needed_all places)
+needed_all (f ∷ free) = ap (λ l. f ∷ l) (needed_all free)
 
 -- what is searched
-searched_by : (l : LadderValue) (dt : ℕ) (a : Asked) (restarts : Option (List ℕ)) (limits : List CountLimit) (idle : List Bool) (slice : Option Slice) (made : Option SetupValue) (needed : List ℕ)
-    → IsSliceOrAll l a.claims.items a.given.items idle slice → needed ≡ needed_places idle a.free.items → AreLimits l.declarations limits [] l.networks
+searched_by : (l : LadderValue) (dt : ℕ) (a : Asked) (restarts : Option (List ℕ)) (limits : List CountLimit) (idle : List Bool) (slice : Option Slice) (made : Option SetupValue) (needed : List FreeInput)
+    → IsSliceOrAll l a.claims.items a.given.items idle slice → needed ≡ needed_inputs idle a.free.items → AreLimits l.declarations limits [] l.networks
     → IsMadeOf dt needed a.held.items a.given.items restarts slice made
     → IsSearched (setup_of l dt a restarts limits) a.claims.items idle (searched_of made (setup_of l dt a restarts limits))
 unfolding all_needed
@@ -361,7 +327,7 @@ searched_by l dt a restarts limits idle (Some s) (Some v) needed is same limited
       limits = sliced.limits;
     })
 
-needed_by : (l : LadderValue) (dt : ℕ) (a : Asked) (restarts : Option (List ℕ)) (limits : List CountLimit) (idle : List Bool) (slice : Option Slice) (made : Option SetupValue) (needed : List ℕ) (networks : ℕ)
+needed_by : (l : LadderValue) (dt : ℕ) (a : Asked) (restarts : Option (List ℕ)) (limits : List CountLimit) (idle : List Bool) (slice : Option Slice) (made : Option SetupValue) (needed : List FreeInput) (networks : ℕ)
     → IsSliceOrAll l a.claims.items a.given.items idle slice → IsMadeOf dt needed a.held.items a.given.items restarts slice made → networks ≡ length l.networks
     → needed_count slice networks ≡ length (searched_of made (setup_of l dt a restarts limits)).ladder.networks
 needed_by l dt a restarts limits idle None made needed networks is none count =
@@ -369,19 +335,19 @@ needed_by l dt a restarts limits idle None made needed networks is none count =
 needed_by l dt a restarts limits idle (Some s) None needed networks is none count = absurd none
 needed_by l dt a restarts limits idle (Some s) (Some v) needed networks is sliced count = is.count ∙ ap (λ (w : SetupValue). length w.ladder.networks) (sym sliced.is)
 
-pub asked_prepared : (source : SourceValue) (q : QuestionValue) (m : Marked) (a : Asked) (restarts : Option (List ℕ)) (limits : List CountLimit) (s : Sliced) (made : Option SetupValue) (needed constants : List ℕ)
+pub asked_prepared : (source : SourceValue) (q : QuestionValue) (m : Marked) (a : Asked) (restarts : Option (List ℕ)) (limits : List CountLimit) (s : Sliced) (made : Option SetupValue) (needed : List FreeInput)
     → IsLadderFrom source m.ladder.declarations m.ladder.networks → AreRetainedFrom source m.retained.items → restarts ≡ restarts_of q.restarts m.ladder.declarations m.ladder.networks m.retained.items → IsMarkedLadder m
-    → IsAsked m.ladder.declarations m.marks.items q a → IsSliced m.ladder a.claims.items a.given.items s → needed ≡ needed_places s.idle.items a.free.items
+    → IsAsked m.ladder.declarations m.marks.items q a → IsSliced m.ladder a.claims.items a.given.items s → needed ≡ needed_inputs s.idle.items a.free.items
     → AreLimits m.ladder.declarations limits [] m.ladder.networks → IsMadeOf q.dt needed a.held.items a.given.items restarts s.slice made
-    → IsTimed m.ladder.declarations q.dt → AreConstantsOf m.ladder.declarations m.marks.items a.held.items (length m.ladder.declarations) constants
-    → IsPrepared source q (setup_of m.ladder q.dt a restarts limits) s.idle.items (searched_of made (setup_of m.ladder q.dt a restarts limits)) a.claims.items constants
+    → IsTimed m.ladder.declarations q.dt
+    → IsPrepared source q (setup_of m.ladder q.dt a restarts limits) s.idle.items (searched_of made (setup_of m.ladder q.dt a restarts limits)) a.claims.items a.constants.items
     (needed_count s.slice m.networks) m.networks
-asked_prepared source q m a restarts limits s made needed constants ladder kept are_restarts marked asked sliced same limited slice timed found = record {
+asked_prepared source q m a restarts limits s made needed ladder kept are_restarts marked asked sliced same limited slice timed = record {
   is = asked_setup source q m.ladder m.marks.items m.retained.items a restarts limits ladder kept are_restarts marked.marks asked;
-  claims = claims_of m.ladder.declarations m.ladder.networks m.marks.items q.claims a.claims.items marked.marks asked.claimed;
+  are_claims = claims_of m.ladder.declarations m.ladder.networks m.marks.items q.claims a.claims.items marked.marks asked.claimed;
   searched = searched_by m.ladder q.dt a restarts limits s.idle.items s.slice made needed sliced same limited slice;
   timed = timed;
-  are_constants = constants_of m.ladder.declarations m.ladder.networks m.marks.items a.held.items constants marked.marks found;
+  are_constants = constants_of m.ladder.declarations m.ladder.networks m.marks.items asked.told a.constants.items marked.marks asked.constants;
   needed_is = needed_by m.ladder q.dt a restarts limits s.idle.items s.slice made needed m.networks sliced slice marked.count;
   networks_is = marked.count;
 }
@@ -395,20 +361,20 @@ time_refused source q m a fault ladder kept marked asked (none, still, timer) =
     subst (RefusesPreparing source q) (sym none) (record {
       setup = setup_of m.ladder q.dt a restarts [];
       is = asked_setup source q m.ladder m.marks.items m.retained.items a restarts [] ladder kept refl marked.marks asked;
-      places = a.claims.items;
-      claims = claims_of m.ladder.declarations m.ladder.networks m.marks.items q.claims a.claims.items marked.marks asked.claimed;
+      claims = a.claims.items;
+      are_claims = claims_of m.ladder.declarations m.ladder.networks m.marks.items q.claims a.claims.items marked.marks asked.claimed;
       still = still;
       timer = timer;
     })
 
 -- too many free inputs matter
-pub many_refused : (source : SourceValue) (q : QuestionValue) (u v : SetupValue) (idle : List Bool) (places constants : List ℕ) (needed networks : ℕ) (fault : VerifyFault)
-    → IsPrepared source q u idle v places constants needed networks → (fault ≡ TooManyInputs (length v.free)) × (20 < length v.free) → RefusesAnswering source q fault
-many_refused source q u v idle places constants needed networks fault p (is, many) = subst (RefusesAnswering source q) (sym is) (record {
+pub many_refused : (source : SourceValue) (q : QuestionValue) (u v : SetupValue) (idle : List Bool) (claims : List Condition) (constants : List ℕ) (needed networks : ℕ) (fault : VerifyFault)
+    → IsPrepared source q u idle v claims constants needed networks → (fault ≡ TooManyInputs (free_digits v.free)) × (20 < free_digits v.free) → RefusesAnswering source q fault
+many_refused source q u v idle claims constants needed networks fault p (is, many) = subst (RefusesAnswering source q) (sym is) (record {
   setup = u;
   is = p.is;
-  places = places;
-  claims = p.claims;
+  claims = claims;
+  are_claims = p.are_claims;
   timed = p.timed;
   idle = idle;
   searched = v;
@@ -433,30 +399,30 @@ leads_whole v (r ∷ rows) s t (between, step, rest) zero row at = subst (λ (x 
 leads_whole v (r ∷ rows) s t (between, step, rest) (suc k) row at = leads_whole v rows between t rest k row at
 
 -- so has each of the whole
-fits_of : (u v : SetupValue) (claims : List ℕ) (idle : List Bool) (most scans place : ℕ) (found told : Verdict) → IsSearched u claims idle v → IsVerdict v most scans place found → IsWholeVerdict idle u.free found told → FitsSetup u told
-fits_of u v claims idle most scans place found Holds i verdict is = tt
-fits_of u v claims idle most scans place found (Undecided depth) i verdict is = tt
-fits_of u v claims idle most scans place Holds (Fails whole) i verdict is = absurd cc
-fits_of u v claims idle most scans place (Undecided depth) (Fails whole) i verdict is = absurd cc
-fits_of u v claims idle most scans place (Fails rows) (Fails whole) i verdict is =
+fits_of : (u v : SetupValue) (claims : List Condition) (idle : List Bool) (most scans : ℕ) (claim : Condition) (found told : Verdict) → IsSearched u claims idle v → IsVerdict v most scans claim found → IsWholeVerdict idle u.free found told → FitsSetup u told
+fits_of u v claims idle most scans claim found Holds i verdict is = tt
+fits_of u v claims idle most scans claim found (Undecided depth) i verdict is = tt
+fits_of u v claims idle most scans claim Holds (Fails whole) i verdict is = absurd cc
+fits_of u v claims idle most scans claim (Undecided depth) (Fails whole) i verdict is = absurd cc
+fits_of u v claims idle most scans claim (Fails rows) (Fails whole) i verdict is =
     subst (AreWholeRows u) (sym is) (All-map (λ (row : List Bool). length row ≡ width u) (whole_row idle u.free) rows.items
-    (λ k d lt. whole_long u v claims idle (get_or rows.items k d) i (leads_whole v rows.items (first v) verdict.last verdict.run k (get_or rows.items k d) (slice_get-get_or rows.items k d lt))))
+    (λ k d lt. whole_long u v claims idle (get_or rows.items k d) i (leads_whole v rows.items (first v) verdict.last verdict.run.run k (get_or rows.items k d) (slice_get-get_or rows.items k d lt))))
 
-pub verdicts_fit : (u v : SetupValue) (claims places : List ℕ) (idle : List Bool) (most scans : ℕ) (found told : List Verdict) → IsSearched u claims idle v → AreVerdicts v most scans places found
+pub verdicts_fit : (u v : SetupValue) (claims claimed : List Condition) (idle : List Bool) (most scans : ℕ) (found told : List Verdict) → IsSearched u claims idle v → AreVerdicts v most scans claimed found
     → AreWholeVerdicts idle u.free found told → All (FitsSetup u) told
-verdicts_fit u v claims places idle most scans found told i are whole = all_from_places (FitsSetup u) told (λ k verdict at.
+verdicts_fit u v claims claimed idle most scans found told i are whole = all_from_places (FitsSetup u) told (λ k verdict at.
     let old = zip_back (IsWholeVerdict idle u.free) found told whole k verdict at in
-    let within : k < length places = let w = slice_get_within found k old.0 old.1 in let long = are.long in omega arith in
-    let place = element_at places k within in
-    fits_of u v claims idle most scans place.0 old.0 verdict i (are.each k place.0 old.0 place.1 old.1) old.2)
+    let within : k < length claimed = let w = slice_get_within found k old.0 old.1 in let long = are.long in omega arith in
+    let claim = element_at claimed k within in
+    fits_of u v claims idle most scans claim.0 old.0 verdict i (are.each k claim.0 old.0 claim.1 old.1) old.2)
 
 -- a verdict for each name
-pub names_long : (u v : SetupValue) (most scans : ℕ) (names : List (Bor (List ℕ))) (places : List ℕ) (idle : List Bool) (found told : List Verdict)
-    → AllZip (IsClaim u.ladder.declarations u.ladder.networks) (texts names) places
-    → AreVerdicts v most scans places found → AreWholeVerdicts idle u.free found told → length told ≡ length names
-names_long u v most scans names places idle found told claims are whole =
+pub names_long : (u v : SetupValue) (most scans : ℕ) (names : List (Bor (List ℕ))) (claims : List Condition) (idle : List Bool) (found told : List Verdict)
+    → AllZip (IsClaim u.ladder.declarations u.ladder.networks) (texts names) claims
+    → AreVerdicts v most scans claims found → AreWholeVerdicts idle u.free found told → length told ≡ length names
+names_long u v most scans names claims idle found told are_claims are whole =
     sym (zip_length (IsWholeVerdict idle u.free) found told whole) ∙ are.long
-    ∙ sym (zip_length (IsClaim u.ladder.declarations u.ladder.networks) (texts names) places claims) ∙ length-map names (λ w. w.now)
+    ∙ sym (zip_length (IsClaim u.ladder.declarations u.ladder.networks) (texts names) claims are_claims) ∙ length-map names (λ w. w.now)
 
 -- before anything is written
 pub answering_explained : (source : SourceValue) (q : QuestionValue) (old : Option (List ℕ)) (fault : VerifyFault) → RefusesAnswering source q fault → ExplainsAnswer source q old old fault

@@ -14,6 +14,7 @@ pub mod Counting
 mod Searching
 pub mod Marking
 pub mod Premising
+mod ClaimParts
 pub mod Reading
 pub mod Wording
 pub mod Telling
@@ -21,4 +22,4 @@ pub mod Joining
 pub mod Summing
 pub mod Asking
 pub mod Wholes
-pub mod Holding
+pub mod ToldInputs

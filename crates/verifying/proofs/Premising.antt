@@ -6,7 +6,7 @@ use Rattle.std.proofs.lemmas.List.Elements.{Contains-append_left, Contains-appen
 use Rattle.std.proofs.lemmas.Option.{slice_get_within}
 use Rattle.network.specs.Links.{Diagram}
 use Rattle.declared_names.specs.declared.declarations.Declaration.{Declaration}
-use Rattle.verifying.specs.declared.setup.Setting.{Setting}
+use Rattle.text_commands.specs.declared.input_words.InputWord.{InputWord}
 use Rattle.verifying.specs.Premises.{AreConstants, IsNumberAt, IsTimerAt, premise_line, restart_premises}
 use Rattle.text_commands.specs.Stores.{stored_places}
 use Rattle.verifying.specs.Steps.Marks.{AreConstantsOf, AreMarksOf, IsConstantOf}
@@ -21,13 +21,13 @@ number_within : (ds : List Declaration) (place : ℕ) → IsNumberAt ds place �
 number_within ds place (e, at, number) = slice_get_within ds place e at
 
 -- the next place is a constant
-pub constant_push : (ds : List Declaration) (marks : List Bool) (held : List Setting) (k : ℕ) (constants : List ℕ) → IsConstantOf ds marks held k
-    → AreConstantsOf ds marks held k constants → AreConstantsOf ds marks held (k + 1) (constants ++ k ∷ [])
-constant_push ds marks held k constants is are = record {
+pub constant_push : (ds : List Declaration) (marks : List Bool) (words : List InputWord) (k : ℕ) (constants : List ℕ) → IsConstantOf ds marks words k
+    → AreConstantsOf ds marks words k constants → AreConstantsOf ds marks words (k + 1) (constants ++ k ∷ [])
+constant_push ds marks words k constants is are = record {
   each = λ place. (
     (λ has. elim (Contains-append_cases constants (k ∷ []) place has) [
       | inl early ↦ let known = (are.each place).0 early in let below = known.1 in (known.0, omega arith)
-      | inr last ↦ let same = single k place last in (subst (IsConstantOf ds marks held) same is, omega arith)
+      | inr last ↦ let same = single k place last in (subst (IsConstantOf ds marks words) same is, omega arith)
     ]),
     (λ known. elim (cases_eq place k) [
       | inl same ↦ subst (Contains (constants ++ k ∷ [])) (sym same) (Contains-append_right constants (k ∷ []) k (0, omega arith, refl))
@@ -38,13 +38,13 @@ constant_push ds marks held k constants is are = record {
 }
 
 -- the next place isn't
-pub constant_same : (ds : List Declaration) (marks : List Bool) (held : List Setting) (k : ℕ) (constants : List ℕ) → (IsConstantOf ds marks held k → ⊥)
-    → AreConstantsOf ds marks held k constants → AreConstantsOf ds marks held (k + 1) constants
-constant_same ds marks held k constants not_is are = record {
+pub constant_same : (ds : List Declaration) (marks : List Bool) (words : List InputWord) (k : ℕ) (constants : List ℕ) → (IsConstantOf ds marks words k → ⊥)
+    → AreConstantsOf ds marks words k constants → AreConstantsOf ds marks words (k + 1) constants
+constant_same ds marks words k constants not_is are = record {
   each = λ place. (
     (λ has. let known = (are.each place).0 has in let below = known.1 in (known.0, omega arith)),
     (λ known. elim (cases_eq place k) [
-      | inl same ↦ absurd (not_is (subst (IsConstantOf ds marks held) same known.0))
+      | inl same ↦ absurd (not_is (subst (IsConstantOf ds marks words) same known.0))
       | inr apart ↦ let below = known.1 in (are.each place).1 (known.0, omega arith)
     ]),
   );
@@ -52,14 +52,14 @@ constant_same ds marks held k constants not_is are = record {
 }
 
 -- the constants by the marks are the constants
-pub constants_of : (ds : List Declaration) (networks : List Diagram) (marks : List Bool) (held : List Setting) (constants : List ℕ) → AreMarksOf (stored_places ds networks) (length ds) marks
-    → AreConstantsOf ds marks held (length ds) constants → AreConstants ds networks held constants
-constants_of ds networks marks held constants are is = record {
+pub constants_of : (ds : List Declaration) (networks : List Diagram) (marks : List Bool) (words : List InputWord) (constants : List ℕ) → AreMarksOf (stored_places ds networks) (length ds) marks
+    → AreConstantsOf ds marks words (length ds) constants → AreConstants ds networks words constants
+constants_of ds networks marks words constants are is = record {
   each = λ place. (
     (λ has. let known = (is.each place).0 has in
-        record { number = known.0.number; unstored = λ stored. known.0.unmarked ((are.each place known.1).1 stored); unheld = known.0.unheld }),
+        record { number = known.0.number; unstored = λ stored. known.0.unmarked ((are.each place known.1).1 stored); untold = known.0.untold }),
     (λ known. let within = number_within ds place known.number in
-        (is.each place).1 (record { number = known.number; unmarked = λ marked. known.unstored ((are.each place within).0 marked); unheld = known.unheld }, within)),
+        (is.each place).1 (record { number = known.number; unmarked = λ marked. known.unstored ((are.each place within).0 marked); untold = known.untold }, within)),
   );
   ascending = is.ascending;
 }

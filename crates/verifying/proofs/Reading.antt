@@ -7,6 +7,7 @@ use Rattle.std.proofs.lemmas.Option.{slice_get-get_or}
 use Rattle.lists.proofs.Zips.{zip_push}
 use Rattle.text_commands.specs.Rows.{texts}
 use Rattle.declared_names.specs.declared.declarations.Declaration.{Declaration}
+use Rattle.verifying.specs.declared.condition.Condition.{Condition}
 use Rattle.verifying.specs.declared.verify_fault.ClaimFaultKind.{ClaimFaultKind}
 use Rattle.verifying.specs.Steps.Marks.{ClaimsRead, IsClaimFaultOf, IsNoClaimOf}
 
@@ -28,8 +29,8 @@ word_more R words ys n d y within before is =
     let long = length-map words (λ (w : Bor (List ℕ)). w.now) in
     zip_more R (texts words) ys n [] y (omega arith) before (rw (get_or-map (λ (w : Bor (List ℕ)). w.now) words n d [] within) is)
 
--- the next name is none
-pub claim_fault : (ds : List Declaration) (marks : List Bool) (names : List (Bor (List ℕ))) (n : ℕ) (d : Bor (List ℕ)) (places : List ℕ) (kind : ClaimFaultKind) → n < length names
-    → ClaimsRead ds marks (take n (texts names)) places → IsNoClaimOf ds marks (get_or names n d).now kind → IsClaimFaultOf ds marks (texts names) (record { number = n; kind = kind })
-claim_fault ds marks names n d places kind within before refused =
-    record { name = (get_or names n d).now; at = text_there names n d within; places = places; before = before; refused = refused }
+-- the next word is none
+pub claim_fault : (ds : List Declaration) (marks : List Bool) (words : List (Bor (List ℕ))) (n : ℕ) (d : Bor (List ℕ)) (claims : List Condition) (kind : ClaimFaultKind) → n < length words
+    → ClaimsRead ds marks (take n (texts words)) claims → IsNoClaimOf ds marks (get_or words n d).now kind → IsClaimFaultOf ds marks (texts words) (record { number = n; kind = kind })
+claim_fault ds marks words n d claims kind within before refused =
+    record { word = (get_or words n d).now; at = text_there words n d within; claims = claims; before = before; refused = refused }

@@ -13,7 +13,9 @@ use Rattle.power_flow.specs.Meaning.{Moment}
 use Rattle.text_commands.specs.Restarts.{restarted}
 use Rattle.text_commands.specs.Series.{set_value}
 use Rattle.verifying.specs.declared.setup.Setting.{Setting}
-use Rattle.verifying.specs.Runs.{SetupValue, assigned, first, opened_by, settings_of}
+use Rattle.verifying.specs.declared.free_input.FreeInput.{FreeInput}
+use Rattle.verifying.specs.FreeInputs.{choice_digits, settings_of}
+use Rattle.verifying.specs.Runs.{SetupValue, assigned, first, opened_by}
 
 -- the same stands at each other place
 pub record AreSameBut (P : ℕ → Type 0) (xs ys : List Slot) : Type 0 where
@@ -49,14 +51,11 @@ Sets [] place = ⊥
 Sets (s ∷ settings) place = (s.place ≡ place) ⊎ Sets settings place
 
 -- whatever the row, the same places are set
-pub same_places : (free : List ℕ) (a b : List Bool) (held : List Setting) (place : ℕ) → length free ≤ length a → length free ≤ length b
-    → Sets (settings_of free a ++ held) place → Sets (settings_of free b ++ held) place
+pub same_places : (free : List FreeInput) (a b : List Bool) (held : List Setting) (place : ℕ) → Sets (settings_of free a ++ held) place → Sets (settings_of free b ++ held) place
 unfolding Sets
-same_places [] a b held place p q h = h
-same_places (f ∷ free) [] b held place p q h = absurd (omega arith)
-same_places (f ∷ free) (x ∷ a) [] held place p q h = absurd (omega arith)
-same_places (f ∷ free) (x ∷ a) (y ∷ b) held place p q (inl e) = inl e
-same_places (f ∷ free) (x ∷ a) (y ∷ b) held place p q (inr h) = inr (same_places free a b held place (omega arith) (omega arith) h)
+same_places [] a b held place h = h
+same_places (f ∷ free) a b held place (inl e) = inl e
+same_places (f ∷ free) a b held place (inr h) = let c = choice_digits f.choice in inr (same_places free (drop c a) (drop c b) held place h)
 
 length-assigned : (settings : List Setting) (xs : List Slot) → length (assigned settings xs) ≡ length xs
 length-assigned [] xs = refl

@@ -1,9 +1,12 @@
+pub mod Conditions
+pub mod FreeInputs
 pub mod Runs
 pub mod Meeting
 pub mod Verdicts
 pub mod Counts
 pub mod Needed
 pub mod Inputs
+pub mod ClaimWords
 pub mod Questions
 pub mod VerdictLines
 pub mod Premises

@@ -1,7 +1,7 @@
 -- What the answers about a drawing depend on, beside the drawing and its free inputs.
 use Rattle.std.specs.Prelude.{◌≡◌, ◌↔◌, ℕ, ◌==◌, ◌<◌, ◌++◌, if◌then◌else◌, List, [], ◌∷◌, Bool, true, false, IsTrue, Option, Some, None, Contains, codes, map, slice_get}
 use Rattle.std.specs.Fmt.{decimal}
-use Rattle.std.specs.List.{AllPairs, join_by}
+use Rattle.std.specs.List.{AllPairs, flat_map, join_by}
 use Rattle.std.specs.Option.{option_map_or}
 use Rattle.std_blocks.specs.declared.block_type.BlockType.{BlockType}
 use Rattle.std_blocks.specs.declared.block_type.BlockType.TheVariants.{SR, RS, CTU, CTD, CTUD, TP, TON, TOF}
@@ -14,10 +14,16 @@ use Rattle.declared_names.specs.declared.declarations.Kind.TheVariants as kind
 use Rattle.network.specs.Links.{Diagram}
 use Rattle.text_commands.specs.Lines.{item_text}
 use Rattle.verifying.specs.declared.setup.Setting.{Setting}
-use Rattle.verifying.specs.Inputs.{IsHeld}
+use Rattle.verifying.specs.Inputs.{IsTold}
+use Rattle.verifying.specs.declared.free_input.Choice.{Choice}
+use Rattle.verifying.specs.declared.free_input.Choice.TheVariants.{Bit, Ints, Times}
+use Rattle.verifying.specs.declared.free_input.FreeInput.{FreeInput}
+use Rattle.text_commands.specs.declared.input_words.InputWord.{InputWord}
+use Rattle.std_blocks.specs.declared.value.Value.TheVariants.{Int as IntValue, Time as TimeValue}
+use Rattle.text_lines.specs.LineParts.{value_text}
 use Rattle.verifying.specs.Runs.{SetupValue}
 use Rattle.text_commands.specs.Stores.{IsStored}
-use Rattle.verifying.specs.VerdictLines.{name_at}
+use Rattle.verifying.specs.VerdictLines.{condition_text, name_at}
 
 -- the blocks that stand still while no time passes
 abbrev pub is_timer : BlockType → Bool
@@ -63,16 +69,16 @@ IsNumber (Instance block) = ⊥
 abbrev pub IsNumberAt : List Declaration → ℕ → Type 0
 IsNumberAt ds place = (e : Declaration) × (slice_get ds place ≡ Some e) × IsNumber e.declared
 
--- a constant: an INT or TIME variable that is not held, and at which no coil and no output pin stores, so that it is 0 in all
--- runs
-pub record IsConstant (ds : List Declaration) (networks : List Diagram) (held : List Setting) (place : ℕ) : Type 0 where
+-- a constant: an INT or TIME variable of which no word tells, and at which no coil and no output pin stores, so that it is 0 in
+-- all runs
+pub record IsConstant (ds : List Declaration) (networks : List Diagram) (words : List InputWord) (place : ℕ) : Type 0 where
   pub number : IsNumberAt ds place
   pub unstored : IsStored ds networks place → ⊥
-  pub unheld : IsHeld held place → ⊥
+  pub untold : IsTold words place → ⊥
 
 -- the constants, in the order of their declarations
-pub record AreConstants (ds : List Declaration) (networks : List Diagram) (held : List Setting) (constants : List ℕ) : Type 0 where
-  pub each : (place : ℕ) → Contains constants place ↔ IsConstant ds networks held place
+pub record AreConstants (ds : List Declaration) (networks : List Diagram) (words : List InputWord) (constants : List ℕ) : Type 0 where
+  pub each : (place : ℕ) → Contains constants place ↔ IsConstant ds networks words place
   pub ascending : AllPairs ◌<◌ constants
 
 -- the time from scan to scan, if any passes
@@ -82,6 +88,15 @@ dt_premises dt = if dt == 0 then [] else (codes "dt " ++ decimal dt ++ codes " m
 -- NAME=VALUE
 abbrev pub held_premise : List Declaration → Setting → List ℕ
 held_premise ds s = item_text (name_at ds s.place) s.value
+
+-- the range of a free number: NAME=LEAST..GREATEST
+abbrev pub range_text : List ℕ → Choice → List (List ℕ)
+range_text name Bit = []
+range_text name (Ints least greatest) = (item_text name (IntValue least) ++ codes ".." ++ value_text (IntValue greatest)) ∷ []
+range_text name (Times least greatest) = (item_text name (TimeValue least) ++ codes ".." ++ value_text (TimeValue greatest)) ∷ []
+
+abbrev pub range_premises : List Declaration → List FreeInput → List (List ℕ)
+range_premises ds free = flat_map (λ (f : FreeInput). range_text (name_at ds f.place) f.choice) free
 
 -- what a variable is at first: 0 or T#0ms
 abbrev pub first_of : Declared → List ℕ → List ℕ
@@ -99,11 +114,12 @@ abbrev pub restart_premises : Option (List ℕ) → List (List ℕ)
 restart_premises None = []
 restart_premises (Some kept) = codes "restarts before any scan" ∷ []
 
--- the time, the inputs that are held, in the order of the words, the constants, in that of their declarations, the
--- names that are given, and that runs may restart
+-- the time, the inputs that are held and those that are free in a range, in the order of the words, the constants, in that of their declarations, what is
+-- given, and that runs may restart
 abbrev pub premises : SetupValue → List ℕ → List (List ℕ)
 premises u constants = dt_premises u.dt ++ map (held_premise u.ladder.declarations) u.held
-    ++ map (constant_premise u.ladder.declarations) constants ++ map (name_at u.ladder.declarations) u.given
+    ++ range_premises u.ladder.declarations u.free
+    ++ map (constant_premise u.ladder.declarations) constants ++ map (condition_text u.ladder.declarations) u.given
     ++ restart_premises u.restarts
 
 -- a line of them, if there are any

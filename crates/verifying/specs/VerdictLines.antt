@@ -1,5 +1,5 @@
 -- How verdicts are written.
-use Rattle.std.specs.Prelude.{◌≡◌, ℕ, ◌==◌, ◌++◌, if◌then◌else◌, List, [], ◌∷◌, Bool, codes, length, map, slice_get, slice_index_or, false, nat_lt, ◌||◌, ◌&&◌, not}
+use Rattle.std.specs.Prelude.{◌≡◌, ℕ, ◌==◌, ◌++◌, if◌then◌else◌, List, [], ◌∷◌, Bool, codes, drop, length, map, slice_get, slice_index_or, take, false, nat_lt, ◌||◌, ◌&&◌, not}
 use Rattle.std.specs.Fmt.{decimal}
 use Rattle.std.specs.List.{enumerate_from, flat_map, join_by}
 use Rattle.std.specs.Option.{option_map_or}
@@ -9,6 +9,14 @@ use Rattle.declared_names.specs.declared.declarations.Declaration.{Declaration}
 use Rattle.power_flow.specs.Meaning.{Moment}
 use Rattle.text_lines.specs.LineParts.{value_text}
 use Rattle.text_commands.specs.Lines.{line_of}
+use Rattle.verifying.specs.ClaimWords.{truth_text}
+use Rattle.verifying.specs.Conditions.{sign_text}
+use Rattle.verifying.specs.declared.condition.Condition.{Condition}
+use Rattle.verifying.specs.declared.condition.Condition.TheVariants.{On, Compared}
+use Rattle.verifying.specs.declared.free_input.Choice.{Choice}
+use Rattle.verifying.specs.declared.free_input.Choice.TheVariants.{Bit, Ints, Times}
+use Rattle.verifying.specs.declared.free_input.FreeInput.{FreeInput}
+use Rattle.verifying.specs.FreeInputs.{choice_digits, choice_value, free_digits, number_of}
 use Rattle.verifying.specs.declared.setup.Setting.{Setting}
 use Rattle.verifying.specs.declared.verdict.Tally.{Tally}
 use Rattle.verifying.specs.declared.verdict.Verdict.{Verdict}
@@ -23,20 +31,31 @@ counted count what = decimal count ++ codes " " ++ what ++ (if count == 1 then [
 abbrev pub looked_at : ℕ → ℕ → List ℕ
 looked_at states scans = codes ": " ++ counted states (codes "state") ++ codes ", " ++ counted scans (codes "scan") ++ codes "\n"
 
+-- a claim by its word, and what is told of it: `LIFT is never on`, `N>5 is never true`
+abbrev pub told_of : List ℕ → List ℕ → List ℕ
+told_of claim told = claim ++ told ++ truth_text claim
+
 abbrev pub undecided_line : List ℕ → ℕ → ℕ → ℕ → List ℕ
-undecided_line name depth states scans =
-    codes "UNDECIDED " ++ name ++ codes " is not on within " ++ counted depth (codes "scan") ++ looked_at states scans
+undecided_line claim depth states scans =
+    codes "UNDECIDED " ++ told_of claim (codes " is not ") ++ codes " within " ++ counted depth (codes "scan")
+    ++ looked_at states scans
 
 abbrev pub fails_line : List ℕ → ℕ → List ℕ
-fails_line name scans = codes "FAILS " ++ name ++ codes " is on after " ++ counted scans (codes "scan") ++ codes "\n"
+fails_line claim scans =
+    codes "FAILS " ++ told_of claim (codes " is ") ++ codes " after " ++ counted scans (codes "scan") ++ codes "\n"
 
 -- the name that is declared at a place
 abbrev pub name_at : List Declaration → ℕ → List ℕ
 name_at ds place = option_map_or (λ (d : Declaration). d.name) (slice_get ds place) []
 
+-- a condition in words: NAME, or NAME, its sign and its number
+abbrev pub condition_text : List Declaration → Condition → List ℕ
+condition_text ds (On place) = name_at ds place
+condition_text ds (Compared place comparison bound) = name_at ds place ++ sign_text comparison ++ value_text bound
+
 -- that no run meets what is given
 abbrev pub unmet : SetupValue → List ℕ
-unmet u = codes ": no run meets " ++ join_by (name_at u.ladder.declarations) (codes ", ") u.given ++ codes "\n"
+unmet u = codes ": no run meets " ++ join_by (condition_text u.ladder.declarations) (codes ", ") u.given ++ codes "\n"
 
 -- how many networks were needed, where that are fewer than there are
 abbrev pub needed_of : ℕ → ℕ → List ℕ
@@ -54,7 +73,7 @@ abbrev pub held_in : SetupValue → Tally → List ℕ
 held_in u t = if t.met then searched_in t else unmet u
 
 abbrev pub holds_line : SetupValue → Tally → List ℕ → List ℕ
-holds_line u t name = codes "HOLDS " ++ name ++ codes " is never on" ++ held_in u t
+holds_line u t claim = codes "HOLDS " ++ told_of claim (codes " is never ") ++ held_in u t
 
 -- a digit for a value
 abbrev pub digit_of : Bool → ℕ
@@ -64,9 +83,16 @@ digit_of on = if on then 49 else 48
 abbrev pub input_word : List ℕ → List ℕ → List ℕ
 input_word name values = codes " " ++ name ++ codes "=" ++ values
 
--- the digits of a free input, by its number: its value in each row
-abbrev pub digits_of_free : List (List Bool) → ℕ → List ℕ
-digits_of_free rows input = map (λ (row : List Bool). digit_of (slice_index_or row input false)) rows
+-- the value of a free number in each row, with commas between
+abbrev pub numbers_of_free : Choice → List (List Bool) → List ℕ
+numbers_of_free choice rows =
+    join_by (λ (row : List Bool). value_text (choice_value choice (number_of (take (choice_digits choice) row)))) (codes ",") rows
+
+-- the values of a free input, whose digits each row begins with: a digit for each row, or numbers with commas between
+abbrev pub values_of_free : Choice → List (List Bool) → List ℕ
+values_of_free Bit rows = map (λ (row : List Bool). digit_of (slice_index_or row 0 false)) rows
+values_of_free (Ints least greatest) rows = numbers_of_free (Ints least greatest) rows
+values_of_free (Times least greatest) rows = numbers_of_free (Times least greatest) rows
 
 -- the digits of a BOOL that is held: its value for each row
 abbrev pub digits_of_held : List (List Bool) → Bool → List ℕ
@@ -82,9 +108,10 @@ values_of_held rows (BoolValue on) = digits_of_held rows on
 values_of_held rows (IntValue n) = value_text (IntValue n) ++ times_text (length rows)
 values_of_held rows (TimeValue t) = value_text (TimeValue t) ++ times_text (length rows)
 
-abbrev pub free_words : List Declaration → List ℕ → List (List Bool) → List ℕ
-free_words ds free rows =
-    flat_map (λ (e : ℕ × ℕ). input_word (name_at ds e.1) (digits_of_free rows e.0)) (enumerate_from 0 free)
+abbrev pub free_words : List Declaration → List FreeInput → List (List Bool) → List ℕ
+free_words ds [] rows = []
+free_words ds (f ∷ free) rows = input_word (name_at ds f.place) (values_of_free f.choice rows)
+    ++ free_words ds free (map (drop (choice_digits f.choice)) rows)
 
 abbrev pub held_words : List Declaration → List Setting → List (List Bool) → List ℕ
 held_words ds held rows =
@@ -107,7 +134,7 @@ restart_words (scan ∷ scans) = codes " --restart " ++ join_by decimal (codes "
 -- the words that have `plc eval` make a run
 abbrev pub eval_line : SetupValue → List ℕ → List (List Bool) → List ℕ
 eval_line u file rows =
-    codes "plc eval " ++ file ++ dt_words u.dt ++ restart_words (restart_scans (length u.free) rows)
+    codes "plc eval " ++ file ++ dt_words u.dt ++ restart_words (restart_scans (free_digits u.free) rows)
     ++ free_words u.ladder.declarations u.free rows ++ held_words u.ladder.declarations u.held rows ++ codes "\n"
 
 -- what `plc eval` can make: a run of 1,000 scans at most, and of one where there is no input

@@ -1,7 +1,14 @@
-ghost use Rattle.std.specs.Prelude.{◌≡◌};
-ghost use Rattle.verifying.specs.VerdictLines.{name_at};
+//! The names of variables, and conditions on these.
 
+ghost use Rattle.std.specs.Prelude.{◌≡◌, OnOk};
+ghost use Rattle.text_lines.specs.Growing.{GrowsBy};
+ghost use Rattle.verifying.specs.VerdictLines.{condition_text, name_at};
+
+use crate::comparison::push_sign;
+use crate::condition::Condition;
 use declared_names::Declarations;
+use std::alloc::AllocError;
+use text_lines::push_value;
 
 /// The name that is declared at a place; an empty one where there is none.
 pub(crate) fn name_at(declarations: &Declarations, place: usize) -> &str
@@ -10,5 +17,27 @@ pub(crate) fn name_at(declarations: &Declarations, place: usize) -> &str
     match declarations.entry(place) {
         Some((name, _)) => name,
         None => "",
+    }
+}
+
+/// Writes a condition: NAME, or NAME, its sign and its number.
+pub(crate) fn push_condition(
+    text: &mut String,
+    declarations: &Declarations,
+    condition: &Condition,
+) -> Result<(), AllocError>
+    ensures { OnOk result (GrowsBy text.old text.new (condition_text declarations.now condition.now)) }
+{
+    match condition {
+        Condition::On(place) => text.push_str(name_at(declarations, *place)),
+        Condition::Compared {
+            place,
+            comparison,
+            bound,
+        } => {
+            text.push_str(name_at(declarations, *place))?;
+            push_sign(text, *comparison)?;
+            push_value(text, *bound)
+        }
     }
 }

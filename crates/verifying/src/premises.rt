@@ -1,19 +1,23 @@
 //! What the answers about a drawing depend on, beside the drawing and its free inputs.
 
-ghost use Rattle.std.specs.Prelude.{◌≡◌, ◌↔◌, ◌++◌, IsTrue, IfOk, IfErr, OnOk, length, map, string_bytes};
+ghost use Rattle.std.specs.Prelude.{◌≡◌, ◌↔◌, ◌++◌, IsTrue, IfOk, IfErr, OnOk, codes, length, map, string_bytes};
 ghost use Rattle.text_lines.specs.Growing.{GrowsBy};
+ghost use Rattle.text_lines.specs.LineParts.{value_text};
 ghost use Rattle.text_commands.specs.Lines.{item_text};
-ghost use Rattle.verifying.specs.Premises.{HasTimer, IsNumber, IsNumberAt, IsTimed, IsTimer, IsTimerAt, constant_premise, dt_premises, held_premise, is_number, is_timer, premise_line, premises, restart_premises};
-ghost use Rattle.verifying.specs.VerdictLines.{name_at};
+ghost use Rattle.verifying.specs.Premises.{HasTimer, IsNumber, IsNumberAt, IsTimed, IsTimer, IsTimerAt, constant_premise, dt_premises, held_premise, is_number, is_timer, premise_line, premises, range_premises, range_text, restart_premises};
+ghost use Rattle.verifying.specs.VerdictLines.{condition_text, name_at};
 ghost use Rattle.verifying.specs.Steps.Marks.{AreConstantsOf, IsConstantOf};
 
-use crate::inputs::{is_held, is_marked};
-use crate::names::name_at;
+use crate::condition::Condition;
+use crate::free_input::{Choice, FreeInput};
+use crate::inputs::{is_marked, is_told};
+use crate::names::{name_at, push_condition};
 use crate::setup::{Setting, Setup};
 use crate::verify_fault::VerifyFault;
 use declared_names::{Declarations, Declared, Kind, first_value};
 use std::alloc::{AllocError, Global};
 use std_blocks::{BlockType, Value};
+use text_commands::InputWord;
 use text_lines::push_value;
 
 /// Whether a block stands still while no time passes.
@@ -95,24 +99,29 @@ fn is_number_at(declarations: &Declarations, place: usize) -> bool
     }
 }
 
-fn is_constant(declarations: &Declarations, marks: &[bool], held: &[Setting], place: usize) -> bool
-    ensures { IsTrue result ↔ IsConstantOf declarations.now marks.now held.now place }
+fn is_constant(
+    declarations: &Declarations,
+    marks: &[bool],
+    words: &[InputWord<'_>],
+    place: usize,
+) -> bool
+    ensures { IsTrue result ↔ IsConstantOf declarations.now marks.now words.now place }
 {
-    is_number_at(declarations, place) && !is_marked(marks, place) && !is_held(held, place)
+    is_number_at(declarations, place) && !is_marked(marks, place) && !is_told(words, place)
 }
 
-/// The places of the INT and TIME variables that are neither marked nor held, in order.
+/// The places of the INT and TIME variables that are not marked and of which no word tells, in order.
 pub(crate) fn constant_places(
     alloc: Global,
     declarations: &Declarations,
     marks: &[bool],
-    held: &[Setting],
+    words: &[InputWord<'_>],
 ) -> Result<Vec<usize>, AllocError>
-    ensures { IfOk result (λ constants. AreConstantsOf declarations.now marks.now held.now (length declarations.now) constants.items) }
+    ensures { IfOk result (λ constants. AreConstantsOf declarations.now marks.now words.now (length declarations.now) constants.items) }
 {
     let mut constants = Vec::new(alloc);
     for place in 0..declarations.len() {
-        if is_constant(declarations, marks, held, place) {
+        if is_constant(declarations, marks, words, place) {
             constants.push(place)?;
         }
     }
@@ -180,6 +189,61 @@ fn push_held(
     Ok(())
 }
 
+/// NAME=LEAST..GREATEST.
+fn range_item(
+    alloc: Global,
+    name: &str,
+    least: Value,
+    greatest: Value,
+) -> Result<String, AllocError>
+    ensures { IfOk result (λ text. string_bytes text ≡ item_text name.now least ++ codes ".." ++ value_text greatest) }
+{
+    let mut text = item(alloc, name, least)?;
+    text.push_str("..")?;
+    push_value(&mut text, greatest)?;
+    Ok(text)
+}
+
+/// Adds the range of a free number.
+fn push_range(
+    alloc: Global,
+    made: &mut Vec<String>,
+    declarations: &Declarations,
+    input: &FreeInput,
+) -> Result<(), AllocError>
+    ensures { OnOk result (map (λ p. string_bytes p) made.new.items
+        ≡ map (λ p. string_bytes p) made.old.items ++ range_text (name_at declarations.now input.now.place) input.now.choice) }
+{
+    let name = name_at(declarations, input.place);
+    match input.choice {
+        Choice::Bit => Ok(()),
+        Choice::Ints { least, greatest } => {
+            let range = range_item(alloc, name, Value::Int(least), Value::Int(greatest))?;
+            Ok(made.push(range)?)
+        }
+        Choice::Times { least, greatest } => {
+            let range = range_item(alloc, name, Value::Time(least), Value::Time(greatest))?;
+            Ok(made.push(range)?)
+        }
+    }
+}
+
+/// Adds the ranges of the free numbers.
+fn push_ranges(
+    alloc: Global,
+    made: &mut Vec<String>,
+    declarations: &Declarations,
+    free: &[FreeInput],
+) -> Result<(), AllocError>
+    ensures { OnOk result (map (λ p. string_bytes p) made.new.items
+        ≡ map (λ p. string_bytes p) made.old.items ++ range_premises declarations.now free.now) }
+{
+    for input in free {
+        push_range(alloc, made, declarations, input)?;
+    }
+    Ok(())
+}
+
 fn push_constants(
     alloc: Global,
     made: &mut Vec<String>,
@@ -195,17 +259,29 @@ fn push_constants(
     Ok(())
 }
 
+fn condition_text(
+    alloc: Global,
+    declarations: &Declarations,
+    condition: &Condition,
+) -> Result<String, AllocError>
+    ensures { IfOk result (λ text. string_bytes text ≡ condition_text declarations.now condition.now) }
+{
+    let mut text = String::new(alloc);
+    push_condition(&mut text, declarations, condition)?;
+    Ok(text)
+}
+
 fn push_given(
     alloc: Global,
     made: &mut Vec<String>,
     declarations: &Declarations,
-    given: &[usize],
+    given: &[Condition],
 ) -> Result<(), AllocError>
     ensures { OnOk result (map (λ p. string_bytes p) made.new.items
-        ≡ map (λ p. string_bytes p) made.old.items ++ map (name_at declarations.now) given.now) }
+        ≡ map (λ p. string_bytes p) made.old.items ++ map (condition_text declarations.now) given.now) }
 {
-    for place in given {
-        made.push(String::from_str(alloc, name_at(declarations, *place))?)?;
+    for condition in given {
+        made.push(condition_text(alloc, declarations, condition)?)?;
     }
     Ok(())
 }
@@ -222,13 +298,15 @@ fn push_restarts(alloc: Global, made: &mut Vec<String>, setup: &Setup) -> Result
     Ok(())
 }
 
-/// The time, the inputs that are held, the constants, what is given, and that runs may restart.
+/// The time, the inputs that are held and those that are free in a range, the constants, what is given, and that runs may
+/// restart.
 fn premises(alloc: Global, setup: &Setup, constants: &[usize]) -> Result<Vec<String>, AllocError>
     ensures { IfOk result (λ made. map (λ p. string_bytes p) made.items ≡ premises setup.now constants.now) }
 {
     let declarations = setup.ladder().declarations();
     let mut made = dt_premises(alloc, setup.dt())?;
     push_held(alloc, &mut made, declarations, setup.held())?;
+    push_ranges(alloc, &mut made, declarations, setup.free())?;
     push_constants(alloc, &mut made, declarations, constants)?;
     push_given(alloc, &mut made, declarations, setup.given())?;
     push_restarts(alloc, &mut made, setup)?;

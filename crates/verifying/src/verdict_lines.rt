@@ -4,10 +4,13 @@ ghost use Rattle.std.specs.Prelude.{◌≡◌, ◌++◌, ℕ, List, OnOk, IfOk, 
 ghost use Rattle.text_lines.specs.Growing.{GrowsBy};
 ghost use Rattle.text_commands.specs.Rows.{texts};
 ghost use Rattle.std.specs.List.{join_by};
-ghost use Rattle.verifying.specs.VerdictLines.{AreTexts, IsFailText, IsVerdictText, counted, fails_line, held_in, holds_line, looked_at, name_at, needed_of, searched_in, undecided_line, unmet};
+ghost use Rattle.verifying.specs.VerdictLines.{AreTexts, IsFailText, IsVerdictText, condition_text, counted, fails_line, held_in, holds_line, looked_at, needed_of, searched_in, told_of, undecided_line, unmet};
+ghost use Rattle.verifying.specs.ClaimWords.{truth_text};
 ghost use Rattle.verifying.specs.Steps.Adding.{AddsFailText, AddsVerdictText, AreWholeRows, FitsSetup};
 
-use crate::names::name_at;
+use crate::claims::parts_in;
+use crate::condition::Condition;
+use crate::names::push_condition;
 use crate::row::Row;
 use crate::run_lines::run_lines;
 use crate::setup::Setup;
@@ -36,21 +39,21 @@ fn push_looked_at(text: &mut String, states: usize, scans: usize) -> Result<(), 
     text.push_str("\n")
 }
 
-/// Writes the names at places, parted by commas.
-fn push_names(
+/// Writes conditions, parted by commas.
+fn push_conditions(
     text: &mut String,
     declarations: &Declarations,
-    places: &[usize],
+    conditions: &[Condition],
 ) -> Result<(), AllocError>
-    ensures { OnOk result (GrowsBy text.old text.new (join_by (name_at declarations.now) (codes ", ") places.now)) }
+    ensures { OnOk result (GrowsBy text.old text.new (join_by (condition_text declarations.now) (codes ", ") conditions.now)) }
 {
-    let [first, others @ ..] = places else {
+    let [first, others @ ..] = conditions else {
         return Ok(());
     };
-    text.push_str(name_at(declarations, *first))?;
-    for place in others {
+    push_condition(text, declarations, first)?;
+    for condition in others {
         text.push_str(", ")?;
-        text.push_str(name_at(declarations, *place))?;
+        push_condition(text, declarations, condition)?;
     }
     Ok(())
 }
@@ -60,7 +63,7 @@ pub fn push_unmet(text: &mut String, setup: &Setup) -> Result<(), AllocError>
     ensures { OnOk result (GrowsBy text.old text.new (unmet setup.now)) }
 {
     text.push_str(": no run meets ")?;
-    push_names(text, setup.ladder().declarations(), setup.given())?;
+    push_conditions(text, setup.ladder().declarations(), setup.given())?;
     text.push_str("\n")?;
     Ok(())
 }
@@ -100,37 +103,56 @@ fn push_held_in(text: &mut String, setup: &Setup, tally: Tally) -> Result<(), Al
     }
 }
 
-fn push_holds(text: &mut String, setup: &Setup, name: &str, tally: Tally) -> Result<(), AllocError>
-    ensures { OnOk result (GrowsBy text.old text.new (holds_line setup.now tally name.now)) }
+/// Writes that a BOOL is on, or a comparison true.
+fn push_truth(text: &mut String, claim: &str) -> Result<(), AllocError>
+    ensures { OnOk result (GrowsBy text.old text.new (truth_text claim.now)) }
+{
+    text.push_str(if parts_in(claim).is_some() {
+        "true"
+    } else {
+        "on"
+    })
+}
+
+/// Writes a claim, and what is told of it.
+pub fn push_told_of(text: &mut String, claim: &str, told: &str) -> Result<(), AllocError>
+    ensures { OnOk result (GrowsBy text.old text.new (told_of claim.now told.now)) }
+{
+    text.push_str(claim)?;
+    text.push_str(told)?;
+    push_truth(text, claim)
+}
+
+fn push_holds(text: &mut String, setup: &Setup, claim: &str, tally: Tally) -> Result<(), AllocError>
+    ensures { OnOk result (GrowsBy text.old text.new (holds_line setup.now tally claim.now)) }
 {
     text.push_str("HOLDS ")?;
-    text.push_str(name)?;
-    text.push_str(" is never on")?;
+    push_told_of(text, claim, " is never ")?;
     push_held_in(text, setup, tally)
 }
 
 fn push_undecided(
     text: &mut String,
-    name: &str,
+    claim: &str,
     depth: usize,
     states: usize,
     scans: usize,
 ) -> Result<(), AllocError>
-    ensures { OnOk result (GrowsBy text.old text.new (undecided_line name.now depth states scans)) }
+    ensures { OnOk result (GrowsBy text.old text.new (undecided_line claim.now depth states scans)) }
 {
     text.push_str("UNDECIDED ")?;
-    text.push_str(name)?;
-    text.push_str(" is not on within ")?;
+    push_told_of(text, claim, " is not ")?;
+    text.push_str(" within ")?;
     push_counted(text, depth, "scan")?;
     push_looked_at(text, states, scans)
 }
 
-fn push_fails(text: &mut String, name: &str, scans: usize) -> Result<(), AllocError>
-    ensures { OnOk result (GrowsBy text.old text.new (fails_line name.now scans)) }
+fn push_fails(text: &mut String, claim: &str, scans: usize) -> Result<(), AllocError>
+    ensures { OnOk result (GrowsBy text.old text.new (fails_line claim.now scans)) }
 {
     text.push_str("FAILS ")?;
-    text.push_str(name)?;
-    text.push_str(" is on after ")?;
+    push_told_of(text, claim, " is ")?;
+    text.push_str(" after ")?;
     push_counted(text, scans, "scan")?;
     text.push_str("\n")?;
     Ok(())

@@ -1,10 +1,13 @@
 //! The words that have `plc eval` make a run.
 
-ghost use Rattle.std.specs.Prelude.{◌≡◌, ◌++◌, [], ◌∷◌, IfOk, OnOk, length};
+ghost use Rattle.std.specs.Prelude.{◌≡◌, ◌++◌, [], ◌∷◌, IfOk, OnOk, drop, length, map, take};
 ghost use Rattle.text_lines.specs.Growing.{GrowsBy};
 ghost use Rattle.text_lines.specs.LineParts.{value_text};
-ghost use Rattle.verifying.specs.VerdictLines.{can_be_words, digit_of, digits_of_free, digits_of_held, dt_words, eval_line, free_words, held_words, input_word, name_at, restart_scans, restart_words, times_text, values_of_held};
+ghost use Rattle.verifying.specs.declared.free_input.Choice.TheVariants.{Bit};
+ghost use Rattle.verifying.specs.FreeInputs.{choice_digits, choice_value, free_digits, number_of};
+ghost use Rattle.verifying.specs.VerdictLines.{can_be_words, digit_of, digits_of_held, dt_words, eval_line, free_words, held_words, input_word, name_at, numbers_of_free, restart_scans, restart_words, times_text, values_of_free, values_of_held};
 
+use crate::free_input::{Choice, FreeInput};
 use crate::names::name_at;
 use crate::row::Row;
 use crate::setup::{Setting, Setup};
@@ -28,14 +31,62 @@ fn push_name(text: &mut String, declarations: &Declarations, place: usize) -> Re
     write!(text, " {name}=")
 }
 
-/// Writes the values of a free input, by its number.
-fn push_free_digits(text: &mut String, rows: &[Row], input: usize) -> Result<(), AllocError>
-    ensures { OnOk result (GrowsBy text.old text.new (digits_of_free rows.now input)) }
+/// Writes the digit at a place of each row.
+fn push_free_digits(text: &mut String, rows: &[Row], from: usize) -> Result<(), AllocError>
+    ensures { OnOk result (GrowsBy text.old text.new (values_of_free Bit (map (drop from) rows.now))) }
 {
     for row in rows {
-        push_digit(text, row.value(input).unwrap_or(false))?;
+        push_digit(text, row.value(from).unwrap_or(false))?;
     }
     Ok(())
+}
+
+/// Writes the value of a free number in a row, by its digits from a place on.
+fn push_free_number(
+    text: &mut String,
+    row: &Row,
+    choice: Choice,
+    from: usize,
+) -> Result<(), AllocError>
+    ensures { OnOk result (GrowsBy text.old text.new
+        (value_text (choice_value choice (number_of (take (choice_digits choice) (drop from row.now)))))) }
+{
+    push_value(text, choice.value(row.number(from, choice.digits())))
+}
+
+/// Writes the value of a free number in each row, with commas between.
+fn push_free_numbers(
+    text: &mut String,
+    rows: &[Row],
+    choice: Choice,
+    from: usize,
+) -> Result<(), AllocError>
+    ensures { OnOk result (GrowsBy text.old text.new (numbers_of_free choice (map (drop from) rows.now))) }
+{
+    let [first, others @ ..] = rows else {
+        return Ok(());
+    };
+    push_free_number(text, first, choice, from)?;
+    for row in others {
+        text.push_str(",")?;
+        push_free_number(text, row, choice, from)?;
+    }
+    Ok(())
+}
+
+/// Writes the values of a free input, whose digits stand in each row from a place on.
+fn push_free_values(
+    text: &mut String,
+    rows: &[Row],
+    choice: Choice,
+    from: usize,
+) -> Result<(), AllocError>
+    ensures { OnOk result (GrowsBy text.old text.new (values_of_free choice (map (drop from) rows.now))) }
+{
+    match choice {
+        Choice::Bit => push_free_digits(text, rows, from),
+        Choice::Ints { .. } | Choice::Times { .. } => push_free_numbers(text, rows, choice, from),
+    }
 }
 
 /// Writes the digit of a held input, once for each row.
@@ -72,14 +123,16 @@ fn push_held_values(text: &mut String, rows: &[Row], value: Value) -> Result<(),
 fn push_free_words(
     text: &mut String,
     declarations: &Declarations,
-    free: &[usize],
+    free: &[FreeInput],
     rows: &[Row],
 ) -> Result<(), AllocError>
     ensures { OnOk result (GrowsBy text.old text.new (free_words declarations.now free.now rows.now)) }
 {
-    for input in 0..free.len() {
-        push_name(text, declarations, free[input])?;
-        push_free_digits(text, rows, input)?;
+    let mut from = 0;
+    for input in free {
+        push_name(text, declarations, input.place)?;
+        push_free_values(text, rows, input.choice, from)?;
+        from += input.choice.digits();
     }
     Ok(())
 }
@@ -111,7 +164,7 @@ fn push_dt(text: &mut String, dt: u32) -> Result<(), AllocError>
 
 /// The scans before which a run of these rows restarts, counted from 1.
 fn restart_scans(alloc: Global, setup: &Setup, rows: &[Row]) -> Result<Vec<usize>, AllocError>
-    ensures { IfOk result (λ scans. scans.items ≡ restart_scans (length setup.now.free) rows.now) }
+    ensures { IfOk result (λ scans. scans.items ≡ restart_scans (free_digits setup.now.free) rows.now) }
 {
     let mut scans = Vec::new(alloc);
     for (k, row) in rows.iter().enumerate() {

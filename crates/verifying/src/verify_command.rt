@@ -10,26 +10,29 @@ ghost use Rattle.text_commands.specs.Steps.Refusing.{RefusesLadder, RefusesLadde
 ghost use Rattle.verifying.specs.Questions.{question_of};
 ghost use Rattle.verifying.specs.VerifyText.{ExplainsAnswer, WritesAnswer, restarts_of};
 ghost use Rattle.verifying.specs.Steps.Keeping.{places_kept};
+ghost use Rattle.verifying.specs.declared.condition.Condition.{Condition};
+ghost use Rattle.verifying.specs.FreeInputs.{free_digits};
 ghost use Rattle.verifying.specs.Needed.{IsSearched};
 ghost use Rattle.verifying.specs.Runs.{HasInputs, HasRun};
 ghost use Rattle.verifying.specs.Preparing.{IsPrepared, RefusesPreparing, searched_of};
 ghost use Rattle.verifying.specs.Steps.Wholes.{AreGraphMarks, IsMadeOf, IsMarkedLadder, needed_count};
 ghost use Rattle.text_commands.specs.Rows.{texts};
-ghost use Rattle.verifying.specs.Steps.Asking.{AreHeldBy, IsAsked, IsToldAnswer, RefusesAnswering, RefusesAsking, RefusesHolding};
+ghost use Rattle.verifying.specs.Steps.Asking.{AreTold, IsAsked, IsToldAnswer, RefusesAnswering, RefusesAsking, RefusesTelling};
 
 use crate::all_inputs::whole_verdicts;
 use crate::asked::Asked;
 use crate::claims::{read_claims, read_given};
 use crate::first_scans::has_run;
-use crate::held::held_settings;
-use crate::inputs::{marks_of, unmarked_places};
+use crate::free_input::FreeInput;
+use crate::inputs::{free_inputs, marks_of};
 use crate::needed::{check_inputs, needed_inputs, needed_slice};
 use crate::premises::{check_time, constant_places, push_premise_line};
 use crate::prepared::Prepared;
 use crate::question::Question;
 use crate::search::verify;
-use crate::setup::{Setting, Setup};
+use crate::setup::Setup;
 use crate::summary::{Summary, summary_of};
+use crate::told_inputs::{check_words, held_settings};
 use crate::verdict::{Found, Tally};
 use crate::verdict_lines::verdict_texts;
 use crate::verify_fault::VerifyFault;
@@ -45,8 +48,8 @@ use power_flow::Ladder;
 use std::alloc::{AllocError, Global};
 use std::io::Write;
 use text_commands::{
-    LadderSource, TextCommandFault, TextFault, kept_places, ladder_places, no_program, read_both,
-    read_program, read_settings, stored_places, without_comments,
+    InputWord, LadderSource, TextCommandFault, TextFault, kept_places, ladder_places, no_program,
+    read_both, read_inputs, read_program, stored_places, without_comments,
 };
 use text_lines::{Progress, write_text};
 
@@ -229,18 +232,19 @@ fn read_marked(alloc: Global, source: LadderSource<'_>) -> Result<Marked, TextCo
     }
 }
 
-/// The inputs that words hold.
-fn held_inputs(
+/// What words say of inputs.
+fn told_inputs<'a>(
     alloc: Global,
     declarations: &Declarations,
     marks: &[bool],
-    words: &[&str],
-) -> Result<Vec<Setting>, VerifyFault>
-    ensures ok { IfOk result (λ held. AreHeldBy declarations.now marks.now (texts words.now) held.items) }
-    ensures err { IfErr result (RefusesHolding declarations.now marks.now (texts words.now)) }
+    words: &[&'a str],
+) -> Result<Vec<InputWord<'a>>, VerifyFault>
+    ensures ok { IfOk result (λ told. AreTold declarations.now marks.now (texts words.now) told.items) }
+    ensures err { IfErr result (RefusesTelling declarations.now marks.now (texts words.now)) }
 {
-    let rows = read_settings(alloc, declarations, words)?;
-    held_settings(alloc, marks, &rows)
+    let told = read_inputs(alloc, declarations, words)?;
+    check_words(marks, &told)?;
+    Ok(told)
 }
 
 /// The places that are kept where runs may restart, if this is asked.
@@ -260,7 +264,7 @@ fn asked_restarts(
     }
 }
 
-/// The places of the claims, of what is given, and of the inputs.
+/// The claims, what is given, the inputs, and the constants.
 fn read_question(
     alloc: Global,
     declarations: &Declarations,
@@ -270,15 +274,18 @@ fn read_question(
     ensures ok { IfOk result (IsAsked declarations.now marks.now (question_of question.now)) }
     ensures err { IfErr result (RefusesAsking declarations.now marks.now (question_of question.now)) }
 {
-    let held = held_inputs(alloc, declarations, marks, question.words)?;
+    let told = told_inputs(alloc, declarations, marks, question.words)?;
     let claims = read_claims(alloc, declarations, marks, question.claims)?;
     let given = read_given(alloc, declarations, marks, question.given)?;
-    let free = unmarked_places(alloc, declarations, marks, &held)?;
+    let held = held_settings(alloc, &told)?;
+    let free = free_inputs(alloc, declarations, marks, &told)?;
+    let constants = constant_places(alloc, declarations, marks, &told)?;
     Ok(Asked {
         claims,
         given,
         free,
         held,
+        constants,
     })
 }
 
@@ -297,7 +304,7 @@ fn slice_setup(
     alloc: Global,
     slice: Option<Slice>,
     dt: u32,
-    free: Vec<usize>,
+    free: Vec<FreeInput>,
     asked: &Asked,
     restarts: &Option<Vec<usize>>,
 ) -> Result<Option<Setup>, AllocError>
@@ -354,7 +361,6 @@ pub fn prepare(
         &asked.given,
     )?;
     let free = needed_inputs(alloc, &sliced.idle, &asked.free)?;
-    let constants = constant_places(alloc, ladder.declarations(), &marks, &asked.held)?;
     let needed = needed_count(&sliced.slice, networks);
     let slice = slice_setup(alloc, sliced.slice, question.dt, free, &asked, &restarts)?;
     let whole = Setup::new(
@@ -371,7 +377,7 @@ pub fn prepare(
         idle: sliced.idle,
         slice,
         claims: asked.claims,
-        constants,
+        constants: asked.constants,
         needed,
         networks,
     })
@@ -379,8 +385,8 @@ pub fn prepare(
 
 /// What is told beside verdicts.
 fn tally_of(alloc: Global, prepared: &Prepared, found: &Found) -> Result<Tally, AllocError>
-    requires searched { (claims : List ℕ) × IsSearched prepared.now.whole claims prepared.now.idle.items (searched_of prepared.now.slice prepared.now.whole) }
-    requires few { length (searched_of prepared.now.slice prepared.now.whole).free ≤ 20 }
+    requires searched { (claims : List Condition) × IsSearched prepared.now.whole claims prepared.now.idle.items (searched_of prepared.now.slice prepared.now.whole) }
+    requires few { free_digits (searched_of prepared.now.slice prepared.now.whole).free ≤ 20 }
     ensures met { IfOk result (λ tally. IsTrue tally.met ↔ HasRun prepared.now.whole) }
     ensures rest { IfOk result (λ tally. tally ≡ record {
       met = tally.met;

@@ -1,18 +1,21 @@
 use text_commands::TextCommandFault;
 use thiserror::Error;
 
-/// Why a name behind `--never` is no claim, or one behind `--given` can't be given.
+/// Why a word behind `--never` is no claim, or one behind `--given` can't be given.
 #[derive(Clone, Copy, Debug, PartialEq, Eq, Error)]
 pub enum ClaimFaultKind {
     /// The drawing has no BOOL variable of this name.
     #[error("the drawing has no BOOL variable of this name")]
     NoVariable,
+    /// It has a sign, and no INT or TIME variable stands before that, or no number of its kind behind it.
+    #[error("before a sign, < <= = >= > or <>, stands an INT or TIME variable, and behind it a number or a duration, as N>5 or D<=T#1s")]
+    NoComparison,
     /// No coil and no output pin stores at it, so a scan can't change it.
     #[error("no coil and no output pin stores at this variable: it is an input")]
     NeverStored,
 }
 
-/// Why the name with a number, counted from 0, is refused.
+/// Why such a word, by its number, counted from 0, is refused.
 #[derive(Clone, Copy, Debug, PartialEq, Eq, Error)]
 #[error("{kind}")]
 pub struct ClaimFault {
@@ -45,10 +48,10 @@ pub enum VerifyFault {
     /// As in other commands: the text or a word is refused, the output can't be written, or there is no memory left.
     #[error(transparent)]
     Command(TextCommandFault),
-    /// A name behind `--never` is no claim.
+    /// A word behind `--never` is no claim.
     #[error(transparent)]
     Claim(ClaimFault),
-    /// A name behind `--given` is none of a variable at which something stores.
+    /// A word behind `--given` is of no variable at which something stores.
     #[error(transparent)]
     Given(ClaimFault),
     /// A word holds no input.

@@ -1,4 +1,4 @@
-"""Claims about drawings, by chance, of which many need only a part."""
+"""Claims about drawings, by chance, of which many need only a part: that BOOLs are never TRUE, and how numbers never compare."""
 import functools
 import os
 import re
@@ -6,6 +6,7 @@ import shlex
 from dataclasses import dataclass, field
 
 from rules import counts, needed, words
+from rules.conditions import COMPARISON, condition_of
 from rules.commands import SHAPES, Files, answer_of, ladder_of, question_of_drawing, read_words
 from rules.refusal import Refusal
 from rules.scan import stored_names
@@ -22,6 +23,15 @@ MOST_SCANS = 800
 FIRST_LETTERS = ("ABCD", "EFGH", "JKLM")
 # What INTs and TIMEs are held at.
 HELD = {"INT": ["1", "2", "2", "3", "07", "-1", "2*1", "3,3"], "TIME": ["T#10ms", "T#10ms", "t#20MS", "TIME#30ms", "T#20ms*1", "T#1s,T#2s"]}
+# What INTs and TIMEs are compared with, and words that compare nothing.
+SIGNS = ["<", "<=", "=", ">=", ">", "<>"]
+BOUNDS = {"INT": ["0", "1", "2", "3", "3", "4", "-1", "007", "1_0", "32767", "-32768"], "TIME": ["T#0ms", "T#10ms", "t#20MS", "TIME#30ms", "T#1s_500ms"]}
+REFUSED_BOUNDS = ["", "32768", "-32769", "+1", "A", "T#5", "T#-5ms", "T#25d", "5ms", "=1", ">1", "1 ", "1*1", "1,1"]
+# Where they are free; a few say no range.
+RANGES = {
+    "INT": ["0..1", "0..3", "1..3", "2..3", "2..2", "-1..1", "0..4", "00..0_2"] * 4 + ["3..2", "0..", "..3", "0...3", "0.3", "0..T#5ms", "0..32768"],
+    "TIME": ["T#10ms..T#11ms", "T#9ms..T#11ms", "t#0ms..T#3ms", "T#20ms..TIME#20ms", "T#0ms..T#1ms"] * 6 + ["T#2ms..T#1ms", "0..1", "T#1ms..", "T#0ms...T#1ms"],
+}
 SOME_BLOCKS = ["SR", "RS", "SR", "RS", "CTU", "CTD", "CTUD", "TON", "TOF", "TP"]
 
 
@@ -88,8 +98,23 @@ def names_of(ladder):
     return [it for it in bits if words.fold(it) in stored], [it for it in bits if words.fold(it) not in stored]
 
 
+def compared(chance, ladder, count):
+    """Words that compare so many of the numbers that a ladder stores with some; a few compare a number that it doesn't store, or nothing."""
+    stored = stored_names(ladder.drawing)
+    numbers = [it for it in ladder.declarations if it.role != "Instance" and it.kind != "BOOL"]
+    own = [it for it in numbers if words.fold(it.name) in stored]
+    found = chance.sample(own, min(len(own), count)) if chance.random() < 0.97 else chance.sample(numbers, min(len(numbers), count))
+    return [f"{cased(chance, it.name)}{chance.choice(SIGNS)}{bound_for(chance, it.kind)}" for it in found]
+
+
+def bound_for(chance, kind):
+    if chance.random() < 0.02:
+        return chance.choice([*REFUSED_BOUNDS, *BOUNDS["INT" if kind == "TIME" else "TIME"]])
+    return chance.choice(BOUNDS[kind])
+
+
 def claims(chance):
-    """A drawing, with words that ask what of it is never on. All but a few of the inputs that this needs are held."""
+    """A drawing, with words that ask what of it is never so. All but a few of the inputs that this needs are held."""
     while True:
         text = drawing(chance)[0]["it.ladder"] if chance.random() < 0.3 else groups(chance)
         ladder = read_ladder(text)
@@ -102,21 +127,24 @@ def claims(chance):
     claimed = chance.sample(drawn if drawn and chance.random() < 0.7 else stored, 1)
     claimed += chance.sample(stored, min(len(stored), chance.choice([0, 0, 0, 1, 2])))
     assumed = chance.sample(stored, min(len(stored), chance.choice([0, 0, 0, 0, 0, 1, 1, 2])))
+    numbers = {"--never": compared(chance, ladder, chance.choice([0, 0, 1, 1, 2])), "--given": compared(chance, ladder, chance.choice([0, 0, 0, 0, 1]))}
     for option, names in (("--never", claimed), ("--given", assumed)):
-        for name in names:
-            given += [option, cased(chance, name)]
+        words_of = [cased(chance, name) for name in names] + numbers[option]
+        for word in chance.sample(words_of, len(words_of)):
+            given += [option, word]
     given += ["--restarts"] * (chance.random() < 0.4)
-    held = held_of(chance, ladder, [*claimed, *assumed], inputs)
+    read = [COMPARISON.fullmatch(it)[1] for option in numbers for it in numbers[option]]
+    held = held_of(chance, ladder, [*claimed, *assumed, *read], inputs)
     return {"it.ladder": text}, [given + held_words(chance, ladder, held)]
 
 
 def held_words(chance, ladder, bits):
-    """Words that hold these BOOLs, and some INTs and TIMEs; a few are refused."""
+    """Words that hold these BOOLs, and some INTs and TIMEs, or let these be free in a range; a few are refused."""
     given = [f"{cased(chance, name)}={chance.randint(0, 1)}{chance.choice([''] * 30 + ['*1'])}" for name in bits]
     stored = stored_names(ladder.drawing)
     for it in ladder.declarations:
         if it.role != "Instance" and it.kind != "BOOL" and chance.random() < (0.02 if words.fold(it.name) in stored else 0.7):
-            given.append(f"{cased(chance, it.name)}={chance.choice(HELD[it.kind])}")
+            given.append(f"{cased(chance, it.name)}={chance.choice(HELD[it.kind] if chance.random() < 0.5 else RANGES[it.kind])}")
             if chance.random() < 0.02:
                 given[-1] = refused_word(chance, it.name, it.kind)
     return chance.sample(given, len(given)) if chance.random() < 0.2 else given
@@ -141,12 +169,12 @@ def looked_through(given, folder, written, who):
     found, eval_words = whole_of(Texts(texts_in(folder), folder), tuple(given)) if written else (None, "")
     if not found:
         return written
-    names = iter(it for option, it in zip(given, given[1:]) if option == "--never")
+    names, claimed = iter(it for option, it in zip(given, given[1:]) if option == "--never"), iter(found.question.claims)
     told, ahead = [], written.splitlines()
     while ahead:
         line = ahead.pop(0)
         if line.startswith(("HOLDS", "FAILS", "UNDECIDED")):
-            of_whole = list(verdict_lines(found, next(names), eval_words))
+            of_whole = list(verdict_lines(found, next(claimed), next(names), eval_words))
             if not agree(found, [line, *ahead[: len(of_whole) - 1]], of_whole):
                 line += f", which is the {who}'s answer, but of the whole drawing {' '.join(of_whole)}"
         told.append(line)
@@ -219,9 +247,31 @@ def replayed(folder, written, who):
 
 def fault_of_words(folder, verdict, line, behind):
     """What is wrong with the words of a run: it is to have as many scans as the verdict tells, to be as told, and to break the claim."""
-    name, scans = re.match(r"FAILS (\S+) is on after (\d+) scans?", verdict).groups()
+    word, scans = re.match(r"FAILS (\S+) is (?:on|true) after (\d+) scans?", verdict).groups()
     made = answer_of(shlex.split(line)[1:], folder).lines
     if made != behind[: len(made)] or len(made) != int(scans):
         return f"they make {made}"
-    is_on = any(words.fold(it) == f"{words.fold(name)}=1" for it in made[-1].split())
-    return "" if is_on else "the claim isn't broken"
+    return "" if is_so(word, made[-1]) else "the claim isn't broken"
+
+
+def is_so(word, line):
+    """Whether a word says what is so of the variables of a line."""
+    shown = ShownLine(dict(it.split("=") for it in line.split()))
+    return condition_of(word, {name: shown.kind(name, word) for name in shown.values}).holds(shown)
+
+
+class ShownLine:
+    """The values of variables as a line shows them."""
+
+    def __init__(self, texts):
+        self.values = {words.fold(name): text for name, text in texts.items()}
+
+    def get(self, name):
+        duration = words.duration_of(self.values[name])
+        return int(self.values[name]) if duration is None else words.Duration(duration)
+
+    def kind(self, name, word):
+        """The kind of a variable, which a word that compares one has not for a BOOL."""
+        if words.duration_of(self.values[name]) is not None:
+            return "TIME"
+        return "INT" if COMPARISON.fullmatch(word) else "BOOL"

@@ -8,12 +8,13 @@ import shlex
 from dataclasses import dataclass
 
 from rules import words
+from rules.conditions import truth_of
 from rules.commands import SHAPES, Files, Refused, answer_of, looked_at, question_of_drawing, read_words
 from rules.scan import State
 from rules.verify import Row, copied, counted, given_names, networks_told
 from rules.words import Duration
 
-from .claims import Texts, claims
+from .claims import ShownLine, Texts, claims
 from .programs import program_claims
 from .seconds import second_claims
 
@@ -38,10 +39,10 @@ REFUSED = [
 SIZES = {"BOOL": [""], "INT": [f".{k}" for k in range(16)], "TIME": [f".{k}" for k in range(32)]}
 COUNT, TIMER = [f".CV.{k}" for k in range(16)], [".IN", ".Q", *(f".ET.{k}" for k in range(32))]
 BLOCKS = {"SR": [".Q1"], "RS": [".Q1"], "CTU": [".CU", ".Q", *COUNT], "CTD": [".CD", ".Q", *COUNT], "CTUD": [".CU", ".CD", ".QU", ".QD", *COUNT]}
-HOLDS = re.compile(r"HOLDS \S+ is never on: by induction, (\d+ clauses? over \d+) of \d+ bits?.*")
-UNFOUND = "UNDECIDED {} is not on within {}: by induction, no certificate and no run was found"
-UNDECIDED = re.compile(UNFOUND.format(r"\S+", r"(\d+) scans?"))
-CERTIFIED = re.compile(r"(\S+) is never on: (\d+ clauses?)")
+HOLDS = re.compile(r"HOLDS \S+ is never (?:on|true): by induction, (\d+ clauses? over \d+) of \d+ bits?.*")
+UNFOUND = "UNDECIDED {} is not {} within {}: by induction, no certificate and no run was found"
+UNDECIDED = re.compile(UNFOUND.format(r"\S+", "(?:on|true)", r"(\d+) scans?"))
+CERTIFIED = re.compile(r"(\S+) is never (?:on|true): (\d+ clauses?)")
 # How many runs are done, of how many scans, how many states are drawn, and how often one is changed until clauses hold of it.
 RUNS, SCANS, STATES, CHANGES = 12, 25, 40, 60
 
@@ -148,9 +149,10 @@ class Asked:
 
     question: object
     found: object
+    claims: dict
 
     def verdict(self, name):
-        if words.fold(name) in self.found.runs:
+        if self.claims[name] in self.found.runs:
             return f"FAILS {name}"
         return f"{name}: HOLDS, FAILS or UNDECIDED" if self.found.depth is not None else f"HOLDS {name}"
 
@@ -160,7 +162,7 @@ def asked_of(texts, given):
     [path], options, more = read_words(SHAPES["verify"], given[1:])
     tried = Files(texts.folder).tried(path, options)
     question = question_of_drawing(tried.ladder, options, more, tried.kept)
-    return Asked(question, looked_at(question, options))
+    return Asked(question, looked_at(question, options), dict(zip(options["--never"], question.claims)))
 
 
 def judged_induction(given, folder, written, who):
@@ -239,28 +241,28 @@ class Judge:
 
     def faults_of_undecided(self, name, lines):
         """No run of so many scans breaks it."""
-        told, shortest = UNDECIDED.fullmatch(lines[0]), self.asked.found.runs.get(words.fold(name))
-        if not told or len(lines) > 1 or lines[0] != UNFOUND.format(name, counted(int(told[1]), "scan")):
+        told, shortest = UNDECIDED.fullmatch(lines[0]), self.asked.found.runs.get(self.asked.claims[name])
+        if not told or len(lines) > 1 or lines[0] != UNFOUND.format(name, truth_of(name), counted(int(told[1]), "scan")):
             return lines
         return [f"a run of {len(shortest)} scans breaks it"] if shortest and len(shortest) <= int(told[1]) else []
 
     # Runs.
 
     def faults_of_fails(self, name, lines):
-        scans = re.fullmatch(r"FAILS \S+ is on after (\d+) scans?", lines[0])
-        if not scans or lines[0] != f"FAILS {name} is on after {counted(int(scans[1]), 'scan')}":
+        scans = re.fullmatch(r"FAILS \S+ is (?:on|true) after (\d+) scans?", lines[0])
+        if not scans or lines[0] != f"FAILS {name} is {truth_of(name)} after {counted(int(scans[1]), 'scan')}":
             return [lines[0]]
         scans, question = int(scans[1]), self.asked.question
         told = lines[2:] if lines[1].startswith("plc eval ") else lines[1:]
         made = answer_of(shlex.split(lines[1])[1:], self.folder).lines if len(told) < len(lines) - 1 else self.run_without_inputs(scans)
-        shortest = self.asked.found.runs.get(words.fold(name))
+        shortest = self.asked.found.runs.get(self.asked.claims[name])
         if shortest and scans < len(shortest):
             return [f"no run of {scans} scans breaks it"]
         if told != made or len(told) != scans:
             return [f"its words make {made}, and not {told}"]
-        names_on = [{words.fold(it.partition("=")[0]) for it in row.split() if it.endswith("=1")} for row in made]
-        return [f"{it} isn't TRUE in each scan" for it in question.given if not all(it in on for on in names_on)] + [
-            f"{name} isn't TRUE" for _ in [0] if words.fold(name) not in names_on[-1]
+        shown = [ShownLine(dict(it.split("=") for it in row.split())) for row in made]
+        return [f"{it} isn't so after each scan" for it in question.given if not all(map(it.holds, shown))] + [
+            f"{name} isn't so" for _ in [0] if not self.asked.claims[name].holds(shown[-1])
         ]
 
     def run_without_inputs(self, scans):
@@ -277,18 +279,18 @@ class Judge:
         clauses = [clause_of(it) for it in rows[1:]]
         named = {name for it in clauses for name, _ in it.bits}
         told = HOLDS.fullmatch(lines[0])
-        unmet = f"HOLDS {name} is never on: no run meets {', '.join(given_names(self.asked.question))}"
+        unmet = f"HOLDS {name} is never {truth_of(name)}: no run meets {', '.join(given_names(self.asked.question))}"
         if not found.is_met and (found.depth is None or lines == [unmet]):
             wanted = unmet
         elif self.certificates is not None:
-            wanted = f"HOLDS {name} is never on: by induction, {counted(len(clauses), 'clause')} over {len(named)} of {counted(len(names), 'bit')}{networks_told(found)}"
+            wanted = f"HOLDS {name} is never {truth_of(name)}: by induction, {counted(len(clauses), 'clause')} over {len(named)} of {counted(len(names), 'bit')}{networks_told(found)}"
         else:
-            wanted = f"HOLDS {name} is never on: by induction, {told and told[1]} of {counted(len(names), 'bit')}{networks_told(found)}"
+            wanted = f"HOLDS {name} is never {truth_of(name)}: by induction, {told and told[1]} of {counted(len(names), 'bit')}{networks_told(found)}"
         if lines != [wanted]:
             return [*lines, f"not {wanted}"]
         if self.certificates is None:
             return self.faults_of_clauses(name, [])
-        if rows[:1] != [f"{name} is never on: {counted(len(clauses), 'clause')}"] or not named <= set(names):
+        if rows[:1] != [f"{name} is never {truth_of(name)}: {counted(len(clauses), 'clause')}"] or not named <= set(names):
             return [f"its certificate is {rows}"]
         return self.faults_of_clauses(name, clauses, True)
 
@@ -296,7 +298,7 @@ class Judge:
         """What is wrong with clauses, by runs from the first state, and by a scan from drawn states of which they hold, where these are all
         that are told."""
         chance = random.Random(f"{name} {len(clauses)} {self.asked.question.held}")
-        walk = Walk(self.asked, clauses, words.fold(name), chance)
+        walk = Walk(self.asked, clauses, self.asked.claims[name], chance)
         return walk.runs() or (walk.drawn() if are_all else [])
 
 
@@ -306,26 +308,26 @@ class Walk:
 
     asked: Asked
     clauses: list
-    claim: str
+    claim: object
     chance: random.Random
 
     def row(self):
         question, found = self.asked.question, self.asked.found
         restarts = question.kept is not None and self.chance.random() < 0.2
-        return Row(restarts, {name: self.chance.random() < 0.5 for name in found.free})
+        return Row(restarts, {it.name: it.value(self.chance.randrange(2**it.digits)) for it in found.free})
 
     def scanned(self, state):
-        """A state after a scan; None where that doesn't leave TRUE what is given."""
+        """A state after a scan; None where what is given isn't so then."""
         found, row = self.asked.found, self.row()
         state = found.opened(state, row)
         found.scan(state, row)
-        return state if all(state.get(name) for name in self.asked.question.given) else None
+        return state if all(it.holds(state) for it in self.asked.question.given) else None
 
     def faults(self, state, how):
         broken = [it for it in self.clauses if not it.holds(state)]
         if broken:
             return [f"{broken[0]} isn't so {how}"]
-        return [f"it is on {how}"] if state.get(self.claim) and how != "at first" else []
+        return [f"it is so {how}"] if how != "at first" and self.claim.holds(state) else []
 
     def runs(self):
         """Runs from the first state."""

@@ -5,8 +5,10 @@ from dataclasses import dataclass, field
 from . import words
 from .audit import Audit
 from .binding import guessed, refuse_names
+from .conditions import condition_of, truth_of
 from .cycle import FIELD, FieldNode
 from .drawing_faults import read_drawing
+from .free_inputs import Free, digits_of, range_of
 from .inputs import BadInput, Inputs, parts_of
 from .kept_files import BadFile, KeptFiles
 from .lines import lines_of, without_comments
@@ -476,8 +478,8 @@ def verify_drawing(write, files, paths, options, more):
     tried = files.tried(paths[0], options)
     question = question_of_drawing(tried.ladder, options, more, tried.kept)
     found = looked_at(question, options)
-    for name in options["--never"]:
-        for line in told_of_claim(found, name, tried.eval_words, options):
+    for claim, word in zip(question.claims, options["--never"]):
+        for line in told_of_claim(found, claim, word, tried.eval_words, options):
             write(line)
     if told := premises(question):
         write("given " + ", ".join(told))
@@ -492,11 +494,11 @@ def looked_at(question, options):
     return Search(question, part, most).search()
 
 
-def told_of_claim(found, name, path, options):
+def told_of_claim(found, claim, word, path, options):
     """What is told of a claim. How claims hold by induction isn't told here, nor is any verdict where too many states are left."""
-    if not is_by_induction(options) or words.fold(name) in found.runs:
-        return verdict_lines(found, name, path)
-    return [f"HOLDS {name} is never on: by induction" if found.depth is None else f"{name}: HOLDS, FAILS or UNDECIDED"]
+    if not is_by_induction(options) or claim in found.runs:
+        return verdict_lines(found, claim, word, path)
+    return [f"HOLDS {word} is never {truth_of(word)}: by induction" if found.depth is None else f"{word}: HOLDS, FAILS or UNDECIDED"]
 
 
 def question_of_drawing(ladder, options, more, kept):
@@ -504,33 +506,44 @@ def question_of_drawing(ladder, options, more, kept):
     kinds = {words.fold(it.name): it.kind for it in ladder.declarations if it.role != "Instance"}
     bits = [name for name, kind in kinds.items() if kind == "BOOL"]
     stored = stored_names(ladder.drawing)
-    held = held_of(more, kinds)
-    claims = [words.fold(it) for it in options["--never"]]
-    given = [words.fold(it) for it in options.get("--given", ())]
-    free = [it for it in bits if it not in stored and it not in held]
+    held, ranges = told_by(more, kinds)
+    claims, given = conditions_of(options["--never"], kinds), conditions_of(options.get("--given", ()), kinds)
+    free = [Free(it) for it in bits if it not in stored and it not in held] + ranges
     is_timed = options.get("--dt", 0) or not any(it.role == "Instance" and it.kind in TIMERS for it in ladder.declarations)
-    if stored & set(held) or not {*claims, *given} <= stored & set(bits) or not is_timed:
+    if stored & {*held, *(it.name for it in ranges)} or not {it.name for it in (*claims, *given)} <= stored or not is_timed:
         raise Refused(REFUSED_WORDS)
     question = Question(ladder, options.get("--dt", 0), free, held, claims, given, kept if "--restarts" in options else None)
-    if len(question.free_in(question.part())) > MOST_INPUTS and not is_by_induction(options):
+    if digits_of(question.free_in(question.part())) > MOST_INPUTS and not is_by_induction(options):
         raise Refused(REFUSED_WORDS)
     return question
 
 
-def held_of(given, kinds):
-    """The value of each variable that words NAME=VALUE hold, as a word of a test gives it for one scan."""
-    held = {}
+def conditions_of(given, kinds):
+    try:
+        return [condition_of(it, kinds) for it in given]
+    except BadWord:
+        raise Refused(REFUSED_WORDS) from None
+
+
+def told_by(given, kinds):
+    """The value of each variable that words NAME=VALUE hold, as a word of a test gives it for one scan; and the inputs that other words let
+    be free in a range."""
+    held, ranges = {}, []
     for word in given:
         name, _, text = word.partition("=")
         name = words.fold(name)
         try:
-            values = values_in(kinds[name], text)
+            free = range_of(word, kinds)
+            values = [] if free else values_in(kinds[name], text)
         except (KeyError, BadWord):
             raise Refused(REFUSED_WORDS) from None
-        if name in held or len(values) != 1:
+        if name in held or name in {it.name for it in ranges} or (not free and len(values) != 1):
             raise Refused(REFUSED_WORDS)
-        held[name] = values[0]
-    return held
+        if free:
+            ranges.append(free)
+        else:
+            held[name] = values[0]
+    return held, ranges
 
 
 def check(write, files, paths, options, _more):

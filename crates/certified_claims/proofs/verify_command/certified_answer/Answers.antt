@@ -46,7 +46,7 @@ verdict_texts-requires-clause-long c =
     let p = c.in_ok-prepared.prepared in
     ap length c.deref.ensures.value
     ∙ names_long (IsClaim p.whole.ladder.declarations p.whole.ladder.networks) (IsCertified p.whole (searched_of p.slice p.whole)) q.claims p.claims.items c.in_ok-verdicts.verdicts.items
-    c.in_ok-prepared.ensures.ok.claims c.in_ok-verdicts.ensures
+    c.in_ok-prepared.ensures.ok.are_claims c.in_ok-verdicts.ensures
     ∙ length-map c.args.question.now.claims.now (λ (w : Bor (List ℕ)). w.now)
 
 pub verdict_texts-requires-clause-fits : goal.verdict_texts-requires-clause-fits
@@ -60,7 +60,7 @@ certificates_text-requires c =
     let p = c.in_ok-prepared.prepared in
     ap length c.deref-3.ensures.value
     ∙ names_long (IsClaim p.whole.ladder.declarations p.whole.ladder.networks) (IsCertified p.whole (searched_of p.slice p.whole)) q.claims p.claims.items c.in_ok-verdicts.verdicts.items
-    c.in_ok-prepared.ensures.ok.claims c.in_ok-verdicts.ensures
+    c.in_ok-prepared.ensures.ok.are_claims c.in_ok-verdicts.ensures
     ∙ length-map c.args.question.now.claims.now (λ (w : Bor (List ℕ)). w.now)
 
 pub returns-clause-ok : goal.returns-clause-ok
@@ -71,7 +71,7 @@ returns-clause-ok c =
       setup = p.whole;
       idle = p.idle.items;
       searched = v;
-      places = p.claims.items;
+      claims = p.claims.items;
       constants = p.constants.items;
       scope = record { needed = p.needed; networks = p.networks; meeting = c.in_ok-meeting.meeting };
       meeting = c.in_ok-meeting.ensures;

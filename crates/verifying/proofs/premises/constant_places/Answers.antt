@@ -9,13 +9,13 @@ pub loop-place-preserved : goal.loop-place-preserved
 loop-place-preserved c =
     let ds = c.args.declarations.now in
     let marks = c.args.marks.now in
-    let held = c.args.held.now in
+    let words = c.args.words.now in
     let k = c.loop-place.place in
     elim c.if-is_constant.branch [
       | then-is_constant+in_ok-push w ↦
-          subst (λ (constants : List ℕ). AreConstantsOf ds marks held (k + 1) constants) (sym (ap (λ (v : Vec ℕ). v.items) w.constants-is ∙ w.in_ok-push.ensures.items))
-          (constant_push ds marks held k c.loop-place.constants.items (c.is_constant.ensures.0 w.if-is_constant.true) c.loop-place.invariant)
+          subst (λ (constants : List ℕ). AreConstantsOf ds marks words (k + 1) constants) (sym (ap (λ (v : Vec ℕ). v.items) w.constants-is ∙ w.in_ok-push.ensures.items))
+          (constant_push ds marks words k c.loop-place.constants.items (c.is_constant.ensures.0 w.if-is_constant.true) c.loop-place.invariant)
       | else-is_constant w ↦
-          subst (λ (constants : List ℕ). AreConstantsOf ds marks held (k + 1) constants) (sym (ap (λ (v : Vec ℕ). v.items) w.constants-is))
-          (constant_same ds marks held k c.loop-place.constants.items (λ is. let yes = c.is_constant.ensures.1 is in let no = w.if-is_constant.false in cc) c.loop-place.invariant)
+          subst (λ (constants : List ℕ). AreConstantsOf ds marks words (k + 1) constants) (sym (ap (λ (v : Vec ℕ). v.items) w.constants-is))
+          (constant_same ds marks words k c.loop-place.constants.items (λ is. let yes = c.is_constant.ensures.1 is in let no = w.if-is_constant.false in cc) c.loop-place.invariant)
     ]

@@ -1,8 +1,7 @@
-use Rattle.std.proofs.Common.{◌≡◌, ℕ, ◌++◌, string_bytes, take}
-use Rattle.std.specs.List.{enumerate_from, flat_map}
-use Rattle.verifying.specs.VerdictLines.{digits_of_free, input_word, name_at}
+use Rattle.std.proofs.Common.{◌≡◌, ◌++◌, drop, map, string_bytes}
+use Rattle.verifying.specs.VerdictLines.{free_words}
 use Rattle.verifying.proofs.verdict_words.push_free_words.Given as goal
 
 abbrev pub invariant-loop-input : goal.invariant-loop-input
-invariant-loop-input l = string_bytes l.text ≡ string_bytes l.initial.text
-    ++ flat_map (λ (e : ℕ × ℕ). input_word (name_at l.declarations e.1) (digits_of_free l.rows e.0)) (take l.input (enumerate_from 0 l.free))
+invariant-loop-input l = string_bytes l.text ++ free_words l.declarations (drop l.input-index l.free) (map (drop l.from) l.rows)
+    ≡ string_bytes l.initial.text ++ free_words l.declarations l.free l.rows

@@ -68,7 +68,7 @@ verdict_texts-requires-clause-long g c =
     let whole = rw c.deref-3.ensures.value at (rw c.free.ensures.list at (rw c.deref-2.ensures.value at c.in_ok-verdicts.ensures)) in
     ap length c.deref-4.ensures.value
     ∙ names_long p.whole c.searched-searched.result.now q.most_states found.scans c.args.question.now.claims.now p.claims.items p.idle.items found.verdicts.items c.in_ok-verdicts.verdicts.items
-    c.in_ok-prepared.ensures.ok.claims are whole
+    c.in_ok-prepared.ensures.ok.are_claims are whole
 
 pub verdict_texts-requires-clause-fits : goal.verdict_texts-requires-clause-fits
 verdict_texts-requires-clause-fits g c =

@@ -1,7 +1,0 @@
-use Rattle.std.proofs.Common.{take}
-use Rattle.text_commands.specs.Rows.{texts}
-use Rattle.verifying.specs.Steps.Marks.{ClaimsRead}
-use Rattle.verifying.proofs.claims.read_names.Given as goal
-
-abbrev pub invariant-loop-number : goal.invariant-loop-number
-invariant-loop-number l = ClaimsRead l.declarations l.marks (take l.number (texts l.names)) l.places.items
