@@ -1,10 +1,10 @@
 ghost use Rattle.std.specs.Prelude.{◌≡◌};
 ghost use Rattle.text_commands.specs.Numbers.{at_most, number_in};
 
-use crate::once::{LONGEST, int_of};
+use crate::once::int_of;
 use declared_names::Kind;
 use std_blocks::Value;
-use words::duration_up_to;
+use words::small_duration;
 
 /// What a text says of an INT or a TIME; of a BOOL nothing.
 pub fn number_in(kind: Kind, text: &str) -> Option<Value>
@@ -16,8 +16,8 @@ pub fn number_in(kind: Kind, text: &str) -> Option<Value>
             Some(number) => Some(Value::Int(number)),
             None => None,
         },
-        Kind::Time => match duration_up_to(text.as_bytes(), LONGEST) {
-            Some(milliseconds) => Some(Value::Time(milliseconds as u32)),
+        Kind::Time => match small_duration(text.as_bytes()) {
+            Some(milliseconds) => Some(Value::Time(milliseconds)),
             None => None,
         },
     }

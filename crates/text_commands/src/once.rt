@@ -52,7 +52,7 @@ fn below_zero(digits: &[u8]) -> Option<i16>
 
 /// A number from -32,768 to 32,767, as a field input has it.
 #[tactic(auto, unfolding(words::specs::Numbers::number_up_to, evaluation::specs::InputTexts::word_value))]
-fn int_of(word: &[u8]) -> Option<i16>
+pub(crate) fn int_of(word: &[u8]) -> Option<i16>
     ensures { result ≡ word_value word.now }
 {
     match word {
