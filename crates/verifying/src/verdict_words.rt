@@ -1,6 +1,6 @@
 //! The words that have `plc eval` make a run.
 
-ghost use Rattle.std.specs.Prelude.{◌≡◌, ◌++◌, [], ◌∷◌, IfOk, OnOk, drop, length, map, take};
+ghost use Rattle.std.specs.Prelude.{◌≡◌, ◌≤◌, ◌++◌, [], ◌∷◌, IfOk, OnOk, drop, length, map, take};
 ghost use Rattle.text_lines.specs.Growing.{GrowsBy};
 ghost use Rattle.text_lines.specs.LineParts.{value_text};
 ghost use Rattle.verifying.specs.declared.free_input.Choice.TheVariants.{Bit};
@@ -126,6 +126,7 @@ fn push_free_words(
     free: &[FreeInput],
     rows: &[Row],
 ) -> Result<(), AllocError>
+    requires { length free.now ≤ 1000000000 }
     ensures { OnOk result (GrowsBy text.old text.new (free_words declarations.now free.now rows.now)) }
 {
     let mut from = 0;

@@ -1,12 +1,13 @@
-use Rattle.std.proofs.Common.{ℕ, length, ap, sym, ◌∙◌}
+use Rattle.std.proofs.Common.{ℕ, ap, sym, ◌∙◌}
 use Rattle.std.specs.Global.{Vec}
 use Rattle.verifying.proofs.Wording.{scan_pushed, scan_same, scans_done}
+use Rattle.verifying.specs.FreeInputs.{free_digits}
 use Rattle.verifying.proofs.verdict_words.restart_scans.Goals as goal
 use Rattle.verifying.proofs.verdict_words.restart_scans.Goals.{then-restarts_in+in_ok-push, else-restarts_in}
 
 pub loop-k-preserved : goal.loop-k-preserved
 loop-k-preserved c =
-    let inputs = length c.args.setup.now.free in
+    let inputs = free_digits c.args.setup.now.free in
     let rows = c.args.rows.now in
     let k = c.loop-k.k in
     let old = c.loop-k.scans.items in
@@ -20,4 +21,4 @@ loop-k-preserved c =
     ]
 
 pub returns : goal.returns
-returns c = scans_done (length c.args.setup.now.free) c.args.rows.now c.loop-k.k c.loop-k.scans.items c.loop-k-test.false c.loop-k.invariant
+returns c = scans_done (free_digits c.args.setup.now.free) c.args.rows.now c.loop-k.k c.loop-k.scans.items c.loop-k-test.false c.loop-k.invariant
