@@ -84,7 +84,7 @@ one_kind (Instance b) k l one other = absurd one
 one_place : (ds : List Declaration) (name : List ℕ) (p q : ℕ) (k l : Kind) → IsNamed ds name p k → IsNamed ds name q l → p ≡ q
 one_place ds name p q k l one other = same_Some p q (sym one.0 ∙ other.0)
 
-same_kind : (ds : List Declaration) (name : List ℕ) (p q : ℕ) (k l : Kind) → IsNamed ds name p k → IsNamed ds name q l → k ≡ l
+pub same_kind : (ds : List Declaration) (name : List ℕ) (p q : ℕ) (k l : Kind) → IsNamed ds name p k → IsNamed ds name q l → k ≡ l
 same_kind ds name p q k l one other =
     let place = one_place ds name p q k l one other in
     let at = subst (λ i. slice_get ds i ≡ Some one.1.0) place one.1.1 in

@@ -1,9 +1,16 @@
 -- The parts of a word with a sign.
-use Rattle.std.proofs.Common.{◌≡◌, ℕ, ◌<◌, List, [], ◌∷◌, Bool, true, false, Option, Some, None, length, sym, ap, ◌∙◌, refl, arith, le-ltb, lt-ltb, ne_eqb}
+use Rattle.std.proofs.Common.{◌≡◌, ℕ, ◌<◌, List, [], ◌∷◌, Bool, true, false, Option, Some, None, length, sym, subst, ap, ◌∙◌, refl, arith, le-ltb, lt-ltb, ne_eqb}
 use Rattle.std.specs.Prelude.{◌≢◌, if◌then◌else◌}
 use Rattle.std.specs.List.{after_first, before_first, position_or_len}
 use Rattle.text_commands.specs.Rows.{is_equals}
-use Rattle.verifying.specs.ClaimWords.{behind_greater, behind_less, has_one, is_greater, is_less, parts_in}
+use Rattle.std.proofs.lemmas.Option.{none-some, same_Some}
+use Rattle.std_blocks.specs.declared.value.Value.{Value}
+use Rattle.declared_names.specs.declared.declarations.Declaration.{Declaration}
+use Rattle.declared_names.specs.declared.declarations.Kind.{Kind}
+use Rattle.text_commands.specs.Numbers.{number_in}
+use Rattle.text_commands.specs.Series.{IsNamed}
+use Rattle.text_commands.proofs.SettingWords.{same_kind}
+use Rattle.verifying.specs.ClaimWords.{IsComparison, behind_greater, behind_less, has_one, is_greater, is_less, parts_in}
 use Rattle.verifying.specs.declared.comparison.Comparison.{Comparison}
 use Rattle.verifying.specs.declared.comparison.Comparison.TheVariants.{Less, LessOrEqual, Equal, GreaterOrEqual, Greater, NotEqual}
 
@@ -71,3 +78,25 @@ no_sign word no_less no_greater no_equals =
     sym (ap (λ b. behind_signs word b (has_one is_greater word) (has_one is_equals word)) (has_none is_less word no_less)
     ∙ ap (λ b. behind_signs word false b (has_one is_equals word)) (has_none is_greater word no_greater)
     ∙ ap (λ b. behind_signs word false false b) (has_none is_equals word no_equals))
+
+-- a word with these parts says no comparison where no variable has the name
+pub unnamed : (ds : List Declaration) (word name number : List ℕ) (comparison : Comparison) → parts_in word ≡ Some (name, (comparison, number)) → ((place : ℕ) (k : Kind) → IsNamed ds name place k → ⊥)
+    → (place : ℕ) (sign : Comparison) (bound : Value) → IsComparison ds word place sign bound → ⊥
+unnamed ds word name number comparison parts none place sign bound is =
+    let same = same_Some (is.name, (sign, is.number)) (name, (comparison, number)) (sym is.parts ∙ parts) in
+    none place is.k (subst (λ (p : List ℕ × (Comparison × List ℕ)). IsNamed ds p.0 place is.k) same is.named)
+
+-- nor where the text is no number of the variable's kind
+pub unread : (ds : List Declaration) (word name number : List ℕ) (comparison : Comparison) (found : ℕ) (k : Kind) → parts_in word ≡ Some (name, (comparison, number)) → IsNamed ds name found k
+    → number_in k number ≡ None → (place : ℕ) (sign : Comparison) (bound : Value) → IsComparison ds word place sign bound → ⊥
+unread ds word name number comparison found k parts named none place sign bound is =
+    let same = same_Some (is.name, (sign, is.number)) (name, (comparison, number)) (sym is.parts ∙ parts) in
+    let here = subst (λ (p : List ℕ × (Comparison × List ℕ)). IsNamed ds p.0 place is.k) same is.named in
+    let kinds : is.k ≡ k = same_kind ds name place found is.k k here named in
+    let read = subst (λ l. number_in l number ≡ Some bound) kinds (subst (λ (p : List ℕ × (Comparison × List ℕ)). number_in is.k p.1.1 ≡ Some bound) same is.bound_is) in
+    none-some bound (sym none ∙ read)
+
+-- else it says this one
+pub comparison_of : (ds : List Declaration) (word name number : List ℕ) (comparison : Comparison) (place : ℕ) (k : Kind) (bound : Value) → parts_in word ≡ Some (name, (comparison, number)) → IsNamed ds name place k
+    → number_in k number ≡ Some bound → IsComparison ds word place comparison bound
+comparison_of ds word name number comparison place k bound parts named read = record { name = name; number = number; parts = parts; k = k; named = named; bound_is = read }

@@ -1,12 +1,13 @@
 -- Words that tell of inputs, and the inputs that they hold and let be free.
-use Rattle.std.proofs.Common.{◌≡◌, ℕ, ℤ, zero, suc, ◌+◌, ◌<◌, ◌++◌, List, [], ◌∷◌, Bool, true, Option, Some, None, All, length, map, refl, sym, ap, ◌∙◌, subst, arith, get_or, slice_get, take}
-use Rattle.std.specs.Prelude.{IsTrue}
+use Rattle.std.proofs.Common.{◌≡◌, ℕ, ℤ, zero, suc, ◌+◌, ◌<◌, ◌==◌, ◌++◌, List, [], ◌∷◌, Bool, true, Option, Some, None, All, length, map, refl, sym, ap, ◌∙◌, subst, arith, get_or, slice_get, take}
+use Rattle.std.specs.Prelude.{IsTrue, ◌↔◌}
 use Rattle.std.specs.List.{AllZip, flat_map}
 use Rattle.std.specs.Option.{option_map}
 use Rattle.std.proofs.lemmas.List.{append-nil, append_assoc, take_more}
 use Rattle.std.proofs.lemmas.List.Concat.{flat_map-append}
 use Rattle.std.proofs.lemmas.List.Elements.{All-append, All-map, All-nil}
 use Rattle.std.proofs.lemmas.Option.{none-some, same_Some, slice_get-get_or, slice_get_within}
+use Rattle.std.proofs.lemmas.Bool.{eq-eqb, eqb-true}
 use Rattle.lists.proofs.Members.{all_at}
 use Rattle.lists.proofs.Zips.{zip_back}
 use Rattle.std_blocks.specs.declared.value.Value.{Value}
@@ -82,6 +83,23 @@ pub all_free : (ds : List Declaration) (bits : List ℕ) (words : List (List ℕ
     → All (CanBeFree ds) (map free_bit bits ++ flat_map freed_by inputs)
 all_free ds bits words inputs bools are =
     All-append (CanBeFree ds) (map free_bit bits) (flat_map freed_by inputs) (All-map (CanBeFree ds) free_bit bits (λ k d lt. bit_free ds (get_or bits k d) (bools k d lt))) (all_freed ds words inputs are)
+
+-- whether a word gives one value
+pub one_value : (values : List Value) (n : ℕ) → n ≡ length values → IsTrue (n == 1) ↔ ((value : Value) × (values ≡ value ∷ []))
+one_value [] n is = (λ yes. let e = eqb-true n 1 yes in absurd (omega arith), λ one. absurd cc)
+one_value (v ∷ []) n is = (λ yes. (v, refl), λ one. eq-eqb n 1 is)
+one_value (v ∷ w ∷ values) n is = (λ yes. let e = eqb-true n 1 yes in absurd (omega arith), λ one. absurd cc)
+
+-- what a word holds its variable at
+pub held_none : (place : ℕ) (values : List Value) → (length values ≡ 1 → ⊥) → held_at place values ≡ []
+held_none place [] other = refl
+held_none place (v ∷ []) other = absurd (other refl)
+held_none place (v ∷ w ∷ values) other = refl
+
+pub held_some : (place : ℕ) (values : List Value) (value : Value) → length values ≡ 1 → slice_get values 0 ≡ Some value → held_at place values ≡ record { place = place; value = value } ∷ []
+held_some place [] value one at = absurd (omega arith)
+held_some place (v ∷ []) value one at = let held : Value → List Setting = λ x. record { place = place; value = x } ∷ [] in ap held (same_Some v value at)
+held_some place (v ∷ w ∷ values) value one at = absurd (omega arith)
 
 -- what a word holds can be held
 held_one : (ds : List Declaration) (place : ℕ) (k : Kind) (values : List Value) → IsVariableAt ds place k → All (λ v. kind_of v ≡ k) values → All (CanHold ds) (held_at place values)

@@ -10,6 +10,7 @@ use Rattle.verifying.specs.Steps.Search.{HasOneScan}
 use Rattle.verifying.specs.Preparing.{searched_of}
 use Rattle.verifying.specs.declared.verify_fault.VerifyFault.TheVariants.{TooManyInputs}
 use Rattle.verifying.specs.Counts.{AreCounts}
+use Rattle.verifying.specs.FreeInputs.{free_digits}
 use Rattle.verifying.specs.Runs.{SetupValue}
 use Rattle.verifying.specs.Verdicts.{AreVerdicts}
 use Rattle.verifying.proofs.Asking.{answering_refused, many_refused, names_long, verdicts_fit}
@@ -26,7 +27,7 @@ returns-in_err-check_inputs-clause-err g c =
     let q = question_of c.args.question.now in
     let p = c.in_ok-prepared.prepared in
     let v = searched_of p.slice p.whole in
-    let many = subst (λ (w : SetupValue). (c.in_err-check_inputs.field-0.0 ≡ TooManyInputs (length w.free)) × (20 < length w.free)) c.searched-searched.ensures c.in_err-check_inputs.ensures.err in
+    let many = subst (λ (w : SetupValue). (c.in_err-check_inputs.field-0.0 ≡ TooManyInputs (free_digits w.free)) × (20 < free_digits w.free)) c.searched-searched.ensures c.in_err-check_inputs.ensures.err in
     kept_fault c.in_err-check_inputs.field-0.0 (RefusesAnswering (source_of c.args.source) q) _ c.from_residual-in_err-check_inputs.ensures.1
     (many_refused (source_of c.args.source) q p.whole v p.idle.items p.claims.items p.constants.items p.needed p.networks c.in_err-check_inputs.field-0.0 c.in_ok-prepared.ensures.ok many)
 
@@ -57,7 +58,10 @@ pub tally_of-requires-clause-searched : goal.tally_of-requires-clause-searched
 tally_of-requires-clause-searched g c = (c.in_ok-prepared.prepared.claims.items, c.in_ok-prepared.ensures.ok.searched)
 
 pub tally_of-requires-clause-few : goal.tally_of-requires-clause-few
-tally_of-requires-clause-few g c = subst (λ (v : SetupValue). length v.free ≤ 20) c.searched-searched.ensures c.in_ok-check_inputs.ensures.ok
+tally_of-requires-clause-few g c = subst (λ (v : SetupValue). free_digits v.free ≤ 20) c.searched-searched.ensures c.in_ok-check_inputs.ensures.ok
+
+pub whole_verdicts-requires : goal.whole_verdicts-requires
+whole_verdicts-requires g c = rw c.free.ensures.list c.free.ensures.few
 
 pub verdict_texts-requires-clause-long : goal.verdict_texts-requires-clause-long
 verdict_texts-requires-clause-long g c =
@@ -89,7 +93,7 @@ returns-clause-ok g c =
     let found = c.in_ok-found.found in
     let are = subst (λ v. AreVerdicts v q.most_states found.scans p.claims.items found.verdicts.items) c.searched-searched.ensures (rw c.deref.ensures.value at c.in_ok-found.ensures.verdicts) in
     let counts = subst (λ v. All (AreCounts v q.most_states found.states found.scans) found.verdicts.items) c.searched-searched.ensures c.in_ok-found.ensures.counts in
-    let few = subst (λ (v : SetupValue). length v.free ≤ 20) c.searched-searched.ensures c.in_ok-check_inputs.ensures.ok in
+    let few = subst (λ (v : SetupValue). free_digits v.free ≤ 20) c.searched-searched.ensures c.in_ok-check_inputs.ensures.ok in
     let one = subst HasOneScan c.searched-searched.ensures c.has_one_scan.ensures in
     let whole = rw c.deref-3.ensures.value at (rw c.free.ensures.list at (rw c.deref-2.ensures.value at c.in_ok-verdicts.ensures)) in
     told_answer c.slices_follow.ensures (source_of c.args.source) q p.whole (searched_of p.slice p.whole) p.idle.items p.claims.items p.constants.items p.needed p.networks

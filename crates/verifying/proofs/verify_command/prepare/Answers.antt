@@ -52,10 +52,6 @@ pub returns-in_err-free-clause-err : goal.returns-in_err-free-clause-err
 returns-in_err-free-clause-err c =
     kept_fault no_memory (RefusesPreparing (source_of c.args.source) (question_of c.args.question.now)) _ c.from_residual-in_err-free.ensures.1 tt
 
-pub returns-in_err-constants-clause-err : goal.returns-in_err-constants-clause-err
-returns-in_err-constants-clause-err c =
-    kept_fault no_memory (RefusesPreparing (source_of c.args.source) (question_of c.args.question.now)) _ c.from_residual-in_err-constants.ensures.1 tt
-
 pub slice_setup-requires : goal.slice_setup-requires
 slice_setup-requires c = λ slice is.
     let asked = rw c.declarations.ensures.list at (rw c.deref.ensures.value at c.in_ok-asked.ensures.ok) in
@@ -84,7 +80,6 @@ returns-clause-ok c =
     let a = c.in_ok-asked.asked in
     let s = c.in_ok-sliced.sliced in
     let needed = c.in_ok-free.free.items in
-    let constants = c.in_ok-constants.constants.items in
     let count = c.needed_count-needed.result in
     let restarts = places_kept c.in_ok-restarts.restarts in
     let made = c.in_ok-slice.slice in
@@ -95,8 +90,7 @@ returns-clause-ok c =
     let sliced = rw c.deref-5.ensures.value at (rw c.deref-4.ensures.value at c.in_ok-sliced.ensures) in
     let same = rw c.deref-7.ensures.value at (rw c.deref-6.ensures.value at c.in_ok-free.ensures) in
     let timed = rw c.declarations-2.ensures.list at c.in_ok-check_time.ensures.ok in
-    let found = rw c.declarations-3.ensures.list at (rw c.deref-8.ensures.value at (rw c.deref-9.ensures.value at c.in_ok-constants.ensures)) in
-    subst (λ (w : SetupValue). IsPrepared (source_of c.args.source) q w s.idle.items (searched_of made w) a.claims.items constants count m.networks) (sym c.in_ok-whole.ensures.parts)
-    (subst (λ (n : ℕ). IsPrepared (source_of c.args.source) q u s.idle.items (searched_of made u) a.claims.items constants n m.networks) (sym c.needed_count-needed.ensures)
-    (asked_prepared (source_of c.args.source) q m a restarts limits s made needed constants c.in_ok-ladder.ensures.ladder c.in_ok-ladder.ensures.retained are_restarts c.in_ok-ladder.ensures.marked asked sliced same
-    c.in_ok-whole.ensures.limits c.in_ok-slice.ensures timed found))
+    subst (λ (w : SetupValue). IsPrepared (source_of c.args.source) q w s.idle.items (searched_of made w) a.claims.items a.constants.items count m.networks) (sym c.in_ok-whole.ensures.parts)
+    (subst (λ (n : ℕ). IsPrepared (source_of c.args.source) q u s.idle.items (searched_of made u) a.claims.items a.constants.items n m.networks) (sym c.needed_count-needed.ensures)
+    (asked_prepared (source_of c.args.source) q m a restarts limits s made needed c.in_ok-ladder.ensures.ladder c.in_ok-ladder.ensures.retained are_restarts c.in_ok-ladder.ensures.marked asked sliced same
+    c.in_ok-whole.ensures.limits c.in_ok-slice.ensures timed))

@@ -1,4 +1,5 @@
-use Rattle.std.proofs.Common.{◌≤◌, length, sym, subst}
+use Rattle.std.proofs.Common.{◌≤◌, sym, subst}
+use Rattle.verifying.specs.FreeInputs.{free_digits}
 use Rattle.verifying.specs.Runs.{SetupValue}
 use Rattle.verifying.specs.Needed.{IsSearched}
 use Rattle.verifying.specs.Preparing.{searched_of}
@@ -14,4 +15,4 @@ has_run-requires-clause-searched c =
     )
 
 pub has_run-requires-clause-few : goal.has_run-requires-clause-few
-has_run-requires-clause-few c = subst (λ (v : SetupValue). length v.free ≤ 20) (sym c.searched.ensures) c.requires.few
+has_run-requires-clause-few c = subst (λ (v : SetupValue). free_digits v.free ≤ 20) (sym c.searched.ensures) c.requires.few
