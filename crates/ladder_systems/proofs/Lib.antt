@@ -5,6 +5,7 @@ pub mod Quiet
 pub mod Pushing
 pub mod FirstState
 pub mod Made
+pub mod Choosing
 pub mod Opened
 pub mod Scanned
 pub mod Truths

@@ -48,7 +48,9 @@ fn int_in(
     let least = IntWord::constant(alloc, gates, least)?.raised();
     let greatest = IntWord::constant(alloc, gates, greatest)?.raised();
     let word = bounded_sum(alloc, gates, &least, digits, &greatest)?;
-    IntWord::of_raised(alloc, gates, &word)
+    let bits = word.as_slice();
+    let new = IntWord::of_raised(alloc, gates, bits)?;
+    Ok(new)
 }
 
 /// The TIME of a word of 32 bits at most.
@@ -77,7 +79,8 @@ fn time_in(
     let least = TimeWord::constant(alloc, gates, least)?;
     let greatest = TimeWord::constant(alloc, gates, greatest)?;
     let more = time_of(alloc, gates, digits)?;
-    least.bounded_sum(alloc, gates, &more, &greatest)
+    let new = least.bounded_sum(alloc, gates, &more, &greatest)?;
+    Ok(new)
 }
 
 /// The value of a free input by its digits.

@@ -17,12 +17,13 @@ returns-clause-state c = on_ok _ _ c.set_inputs.result c.set_inputs.ensures.of (
 
 pub returns-clause-found : goal.returns-clause-found
 returns-clause-found c = on_ok _ _ c.set_inputs.result c.set_inputs.ensures.slots (λ set v agrees.
-    let restarted = c.in_ok-restart_if.ensures.opened v agrees in
+    let inputs = set v agrees in
+    let restarted = c.in_ok-restart_if.ensures.opened v inputs.0 in
     let before = c.restart_if.new.slots in
     let long : length c.set_inputs.new.slots ≡ before.len = omega (arith, c.set_inputs.auto.slots, ap length c.deref_mut.ensures.value, before.ok.0) in (
       restarted.0,
       (
-        ap (slots_at v) (written before.len c.set_inputs.new.slots before.items long) ∙ set v agrees
+        ap (slots_at v) (written before.len c.set_inputs.new.slots before.items long) ∙ inputs.1
             ∙ ap (λ l. before_scan c.args.setup.now (bits_at v c.args.row.now) (slots_at v l)) c.deref_mut.ensures.value
             ∙ ap (λ (m : Moment). before_scan c.args.setup.now (bits_at v c.args.row.now) m.slots) restarted.1,
         ap (λ (m : Moment). m.memories) restarted.1,

@@ -1,4 +1,4 @@
-use Rattle.std.proofs.Common.{length, ap, ◌∙◌}
+use Rattle.std.proofs.Common.{length, ◌∙◌}
 use Rattle.power_flow.specs.Meaning.{moment}
 use Rattle.scan_gates.specs.Encoded.{bits_at, slots_at}
 use Rattle.ladder_systems.proofs.Opened.{opened_none, opened_where}
@@ -14,7 +14,7 @@ returns-in-Some-clause-opened c = on_ok _ _ c.restart_where.result c.restart_whe
       restarted.0,
       opened_where v c.args.setup.now c.in-Some.kept.now c.args.row.now _ _ (slots_at v c.args.first.now) (slots_at v c.args.slots.now.items) (slots_at v c.restart_where.new.slots.items)
           (bits_at v c.args.memories.now.items) (bits_at v c.restart_where.new.memories.items) (length c.args.memories.now.items)
-          c.in-Some.ensures c.requires.row (ap length c.free.ensures.list) restarted.1.0 restarted.1.1 (c.requires.first v restarted.0) c.requires.state.many,
+          c.in-Some.ensures c.requires.row c.digits.ensures restarted.1.0 restarted.1.1 (c.requires.first v restarted.0) c.requires.state.many,
     ))
 
 pub returns-in-Some-clause-state : goal.returns-in-Some-clause-state
