@@ -114,8 +114,8 @@ abbrev pub restart_premises : Option (List ℕ) → List (List ℕ)
 restart_premises None = []
 restart_premises (Some kept) = codes "restarts before any scan" ∷ []
 
--- the time, the inputs that are held and those that are free in a range, in the order of the words, the constants, in that of their declarations, what is
--- given, and that runs may restart
+-- the time, the inputs that are held and those that are free in a range, in the order of the words, the constants, in that of
+-- their declarations, what is given, and that runs may restart
 abbrev pub premises : SetupValue → List ℕ → List (List ℕ)
 premises u constants = dt_premises u.dt ++ map (held_premise u.ladder.declarations) u.held
     ++ range_premises u.ladder.declarations u.free

@@ -46,10 +46,10 @@ pub record IsSetup (source : SourceValue) (q : QuestionValue) (u : SetupValue) :
   pub are_retained : AreRetainedFrom source retained
   pub restarts : u.restarts ≡ restarts_of q.restarts u.ladder.declarations u.ladder.networks retained
 
--- A text that answers the question: the ladder with its inputs, the claims, what is searched in its place,
--- whose free inputs have 20 digits at most, a verdict for each claim that is proved of all runs of the whole ladder, with the numbers of states and scans, of networks
--- that were needed and of all, and whether there is a run at all, and the text of all that; and behind it a line of what
--- the answers depend on. Where there is a timer, time passes.
+-- A text that answers the question: the ladder with its inputs, the claims, what is searched in its place, whose free inputs
+-- have 20 digits at most, a verdict for each claim that is proved of all runs of the whole ladder, with the numbers of states
+-- and scans, of networks that were needed and of all, and whether there is a run at all, and the text of all that; and behind
+-- it a line of what the answers depend on. Where there is a timer, time passes.
 pub record IsAnswer (source : SourceValue) (q : QuestionValue) (text : List ℕ) : Type 0 where
   pub setup : SetupValue
   pub is : IsSetup source q setup
