@@ -9,9 +9,7 @@ ghost use Rattle.certified_claims.specs.Steps.Adding.{AddsCertifiedText, FitsSet
 use crate::verdict::{CertificateSize, CertifiedVerdict, Meeting, Scope};
 use std::alloc::{AllocError, Global};
 use std::fmt::Write;
-use verifying::{
-    Setup, push_counted, push_needed_of, push_run, push_told_of, push_unmet,
-};
+use verifying::{Setup, push_counted, push_needed_of, push_run, push_told_of, push_unmet};
 
 /// How large a certificate is.
 fn push_size(text: &mut String, size: CertificateSize) -> Result<(), AllocError>

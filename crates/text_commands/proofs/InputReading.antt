@@ -110,10 +110,11 @@ input_more ds words n d before input lt read is new =
         elim (cases_lt j (length xs)) [
           | inl early ↦ inl (slice_get-get_or xs j a early ∙ ap (λ y. Some y) (sym (get_or_append_left xs (x ∷ []) a j early) ∙ get_or_from_slice_get (xs ++ x ∷ []) j a a at))
           | inr late ↦
-            let last : j ≡ length xs = omega arith in
-            let zero : j - length xs ≡ 0 = omega arith in
-            inr (last, sym (sym (get_or-append_right xs (x ∷ []) j a late ∙ ap (λ m. get_or (x ∷ []) m a) zero) ∙ get_or_from_slice_get (xs ++ x ∷ []) j a a at))
+              let last : j ≡ length xs = omega arith in
+              let zero : j - length xs ≡ 0 = omega arith in
+              inr (last, sym (sym (get_or-append_right xs (x ∷ []) j a late ∙ ap (λ m. get_or (x ∷ []) m a) zero) ∙ get_or_from_slice_get (xs ++ x ∷ []) j a a at))
         ]
+
     apart_more : (j k : ℕ) (a b : InputWord) → (slice_get before j ≡ Some a) ⊎ ((j ≡ length before) × (a ≡ input)) → (slice_get before k ≡ Some b) ⊎ ((k ≡ length before) × (b ≡ input))
         → told_place a ≡ told_place b → j ≡ k
     apart_more j k a b (inl at) (inl also) same = read.apart j k a b at also same
