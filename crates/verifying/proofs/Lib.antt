@@ -15,6 +15,7 @@ mod Searching
 pub mod Marking
 pub mod Premising
 mod ClaimParts
+pub mod Comparing
 pub mod Reading
 pub mod Wording
 pub mod Telling
