@@ -19,7 +19,7 @@ use Rattle.exchange_core.specs.Wholes.{core_in, AreWhole}
 use Rattle.node_reports.specs.declared.journal.Journal.{Journal}
 use Rattle.node_reports.specs.Stations.{StationValue, fresh_station}
 use Rattle.audit.specs.declared.item.Item.{Item}
-use Rattle.audit.specs.declared.item.Item.TheVariants.{Start, Restart, Message, Hello, Evaluate, Faulty}
+use Rattle.audit.specs.declared.item.Item.TheVariants.{Start, Restart, Message, Hello, Evaluate, Foreign, Faulty}
 use Rattle.audit.specs.declared.line.Line.{Line}
 use Rattle.audit.specs.declared.outcome.Outcome.{Outcome}
 use Rattle.audit.specs.declared.outcome.Outcome.TheVariants.{Done, Waits, Stops}
@@ -152,6 +152,7 @@ ticket_start (Restart incarnation) n is = absurd cc
 ticket_start (Message m) n is = absurd cc
 ticket_start (Hello of incarnation) n is = absurd cc
 ticket_start (Evaluate task dt inputs) n is = absurd cc
+ticket_start (Foreign incarnation) n is = absurd cc
 ticket_start Faulty n is = absurd cc
 
 ticket_other : (item : Item) (n : ℕ) → IsStart item false → ticket_behind (Some item) n ≡ n + 1
@@ -160,6 +161,7 @@ ticket_other (Restart incarnation) n is = refl
 ticket_other (Message m) n is = refl
 ticket_other (Hello of incarnation) n is = refl
 ticket_other (Evaluate task dt inputs) n is = refl
+ticket_other (Foreign incarnation) n is = refl
 ticket_other Faulty n is = refl
 
 one_behind : (k : ℕ) → 1 ≡ k + 1 - k

@@ -16,7 +16,7 @@ use Rattle.exchange_core.specs.declared.eval_fault.EvalFault.TheVariants as faul
 use Rattle.exchange_core.specs.CoreValue.{CoreValue, IsEvalFault, IsNextOf}
 use Rattle.node_reports.specs.Stations.{StationValue}
 use Rattle.audit.specs.declared.item.Item.{Item}
-use Rattle.audit.specs.declared.item.Item.TheVariants.{Start, Restart, Message, Hello, Evaluate, Faulty}
+use Rattle.audit.specs.declared.item.Item.TheVariants.{Start, Restart, Message, Hello, Evaluate, Foreign, Faulty}
 use Rattle.audit.specs.declared.needs.Need.{Need}
 use Rattle.audit.specs.declared.needs.Need.TheVariants.{Evaluation, Incarnation}
 use Rattle.audit.specs.declared.reason.Reason.{Reason}
@@ -42,6 +42,7 @@ kind (Restart incarnation) = 0
 kind (Message m) = 1
 kind (Hello of incarnation) = 1
 kind (Evaluate task dt inputs) = 2
+kind (Foreign incarnation) = 2
 kind Faulty = 2
 
 begun_kind : (i : ℕ) (item : Item) → begins i item ≡ true → kind item ≡ 0
@@ -50,6 +51,7 @@ begun_kind i (Restart incarnation) is = refl
 begun_kind i (Message m) is = absurd cc
 begun_kind i (Hello of incarnation) is = absurd cc
 begun_kind i (Evaluate task dt inputs) is = absurd cc
+begun_kind i (Foreign incarnation) is = absurd cc
 begun_kind i Faulty is = absurd cc
 
 needed_kind : (book : BookValue) (all : List Course) (s : StationValue) (item : Item) (need : Need) → Needs book all s item need → kind item ≡ 1
@@ -75,6 +77,7 @@ one_begun i j (Restart incarnation) a b = sym (eqb-true incarnation i a) ∙ eqb
 one_begun i j (Message m) a b = absurd cc
 one_begun i j (Hello of incarnation) a b = absurd cc
 one_begun i j (Evaluate task dt inputs) a b = absurd cc
+one_begun i j (Foreign incarnation) a b = absurd cc
 one_begun i j Faulty a b = absurd cc
 
 begun_as : (i j : ℕ) (item : Item) (kept : Vec (List Value)) → item ≡ Start j kept → begins i item ≡ true → j ≡ i

@@ -40,7 +40,7 @@ use Rattle.node_reports.specs.declared.journal.Journal.{Journal}
 use Rattle.node_reports.specs.Journals.{made, newest, last_of, opening_at, with_step}
 use Rattle.node_reports.specs.Stations.{StationValue, PendingValue, fresh_station, IsReceived, IsPending, IsNoted, IsRestarted}
 use Rattle.audit.specs.declared.item.Item.{Item}
-use Rattle.audit.specs.declared.item.Item.TheVariants.{Start, Restart, Message, Hello, Evaluate, Faulty}
+use Rattle.audit.specs.declared.item.Item.TheVariants.{Start, Restart, Message, Hello, Evaluate, Foreign, Faulty}
 use Rattle.audit.specs.declared.line.Line.{Line}
 use Rattle.audit.specs.Lines.{zeros, messages_in, left_in, AreLeft, Rises, Takes, Hears, Does, IsBeginning, StandsAt, item_at, ticket_at, ticket_behind, OpensWith, WasUndone}
 use Rattle.audit.specs.OneTelling.{NodeComes, NodeStandsAt, AreAlike, IsUndoneAt, OneTelling}
@@ -533,6 +533,7 @@ module _ (one : OneEvaluation) (taken : TakenAlike) (plant : PlantValue) (n : �
   steady_does ticket next (Evaluate task dt inputs) old new was (inl (undone, still)) = subst (IsSteady plant n) (sym still) was
   steady_does ticket next (Evaluate task dt inputs) old new was (inr (done, made)) =
       steady_made plant n sound old new ticket task dt inputs made.pending.made was made.made.next.next (made.noted.core ∙ made.made.next.after) (made.noted.noted ∙ ap (λ j. with_step j (Made made.pending.made)) made.made.journal)
+  steady_does ticket next (Foreign incarnation) old new was does = absurd does
   steady_does ticket next Faulty old new was does = absurd does
 
   steady_at : (lines : List Line) (k : ℕ) (s : StationValue) → StandsAt plant n lines k s → IsSteady plant n s
@@ -550,6 +551,7 @@ module _ (one : OneEvaluation) (taken : TakenAlike) (plant : PlantValue) (n : �
   opens_start (Message m) task values none opens = opens
   opens_start (Hello of i) task values none opens = opens
   opens_start (Evaluate t dt inputs) task values none opens = opens
+  opens_start (Foreign incarnation) task values none opens = opens
   opens_start Faulty task values none opens = opens
 
   abbrev IsOne : List Line → ℕ → NodeValue → StationValue → Type 0
@@ -585,6 +587,7 @@ module _ (one : OneEvaluation) (taken : TakenAlike) (plant : PlantValue) (n : �
   line_told lines k (Evaluate task dt inputs) node old s at was (older, x, stood, mine) (inr (done, made)) before =
       let alike = alike_before lines k (Evaluate task dt inputs) older old at tt (before older stood) in
       inl (subst (λ o. AreAt (ticket_behind o (ticket_at lines k)) node s) (sym at) (making (ticket_at lines k) old s older node task dt inputs x made.pending was alike mine made.made made.noted))
+  line_told lines k (Foreign incarnation) node old s at was comes does before = absurd does
   line_told lines k Faulty node old s at was comes does before = absurd does
 
   telling : (lines : List Line) (k : ℕ) (node : NodeValue) (s : StationValue) → NodeStandsAt plant n lines k node → StandsAt plant n lines k s → IsOne lines k node s

@@ -1,34 +1,70 @@
 -- What a line of a journal tells: it is what a node notes. `;` and the line feed stand behind it.
-use Rattle.std.specs.Prelude.{◌≡◌, ◌≢◌, ◌⊎◌, ℕ, ◌<◌, ◌≤◌, ◌++◌, List, Some, codes, length}
-use Rattle.std.specs.List.{AllByRecursion}
+use Rattle.std.specs.Prelude.{◌≡◌, ◌≢◌, ◌⊎◌, ℕ, ◌<◌, ◌≤◌, ◌==◌, ◌&&◌, ◌++◌, Bool, IsTrue, List, Some, codes, length}
+use Rattle.std.specs.Fmt.{decimal}
+use Rattle.std.specs.List.{AllByRecursion, list_all}
+use Rattle.hex.specs.Hex.{is_hex_digit}
 use Rattle.std_blocks.specs.declared.value.Value.{Value}
 use Rattle.plant.specs.PlantValue.{PlantValue, code_at}
 use Rattle.task_codes.specs.CodeValue.{CodeValue}
 use Rattle.exchange_core.specs.Openings.{AreOpeningOf}
+use Rattle.crossings.specs.Digests.{crossing_digits}
+use Rattle.plant_digest.specs.Digests.{plant_digits}
+use Rattle.text_lines.specs.LineParts.{resource_text}
 use Rattle.text_lines.specs.ReadParts.{IsInRange}
 use Rattle.text_lines.specs.MessageLines.{IsSmall}
 use Rattle.live_node.specs.NodeLines.{Spells, SpellsNothing}
-use Rattle.live_node.specs.NodeJournal.{note_end, line_note, start_note, restart_note}
+use Rattle.live_node.specs.NodeJournal.{note_end, keeps_text, line_note, marks_text, start_note, restart_note, unmarked_start_note}
 use Rattle.live_node.specs.declared.node_line.NodeLine.{NodeLine}
 use Rattle.live_node.specs.declared.node_line.NodeLine.TheVariants as asked
 use Rattle.audit.specs.declared.item.Item.{Item}
-use Rattle.audit.specs.declared.item.Item.TheVariants.{Start, Restart, Message, Hello, Evaluate, Faulty}
+use Rattle.audit.specs.declared.item.Item.TheVariants.{Start, Restart, Message, Hello, Evaluate, Foreign, Faulty}
 
--- a line is what a resource notes as it starts in this incarnation, and opens with these values
+-- A line is what a resource notes as it starts in this incarnation, and opens with these values. It tells the digests of the
+-- plant, or, as nodes noted that told none, no digest.
 pub record IsStart (plant : PlantValue) (n incarnation : ℕ) (opening : List (List Value)) (line : List ℕ) : Type 0 where
   pub exists : n < length plant.resources
   pub opens : AreOpeningOf plant n opening
-  pub noted : codes "\n" ++ line ++ note_end ≡ start_note plant n incarnation opening
+  pub noted : (codes "\n" ++ line ++ note_end ≡ start_note plant n incarnation opening)
+      ⊎ (codes "\n" ++ line ++ note_end ≡ unmarked_start_note plant n incarnation opening)
+
+-- 64 hexadecimal digits
+abbrev pub is_digest : List ℕ → Bool
+is_digest word = (length word == 64) && list_all is_hex_digit word
+
+-- two digests are those of the plant and of what crosses in it
+abbrev pub AreOwnDigests : PlantValue → (whole crossing : List ℕ) → Type 0
+AreOwnDigests plant whole crossing = (whole ≡ plant_digits plant) × (crossing ≡ crossing_digits plant)
+
+-- a line is what a resource of this name notes as it starts in this incarnation, in another plant
+pub record IsForeignStart (plant : PlantValue) (n incarnation : ℕ) (line : List ℕ) : Type 0 where
+  pub exists : n < length plant.resources
+  pub whole : List ℕ
+  pub crossing : List ℕ
+  pub kept : List ℕ
+  pub whole_is : IsTrue (is_digest whole)
+  pub crossing_is : IsTrue (is_digest crossing)
+  pub other : AreOwnDigests plant whole crossing → ⊥
+  pub line_is : line ≡ codes "START " ++ resource_text plant n ++ codes " " ++ decimal incarnation
+      ++ marks_text whole crossing ++ keeps_text kept
 
 -- values that are in their ranges
 abbrev pub AreInRange : List (List Value) → Type 0
 AreInRange opening = AllByRecursion (AllByRecursion IsInRange) opening
 
 -- a line is no START of a resource of the plant
-abbrev pub IsNoStart : PlantValue → List ℕ → Type 0
-IsNoStart plant line =
+abbrev pub IsNoOwnStart : PlantValue → List ℕ → Type 0
+IsNoOwnStart plant line =
     (n incarnation : ℕ) (opening : List (List Value)) → IsSmall incarnation → AreInRange opening
     → IsStart plant n incarnation opening line → ⊥
+
+-- a line is no START of a resource of a name in the plant, in another plant
+abbrev pub IsNoForeignStart : PlantValue → List ℕ → Type 0
+IsNoForeignStart plant line =
+    (n incarnation : ℕ) → IsSmall incarnation → IsForeignStart plant n incarnation line → ⊥
+
+-- a line is no START, of this plant or of another one
+abbrev pub IsNoStart : PlantValue → List ℕ → Type 0
+IsNoStart plant line = IsNoOwnStart plant line × IsNoForeignStart plant line
 
 -- a line is what the resource notes as it restarts in this incarnation
 abbrev pub IsRestart : PlantValue → ℕ → List ℕ → ℕ → Type 0
@@ -43,13 +79,14 @@ abbrev pub HasTask : PlantValue → ℕ → ℕ → Type 0
 HasTask plant n task =
     (code : CodeValue) × (code_at plant (record { resource = n; task = task }) ≡ Some code)
 
--- A node of the resource doesn't note what is asked: nothing, another resource's hello than one of the plant, an
+-- A node of the resource doesn't note what is asked: nothing, a hello of another plant or of no resource of this one, an
 -- evaluation that isn't of one of its tasks, or a restart, which is noted with its incarnation.
 abbrev pub IsUnnoted : PlantValue → ℕ → NodeLine → Type 0
 IsUnnoted plant n asked.Idle = Unit {0}
 IsUnnoted plant n (asked.Evaluate t dt inputs) = (t.resource ≡ n) × HasTask plant n t.task → ⊥
 IsUnnoted plant n (asked.Take m) = ⊥
 IsUnnoted plant n (asked.Hello of incarnation) = length plant.resources ≤ of
+IsUnnoted plant n asked.Foreign = Unit {0}
 IsUnnoted plant n (asked.Restart resource) = Unit {0}
 
 -- a line isn't as a node notes lines, or it asks nothing, or what a node of the resource doesn't note
@@ -72,4 +109,5 @@ Tells plant n line (Message m) = IsNoted plant (asked.Take m) line
 Tells plant n line (Hello of incarnation) = (of < length plant.resources) × IsNoted plant (asked.Hello of incarnation) line
 Tells plant n line (Evaluate task dt inputs) =
     HasTask plant n task × IsNoted plant (asked.Evaluate (record { resource = n; task = task }) dt inputs) line
+Tells plant n line (Foreign incarnation) = ⊥
 Tells plant n line Faulty = IsNoRestart plant n line × AsksNothing plant n line

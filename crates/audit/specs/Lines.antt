@@ -17,7 +17,7 @@ use Rattle.node_reports.specs.declared.journal.Journal.{Journal}
 use Rattle.node_reports.specs.Journals.{last_of, opening_at}
 use Rattle.node_reports.specs.Stations.{StationValue, PendingValue, fresh_station, IsReceived, IsTold, IsPending, IsNoted, IsRestarted}
 use Rattle.audit.specs.declared.item.Item.{Item}
-use Rattle.audit.specs.declared.item.Item.TheVariants.{Start, Restart, Message, Hello, Evaluate, Faulty}
+use Rattle.audit.specs.declared.item.Item.TheVariants.{Start, Restart, Message, Hello, Evaluate, Foreign, Faulty}
 use Rattle.audit.specs.declared.line.Line.{Line}
 
 -- the first incarnations: 0 for each resource
@@ -72,6 +72,7 @@ OpensWith (Some (Restart incarnation)) task values = ⊥
 OpensWith (Some (Message m)) task values = ⊥
 OpensWith (Some (Hello of incarnation)) task values = ⊥
 OpensWith (Some (Evaluate other dt inputs)) task values = ⊥
+OpensWith (Some (Foreign incarnation)) task values = ⊥
 OpensWith (Some Faulty) task values = ⊥
 
 -- an evaluation that the resource could make next leaves these values
@@ -114,6 +115,7 @@ Does ticket next (Restart incarnation) old new = Rises old new ticket incarnatio
 Does ticket next (Message m) old new = Takes old new m
 Does ticket next (Hello of incarnation) old new = Hears old new of incarnation
 Does ticket next (Evaluate task dt inputs) old new = Evaluates next ticket task dt inputs old new
+Does ticket next (Foreign incarnation) old new = ⊥
 Does ticket next Faulty old new = ⊥
 
 -- what the line at a place tells
@@ -128,6 +130,7 @@ ticket_behind (Some (Restart incarnation)) ticket = ticket + 1
 ticket_behind (Some (Message m)) ticket = ticket + 1
 ticket_behind (Some (Hello of incarnation)) ticket = ticket + 1
 ticket_behind (Some (Evaluate task dt inputs)) ticket = ticket + 1
+ticket_behind (Some (Foreign incarnation)) ticket = ticket + 1
 ticket_behind (Some Faulty) ticket = ticket + 1
 
 -- the ticket of the line at a place: how many lines it stands behind the last START
@@ -145,6 +148,7 @@ Opens plant n (Some (Restart incarnation)) opening = opening ≡ initial_opening
 Opens plant n (Some (Message m)) opening = opening ≡ initial_opening plant n
 Opens plant n (Some (Hello of incarnation)) opening = opening ≡ initial_opening plant n
 Opens plant n (Some (Evaluate task dt inputs)) opening = opening ≡ initial_opening plant n
+Opens plant n (Some (Foreign incarnation)) opening = opening ≡ initial_opening plant n
 Opens plant n (Some Faulty) opening = opening ≡ initial_opening plant n
 
 -- a resource before its first line: it is in incarnation 0, as all are, and does nothing in it

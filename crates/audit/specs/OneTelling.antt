@@ -18,7 +18,7 @@ use Rattle.live_node.specs.NodeValue.{NodeValue, IsStarted}
 use Rattle.live_node.specs.NodeSteps.{HasMade, HasTaken, HasHeardOf, HasRisen}
 use Rattle.node_reports.specs.Stations.{StationValue}
 use Rattle.audit.specs.declared.item.Item.{Item}
-use Rattle.audit.specs.declared.item.Item.TheVariants.{Start, Restart, Message, Hello, Evaluate, Faulty}
+use Rattle.audit.specs.declared.item.Item.TheVariants.{Start, Restart, Message, Hello, Evaluate, Foreign, Faulty}
 use Rattle.audit.specs.declared.line.Line.{Line}
 use Rattle.audit.specs.JournalLines.{Tells}
 use Rattle.audit.specs.Lines.{item_at, ticket_at, WasUndone, StandsAt}
@@ -34,6 +34,7 @@ NodeComes plant n Stood (Hello of incarnation) s =
     (old : NodeValue) × (newer : Bool) × Stood old × HasHeardOf old s of incarnation newer
 NodeComes plant n Stood (Evaluate task dt inputs) s =
     (old : NodeValue) × (x : Evaluated) × Stood old × HasMade old s task dt inputs x
+NodeComes plant n Stood (Foreign incarnation) s = ⊥
 NodeComes plant n Stood Faulty s = ⊥
 
 -- The resource's node is this behind the first lines of its journals: of its last START and what stands behind it, each

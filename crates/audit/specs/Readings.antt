@@ -5,9 +5,9 @@ use Rattle.std.specs.List.{filter, flat_map, slice_split}
 use Rattle.std.specs.List.Sorted.{IsNonDecreasingBy, IsStableByKey}
 use Rattle.std.specs.Ordering.{nat_cmp}
 use Rattle.plant.specs.PlantValue.{PlantValue}
-use Rattle.audit.specs.JournalLines.{IsStart, IsNoStart, Tells}
+use Rattle.audit.specs.JournalLines.{IsStart, IsForeignStart, IsNoStart, Tells}
 use Rattle.audit.specs.declared.item.Item.{Item}
-use Rattle.audit.specs.declared.item.Item.TheVariants.{Start, Restart, Message, Hello, Evaluate, Faulty}
+use Rattle.audit.specs.declared.item.Item.TheVariants.{Start, Restart, Message, Hello, Evaluate, Foreign, Faulty}
 use Rattle.audit.specs.declared.line.Place.{Place}
 use Rattle.audit.specs.declared.line.Line.{Line}
 use Rattle.audit.specs.declared.run.Run.{Run}
@@ -34,6 +34,8 @@ IsStartOf plant line run (Restart incarnation) = ⊥
 IsStartOf plant line run (Message m) = ⊥
 IsStartOf plant line run (Hello of incarnation) = ⊥
 IsStartOf plant line run (Evaluate task dt inputs) = ⊥
+IsStartOf plant line run (Foreign incarnation) =
+    IsForeignStart plant run.resource incarnation line × (run.incarnation ≡ incarnation)
 IsStartOf plant line run Faulty = ⊥
 
 -- a START, which stands here, begins a run

@@ -20,7 +20,7 @@ use Rattle.node_reports.specs.Journals.{incarnation_after}
 use Rattle.node_reports.specs.Reports.{restarted_in}
 use Rattle.node_reports.specs.Stations.{StationValue}
 use Rattle.audit.specs.declared.item.Item.{Item}
-use Rattle.audit.specs.declared.item.Item.TheVariants.{Start, Restart, Message, Hello, Evaluate, Faulty}
+use Rattle.audit.specs.declared.item.Item.TheVariants.{Start, Restart, Message, Hello, Evaluate, Foreign, Faulty}
 use Rattle.audit.specs.declared.line.Line.{Line}
 use Rattle.audit.specs.declared.needs.Need.{Need}
 use Rattle.audit.specs.declared.needs.Need.TheVariants.{Evaluation, Incarnation}
@@ -65,6 +65,7 @@ begins i (Restart incarnation) = incarnation == i
 begins i (Message m) = false
 begins i (Hello of incarnation) = false
 begins i (Evaluate task dt inputs) = false
+begins i (Foreign incarnation) = false
 begins i Faulty = false
 
 -- a resource was in an incarnation: one of the lines shown is the START or RESTART in it
@@ -105,6 +106,7 @@ OpensAsLeft s (Restart incarnation) = Unit {0}
 OpensAsLeft s (Message m) = Unit {0}
 OpensAsLeft s (Hello of incarnation) = Unit {0}
 OpensAsLeft s (Evaluate task dt inputs) = Unit {0}
+OpensAsLeft s (Foreign incarnation) = Unit {0}
 OpensAsLeft s Faulty = Unit {0}
 
 -- An incarnation is more than 1,000,000 above the present one; or a line rises to it as it may and opens with what was left,
@@ -170,12 +172,13 @@ IsUnfit book s item misfit =
     × (item ≡ Evaluate task dt inputs) × IsNextOf s.core ticket task dt inputs x
     × (book.entries ≡ older ++ newer) × IsMisfit book.first (reverse older) x misfit × (misfit ≢ NoMemory)
 
--- This is why the next line of a resource can't be shown. Syntax: it is no line. NotRisen, TooHigh: it is a START or
+-- This is why the next line of a resource can't be shown. Syntax: it is no line. OtherPlant: it is a START in another plant. NotRisen, TooHigh: it is a START or
 -- RESTART that isn't above the present incarnation, or too high. Kept: it opens otherwise. Differs: what it takes was made
 -- otherwise. Unmade: what it takes wasn't made, and the maker is over with that incarnation. Waits: what it needs
 -- isn't there, and the other resource may still be in that incarnation. Missing: neither is so.
 abbrev pub IsReason : BookValue → List Course → StationValue → Item → Reason → Type 0
 IsReason book all s item reason.Syntax = IsNoLine s item
+IsReason book all s item (reason.OtherPlant i) = item ≡ Foreign i
 IsReason book all s item (reason.NotRisen i) = (begins i item ≡ true) × (i ≤ s.core.incarnation)
 IsReason book all s item (reason.TooHigh i) =
     (begins i item ≡ true) × IsTooHigh (skipped_in (map (λ (c : Course). c.journal) all)) s item i

@@ -128,6 +128,10 @@ fn do_item(
         Item::Evaluate { task, dt, inputs } => evaluate(
             alloc, station, next, ticket, *task, *dt, inputs, past, book,
         ),
+        Item::Foreign { incarnation } => {
+            let stops = Outcome::Stops(Reason::OtherPlant(*incarnation));
+            Ok((Standing::Going(station), stops))
+        }
         Item::Faulty => Ok((Standing::Going(station), Outcome::Stops(Reason::Syntax))),
     }
 }

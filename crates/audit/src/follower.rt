@@ -94,7 +94,11 @@ fn begins(item: &Item, in_incarnation: u32) -> bool
         Item::Start { incarnation, .. } | Item::Restart { incarnation } => {
             *incarnation == in_incarnation
         }
-        Item::Message(_) | Item::Hello { .. } | Item::Evaluate { .. } | Item::Faulty => false,
+        Item::Message(_)
+        | Item::Hello { .. }
+        | Item::Evaluate { .. }
+        | Item::Foreign { .. }
+        | Item::Faulty => false,
     }
 }
 

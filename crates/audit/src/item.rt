@@ -25,6 +25,10 @@ pub enum Item {
         dt: u32,
         inputs: Inputs,
     },
+    /// A node of a resource of that name began in this incarnation, in another plant.
+    Foreign {
+        incarnation: u32,
+    },
     /// It is no line of a node of the resource.
     Faulty,
 }

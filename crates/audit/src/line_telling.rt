@@ -64,6 +64,8 @@ pub(crate) fn read_item(
                 inputs,
             })
         }
-        Some(NodeLine::Idle) | Some(NodeLine::Restart { .. }) | None => Ok(Item::Faulty),
+        Some(NodeLine::Idle | NodeLine::Foreign | NodeLine::Restart { .. }) | None => {
+            Ok(Item::Faulty)
+        }
     }
 }

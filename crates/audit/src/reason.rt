@@ -8,6 +8,8 @@ use evaluation::Name;
 pub enum Reason {
     /// The line is none of a node of the resource.
     Syntax,
+    /// The START, in this incarnation, tells the digests of another plant.
+    OtherPlant(u32),
     /// The incarnation of a START or RESTART isn't above the one before.
     NotRisen(u32),
     /// It is above the one before by more than 1,000,000, or more than these are skipped in all.

@@ -3,8 +3,9 @@
 ghost use Rattle.std.specs.Prelude.{IfOk, List, OnOk, ℕ};
 ghost use Rattle.audit.specs.Readings.{Begins, GoesOn, LastGoesOn, HasWhole, HasLine, AreRunsOf};
 ghost use Rattle.plant.specs.PlantValue.{PlantValue};
-ghost use Rattle.audit.specs.JournalLines.{IsStart};
+ghost use Rattle.audit.specs.JournalLines.{IsForeignStart, IsNoOwnStart, IsStart};
 
+use crate::foreign_start::{ForeignStart, read_foreign_start};
 use crate::item::Item;
 use crate::line::{Line, Place};
 use crate::line_telling::read_item;
@@ -28,6 +29,27 @@ fn begun(alloc: Global, place: Place, start: Start) -> Result<Run, AllocError>
     lines.push(Line {
         place,
         item: Item::Start { incarnation, kept },
+    })?;
+    Ok(Run {
+        resource,
+        incarnation,
+        lines,
+    })
+}
+
+/// The run that a START in another plant begins, which stands there.
+fn begun_elsewhere(alloc: Global, place: Place, start: ForeignStart) -> Result<Run, AllocError>
+    ensures { (plant : PlantValue) (line : List ℕ) → IsForeignStart plant start.resource start.incarnation line
+        → IfOk result (Begins plant place line) }
+{
+    let ForeignStart {
+        resource,
+        incarnation,
+    } = start;
+    let mut lines = Vec::new(alloc);
+    lines.push(Line {
+        place,
+        item: Item::Foreign { incarnation },
     })?;
     Ok(Run {
         resource,
@@ -77,6 +99,25 @@ fn put_line(
     Ok(())
 }
 
+/// Puts a whole line behind those before it that is no START in this plant.
+fn put_other(
+    alloc: Global,
+    plant: &Plant,
+    runs: &mut Vec<Run>,
+    place: Place,
+    line: &[u8],
+) -> Result<(), AllocError>
+    ensures { IsNoOwnStart plant.now line.now → OnOk result (HasWhole plant.now place line.now runs.old.items runs.new.items) }
+{
+    match read_foreign_start(alloc, plant, line)? {
+        Some(start) => {
+            runs.push(begun_elsewhere(alloc, place, start)?)?;
+            Ok(())
+        }
+        None => put_line(alloc, plant, runs, place, line),
+    }
+}
+
 /// Puts a whole line behind those before it: a START begins a run, and any other is of the last one.
 fn put_whole(
     alloc: Global,
@@ -92,7 +133,7 @@ fn put_whole(
             runs.push(begun(alloc, place, start)?)?;
             Ok(())
         }
-        None => put_line(alloc, plant, runs, place, line),
+        None => put_other(alloc, plant, runs, place, line),
     }
 }
 

@@ -1,18 +1,19 @@
-//! The line of a START, such as `START R1 2 KEEPS H.M=1 H.K=-3`. It is read freely, part by part, and what was read is
+//! The line of a START, such as `START R1 2 PLANT .. CROSSES .. KEEPS H.M=1 H.K=-3`, with the digests of the plant, or without. It is read freely, part by part, and what was read is
 //! written again: it is that START only if both are equal.
 
 ghost use Rattle.std.specs.Prelude.{◌≡◌, ◌<◌, ◌↔◌, IfOk, IfSome, IsTrue, List, MatchOption, ℕ, length};
 ghost use Rattle.std.specs.Option.{option_map};
 ghost use Rattle.live_node.specs.NodeJournal.{keeps_text};
-ghost use Rattle.audit.specs.JournalLines.{IsStart, IsNoStart};
+ghost use Rattle.audit.specs.JournalLines.{IsStart, IsNoOwnStart};
 ghost use Rattle.audit.specs.Steps.Reading.{IsStartRead, IsNoStartOf};
 
 use crate::beginnings::{behind_resource, number_at};
 use crate::kept_values::all_kept_in;
 use crate::notes::is_note_of;
+use crate::start_marks::behind_marks;
 use evaluation::Retained;
 use exchange_core::is_opening;
-use live_node::note_of_start;
+use live_node::{note_of_start, unmarked_note_of_start};
 use plant::Plant;
 use std::alloc::{AllocError, Global};
 use text_lines::behind;
@@ -52,7 +53,7 @@ fn read_freely(
     let Some((incarnation, rest)) = number_at(rest) else {
         return Ok(None);
     };
-    match all_kept_in(alloc, kept_part(rest), plant, resource)? {
+    match all_kept_in(alloc, kept_part(behind_marks(rest)), plant, resource)? {
         Some(kept) => Ok(Some((incarnation, kept))),
         None => Ok(None),
     }
@@ -74,7 +75,11 @@ fn is_start(
         return Ok(false);
     }
     let note = note_of_start(alloc, plant, resource, incarnation, kept)?;
-    is_note_of(alloc, b"\n", line, note.as_bytes())
+    if is_note_of(alloc, b"\n", line, note.as_bytes())? {
+        return Ok(true);
+    }
+    let unmarked = unmarked_note_of_start(alloc, plant, resource, incarnation, kept)?;
+    is_note_of(alloc, b"\n", line, unmarked.as_bytes())
 }
 
 /// The START of a resource that a line is.
@@ -108,7 +113,7 @@ pub(crate) fn read_start(
     plant: &Plant,
     line: &[u8],
 ) -> Result<Option<Start>, AllocError>
-    ensures { IfOk result (λ found. MatchOption found (IsNoStart plant.now line.now)
+    ensures { IfOk result (λ found. MatchOption found (IsNoOwnStart plant.now line.now)
         (λ s. IsStart plant.now s.resource s.incarnation s.kept.items line.now)) }
 {
     for resource in 0..plant.resources() {

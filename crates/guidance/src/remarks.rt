@@ -61,6 +61,10 @@ impl Occasion {
 }
 
 pub const EVENTS: [(&str, &str); 6] = [
+    (
+        "OtherPlant",
+        "The HELLO comes from a node of a plant in which something else crosses between the resources: other resources, tasks that give to others, or names or kinds of what they give. Give all nodes plants in which the same crosses, and begin them anew.",
+    ),
     ("NoSuchResource", "The plant has no resource of that name."),
     ("NoSuchTask", "The resource has no task of that name."),
     (
@@ -151,7 +155,7 @@ pub const STATES: [(&str, &str); 3] = [
     ),
 ];
 
-pub const NODES: [(&str, &str); 11] = [
+pub const NODES: [(&str, &str); 12] = [
     (
         "Syntax",
         "It is no EVAL, MESSAGE, HELLO, RESTART or, with --field, INPUT with its words. A MESSAGE is read only as a node of the same plant writes it behind SEND.",
@@ -192,10 +196,14 @@ pub const NODES: [(&str, &str); 11] = [
     ),
 ];
 
-pub const AUDITS: [(&str, &str); 8] = [
+pub const AUDITS: [(&str, &str); 9] = [
     (
         "Syntax",
         "The line is none that a node of this plant's resource notes: a byte was changed, a line was cut, the plant is another one, or no START stands before it. At FILE.n:1, of a further file that --journal-size made, its line CONTINUES tells another file before it than was given: that one is missing, or a byte of it was changed.",
+    ),
+    (
+        "OtherPlant",
+        "This START tells that its node read another plant than the one that is given. Audit what was noted with each plant by itself, with its text.",
     ),
     (
         "NotRisen",

@@ -5,7 +5,7 @@ use Rattle.evaluation.specs.Messages.{MessageValue}
 use Rattle.exchange_core.specs.declared.accepted.Accepted.{Accepted}
 use Rattle.exchange_core.specs.declared.accepted.Accepted.TheVariants.{Taken, Old, Unused, Stray}
 use Rattle.live_node.specs.declared.node_line.NodeLine.{NodeLine}
-use Rattle.live_node.specs.declared.node_line.NodeLine.TheVariants.{Idle, Evaluate, Take, Hello, Restart}
+use Rattle.live_node.specs.declared.node_line.NodeLine.TheVariants.{Idle, Evaluate, Take, Hello, Foreign, Restart}
 use Rattle.live_node.specs.Answers.{refused_line}
 use Rattle.live_node.specs.declared.line_refusal.LineRefusal.TheVariants as refusal
 use Rattle.live_node.specs.NodeValue.{NodeValue}
@@ -36,6 +36,7 @@ lines_asked raising old new line (Some (Take m)) note text (inl h) = lines_messa
 lines_asked raising old new line (Some (Take m)) note text (inr h) = same_lines old new h.1.same
 lines_asked raising old new line (Some (Hello of incarnation)) note text (inl h) = lines_hello old new line of incarnation note h.newer h.done
 lines_asked raising old new line (Some (Hello of incarnation)) note text (inr h) = same_lines old new h.2.same
+lines_asked raising old new line (Some Foreign) note text h = same_lines old new h.same
 lines_asked raising old new line (Some (Restart n)) note text (inl h) = omega (arith, h.risen.counted.lines_are)
 lines_asked raising old new line (Some (Restart n)) note text (inr h) = same_lines old new h.2.same
 

@@ -19,12 +19,12 @@ use Rattle.exchange_core.specs.MessageCoreValue.{MessageCoreValue, IsAnswer, is_
 use Rattle.text_lines.specs.MessageLines.{HasForm}
 use Rattle.world.specs.RunLines.{evaluation_line}
 use Rattle.live_node.specs.declared.node_line.NodeLine.{NodeLine}
-use Rattle.live_node.specs.declared.node_line.NodeLine.TheVariants.{Idle, Evaluate, Take, Hello, Restart}
+use Rattle.live_node.specs.declared.node_line.NodeLine.TheVariants.{Idle, Evaluate, Take, Hello, Foreign, Restart}
 use Rattle.live_node.specs.Sends.{greetings, message_sends}
 use Rattle.live_node.specs.Answers.{refused_line, message_answer, hello_answer, risen_line}
 use Rattle.live_node.specs.NodeJournal.{line_note, restart_note, start_note}
 use Rattle.live_node.specs.declared.line_refusal.LineRefusal.{LineRefusal}
-use Rattle.live_node.specs.declared.line_refusal.LineRefusal.TheVariants.{Syntax, TooLong, NoSuchResource, NotHere, NoSuchTask, NumbersSpent, TooHigh, Keeper}
+use Rattle.live_node.specs.declared.line_refusal.LineRefusal.TheVariants.{Syntax, TooLong, OtherPlant, NoSuchResource, NotHere, NoSuchTask, NumbersSpent, TooHigh, Keeper}
 use Rattle.live_node.specs.NodeValue.{NodeValue, IsStarted}
 use Rattle.live_node.specs.NodeSteps.{CanBeHeard, HasHeardOf, HasMade, HasTaken, IsHelloRefusal, IsPlaceRefusal, IsTaskRefusal}
 use Rattle.live_node.specs.TooHigh.{is_too_high}
@@ -87,6 +87,7 @@ refused_restart raising s line n r noted out_old out_new why is = record {
 restart_place : (raising : Raising) (core : MessageCoreValue) (n : ℕ) (r : LineRefusal) → IsPlaceRefusal core n r → IsRestartRefusal raising core n r
 restart_place raising core n Syntax why = why
 restart_place raising core n TooLong why = why
+restart_place raising core n OtherPlant why = why
 restart_place raising core n NoSuchResource why = why
 restart_place raising core n NotHere why = why
 restart_place raising core n NoSuchTask why = why

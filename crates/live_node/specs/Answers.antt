@@ -9,12 +9,13 @@ use Rattle.text_lines.specs.MessageLines.{name_text}
 use Rattle.world.specs.RunText.{accepted_text, hearing_text}
 use Rattle.live_node.specs.Sends.{hello_text}
 use Rattle.live_node.specs.declared.line_refusal.LineRefusal.{LineRefusal}
-use Rattle.live_node.specs.declared.line_refusal.LineRefusal.TheVariants.{Syntax, TooLong, NoSuchResource, NotHere, NoSuchTask, NumbersSpent, TooHigh, Keeper}
+use Rattle.live_node.specs.declared.line_refusal.LineRefusal.TheVariants.{Syntax, TooLong, OtherPlant, NoSuchResource, NotHere, NoSuchTask, NumbersSpent, TooHigh, Keeper}
 
 -- why a line isn't done
 abbrev pub refusal_text : LineRefusal → List ℕ
 refusal_text Syntax = codes "Syntax"
 refusal_text TooLong = codes "TooLong"
+refusal_text OtherPlant = codes "OtherPlant"
 refusal_text NoSuchResource = codes "NoSuchResource"
 refusal_text NotHere = codes "NotHere"
 refusal_text NoSuchTask = codes "NoSuchTask"

@@ -4,7 +4,6 @@ pub mod Answers
 pub mod Keeping
 pub mod NodeJournal
 pub mod NodeLines
-pub mod Partners
 pub mod Sends
 pub mod TooHigh
 pub mod TakenLines

@@ -16,11 +16,11 @@ use Rattle.exchange_core.specs.declared.accepted.Accepted.TheVariants.{Taken, Ol
 use Rattle.exchange_core.specs.MessageCoreValue.{MessageCoreValue, IsAnswer, is_news}
 use Rattle.world.specs.RunLines.{evaluation_line}
 use Rattle.live_node.specs.declared.node_line.NodeLine.{NodeLine}
-use Rattle.live_node.specs.declared.node_line.NodeLine.TheVariants.{Idle, Evaluate, Take, Hello, Restart}
+use Rattle.live_node.specs.declared.node_line.NodeLine.TheVariants.{Idle, Evaluate, Take, Hello, Foreign, Restart}
 use Rattle.live_node.specs.declared.line_refusal.LineRefusal.{LineRefusal}
-use Rattle.live_node.specs.declared.line_refusal.LineRefusal.TheVariants.{Syntax, TooLong, NoSuchResource, NotHere, NoSuchTask, NumbersSpent, TooHigh, Keeper}
+use Rattle.live_node.specs.declared.line_refusal.LineRefusal.TheVariants.{Syntax, TooLong, OtherPlant, NoSuchResource, NotHere, NoSuchTask, NumbersSpent, TooHigh, Keeper}
 use Rattle.live_node.specs.NodeLines.{Spells, SpellsNothing}
-use Rattle.live_node.specs.Partners.{takes_from_resource}
+use Rattle.crossings.specs.Partners.{takes_from_resource}
 use Rattle.live_node.specs.Sends.{greetings, hello_to, message_sends}
 use Rattle.live_node.specs.Answers.{refused_line, message_answer, hello_answer, risen_line}
 use Rattle.live_node.specs.NodeJournal.{line_note, start_note, restart_note}
@@ -56,6 +56,7 @@ pub record IsUnraised (raising : Raising) (incarnation : ℕ) : Type 0 where
 abbrev pub IsRestartRefusal : Raising → MessageCoreValue → ℕ → LineRefusal → Type 0
 IsRestartRefusal raising core n Syntax = ⊥
 IsRestartRefusal raising core n TooLong = ⊥
+IsRestartRefusal raising core n OtherPlant = ⊥
 IsRestartRefusal raising core n NoSuchResource = length core.plant.resources ≤ n
 IsRestartRefusal raising core n NotHere = (n < length core.plant.resources) × (n ≢ core.resource)
 IsRestartRefusal raising core n NoSuchTask = ⊥
@@ -154,6 +155,7 @@ AnswersAsked raising old new line (Some (Take m)) note text =
 AnswersAsked raising old new line (Some (Hello of incarnation)) note text =
     AnswersHello old new line of incarnation note text
     ⊎ ((refusal : LineRefusal) × IsHelloRefusal old.core of incarnation refusal × IsRefused old new note text refusal)
+AnswersAsked raising old new line (Some Foreign) note text = IsRefused old new note text OtherPlant
 AnswersAsked raising old new line (Some (Restart n)) note text =
     AnswersRestart raising old new n note text
     ⊎ ((refusal : LineRefusal) × IsRestartRefusal raising old.core n refusal × IsRefused old new note text refusal)

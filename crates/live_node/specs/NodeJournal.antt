@@ -8,6 +8,8 @@ use Rattle.task_codes.specs.declared.retained_variable.RetainedVariable.{Retaine
 use Rattle.plant.specs.PlantValue.{PlantValue, codes_at}
 use Rattle.text_lines.specs.LineParts.{resource_text, value_text}
 use Rattle.keepers.specs.KeptRetained.{before_value}
+use Rattle.crossings.specs.Digests.{crossing_digits}
+use Rattle.plant_digest.specs.Digests.{plant_digits}
 use Rattle.live_node.specs.NodeLines.{node_text}
 
 -- what ends a line: a torn line hasn't got it
@@ -35,11 +37,25 @@ abbrev pub keeps_text : List ℕ → List ℕ
 keeps_text [] = []
 keeps_text (c ∷ more) = codes " KEEPS" ++ c ∷ more
 
--- A start: a line feed, `START R i`, and the values that it opens with. The line feed ends a torn line before it.
+-- `START R i`, with this behind it, and the values that it opens with
+abbrev pub start_with : List ℕ → PlantValue → ℕ → ℕ → List (List Value) → List ℕ
+start_with marks plant n incarnation opening =
+    codes "\nSTART " ++ resource_text plant n ++ codes " " ++ decimal incarnation ++ marks
+    ++ keeps_text (all_kept_text plant n opening) ++ note_end
+
+-- ` PLANT digits CROSSES digits`, behind a blank: two digests, of a plant and of what crosses in it
+abbrev pub marks_text : List ℕ → List ℕ → List ℕ
+marks_text whole crossing = codes " PLANT " ++ whole ++ codes " CROSSES " ++ crossing
+
+-- A start: a line feed, `START R i`, the digests of the plant, and the values that it opens with. The line feed ends a torn
+-- line before it.
 abbrev pub start_note : PlantValue → ℕ → ℕ → List (List Value) → List ℕ
 start_note plant n incarnation opening =
-    codes "\nSTART " ++ resource_text plant n ++ codes " " ++ decimal incarnation
-    ++ keeps_text (all_kept_text plant n opening) ++ note_end
+    start_with (marks_text (plant_digits plant) (crossing_digits plant)) plant n incarnation opening
+
+-- the same as nodes noted it that told no digests
+abbrev pub unmarked_start_note : PlantValue → ℕ → ℕ → List (List Value) → List ℕ
+unmarked_start_note plant n incarnation opening = start_with [] plant n incarnation opening
 
 -- `RESTART R i`: a restart, and the incarnation of it
 abbrev pub restart_note : PlantValue → ℕ → ℕ → List ℕ

@@ -10,7 +10,7 @@ use Rattle.exchange_core.specs.declared.accepted.Accepted.{Accepted}
 use Rattle.exchange_core.specs.declared.last.Last.TheVariants.{Told}
 use Rattle.exchange_core.specs.MessageCoreValue.{MessageCoreValue, HasHeard, HasOwnTask, IsAccepted, IsDue, IsNext, IsRestartOf, own_last}
 use Rattle.live_node.specs.declared.line_refusal.LineRefusal.{LineRefusal}
-use Rattle.live_node.specs.declared.line_refusal.LineRefusal.TheVariants.{Syntax, TooLong, NoSuchResource, NotHere, NoSuchTask, NumbersSpent, TooHigh, Keeper}
+use Rattle.live_node.specs.declared.line_refusal.LineRefusal.TheVariants.{Syntax, TooLong, OtherPlant, NoSuchResource, NotHere, NoSuchTask, NumbersSpent, TooHigh, Keeper}
 use Rattle.live_node.specs.NodeValue.{NodeValue, HasCounted}
 use Rattle.live_node.specs.TooHigh.{is_too_high}
 
@@ -18,6 +18,7 @@ use Rattle.live_node.specs.TooHigh.{is_too_high}
 abbrev pub IsPlaceRefusal : MessageCoreValue → ℕ → LineRefusal → Type 0
 IsPlaceRefusal core n Syntax = ⊥
 IsPlaceRefusal core n TooLong = ⊥
+IsPlaceRefusal core n OtherPlant = ⊥
 IsPlaceRefusal core n NoSuchResource = length core.plant.resources ≤ n
 IsPlaceRefusal core n NotHere = (n < length core.plant.resources) × (n ≢ core.resource)
 IsPlaceRefusal core n NoSuchTask = ⊥
@@ -29,6 +30,7 @@ IsPlaceRefusal core n Keeper = ⊥
 abbrev pub IsTaskRefusal : MessageCoreValue → TaskRef → LineRefusal → Type 0
 IsTaskRefusal core t Syntax = ⊥
 IsTaskRefusal core t TooLong = ⊥
+IsTaskRefusal core t OtherPlant = ⊥
 IsTaskRefusal core t NoSuchResource = length core.plant.resources ≤ t.resource
 IsTaskRefusal core t NotHere = (t.resource < length core.plant.resources) × (t.resource ≢ core.resource)
 IsTaskRefusal core t NoSuchTask = (t.resource ≡ core.resource) × (code_at core.plant t ≡ None)
@@ -41,6 +43,7 @@ IsTaskRefusal core t Keeper = ⊥
 abbrev pub IsHelloRefusal : MessageCoreValue → ℕ → ℕ → LineRefusal → Type 0
 IsHelloRefusal core of incarnation Syntax = ⊥
 IsHelloRefusal core of incarnation TooLong = ⊥
+IsHelloRefusal core of incarnation OtherPlant = ⊥
 IsHelloRefusal core of incarnation NoSuchResource = length core.plant.resources ≤ of
 IsHelloRefusal core of incarnation NotHere = ⊥
 IsHelloRefusal core of incarnation NoSuchTask = ⊥

@@ -5,7 +5,8 @@ use Rattle.plant.specs.PlantValue.{PlantValue}
 use Rattle.evaluation.specs.Messages.{MessageValue}
 use Rattle.text_lines.specs.LineParts.{resource_text}
 use Rattle.text_lines.specs.MessageLines.{message_line}
-use Rattle.live_node.specs.Partners.{takes_from_task, is_partner}
+use Rattle.crossings.specs.Digests.{crossing_mark}
+use Rattle.crossings.specs.Partners.{takes_from_task, is_partner}
 
 -- `SEND R line`: this line is to be carried to the resource
 abbrev pub send_text : PlantValue → ℕ → List ℕ → List ℕ
@@ -15,9 +16,13 @@ send_text plant to line = codes "SEND " ++ resource_text plant to ++ codes " " +
 abbrev pub hello_text : PlantValue → ℕ → ℕ → List ℕ
 hello_text plant n incarnation = codes "HELLO " ++ resource_text plant n ++ codes " " ++ decimal incarnation
 
+-- `HELLO R i mark`: the same, with the mark of what crosses in the plant
+abbrev pub marked_hello : PlantValue → ℕ → ℕ → List ℕ
+marked_hello plant n incarnation = hello_text plant n incarnation ++ codes " " ++ crossing_mark plant
+
 -- a resource's hello, for another one
 abbrev pub hello_to : PlantValue → ℕ → ℕ → ℕ → List ℕ
-hello_to plant n incarnation to = send_text plant to (hello_text plant n incarnation)
+hello_to plant n incarnation to = send_text plant to (marked_hello plant n incarnation)
 
 -- what is written for each of the first resources that pass the test, in order
 abbrev pub for_each_below : (ℕ → Bool) → (ℕ → List ℕ) → ℕ → List ℕ

@@ -18,7 +18,7 @@ use Rattle.words.specs.Lines.{lines_of}
 use Rattle.text_lines.specs.Sending.{SendsPart}
 use Rattle.text_lines.specs.Lines.{HasNoFeed}
 use Rattle.live_node.specs.declared.node_line.NodeLine.{NodeLine}
-use Rattle.live_node.specs.declared.node_line.NodeLine.TheVariants.{Idle, Evaluate, Take, Hello, Restart}
+use Rattle.live_node.specs.declared.node_line.NodeLine.TheVariants.{Idle, Evaluate, Take, Hello, Foreign, Restart}
 use Rattle.live_node.specs.NodeLines.{Spells}
 use Rattle.live_node.specs.NodeJournal.{line_note, start_note, restart_note}
 use Rattle.live_node.specs.NodeValue.{NodeValue}
@@ -41,6 +41,7 @@ IsNotedAsked s (Take m) =
     IsAnswer s.core m Taken × (is_too_high s.core m.name.task.resource m.name.incarnation ≡ false)
 IsNotedAsked s (Hello of incarnation) =
     CanBeHeard s.core of incarnation × (is_news s.core of incarnation ≡ true)
+IsNotedAsked s Foreign = ⊥
 IsNotedAsked s (Restart resource) = ⊥
 
 -- a line that asks what can be done is noted as it was read

@@ -21,6 +21,7 @@ fn push_refusal(out: &mut String, refusal: LineRefusal) -> Result<(), AllocError
     match refusal {
         LineRefusal::Syntax => out.push_str("Syntax"),
         LineRefusal::TooLong => out.push_str("TooLong"),
+        LineRefusal::OtherPlant => out.push_str("OtherPlant"),
         LineRefusal::NoSuchResource => out.push_str("NoSuchResource"),
         LineRefusal::NotHere => out.push_str("NotHere"),
         LineRefusal::NoSuchTask => out.push_str("NoSuchTask"),

@@ -7,11 +7,15 @@ ghost use Rattle.text_lines.specs.Growing.{GrowsBy};
 ghost use Rattle.plant.specs.PlantValue.{code_at, codes_at};
 ghost use Rattle.task_codes.specs.CodeValue.{CodeValue};
 ghost use Rattle.exchange_core.specs.Openings.{AreOpeningOf};
-ghost use Rattle.live_node.specs.NodeJournal.{kept_text, task_kept_text, all_kept_text, keeps_text, line_note, start_note, restart_note};
+ghost use Rattle.crossings.specs.Digests.{crossing_digits};
+ghost use Rattle.plant_digest.specs.Digests.{plant_digits};
+ghost use Rattle.live_node.specs.NodeJournal.{kept_text, task_kept_text, all_kept_text, keeps_text, line_note, marks_text, start_note, start_with, restart_note, unmarked_start_note};
 
+use crossings::crossing_digits;
 use evaluation::Retained;
 use keepers::before_value;
 use plant::Plant;
+use plant_digest::plant_digits;
 use std::alloc::{AllocError, Global};
 use std::fmt::Write;
 use std_blocks::Value;
@@ -98,7 +102,48 @@ fn push_all_kept(
     Ok(())
 }
 
-/// The note of a start: a line feed, `START R i`, and the retained values that it opens with.
+/// The digests of a plant, as ` PLANT digits CROSSES digits`.
+fn marks_of(alloc: Global, plant: &Plant) -> Result<String, AllocError>
+    ensures { IfOk result (λ marks. string_bytes marks ≡ marks_text (plant_digits plant.now) (crossing_digits plant.now)) }
+{
+    let whole = plant_digits(alloc, plant)?;
+    let crossing = crossing_digits(alloc, plant)?;
+    let mut marks = String::new(alloc);
+    marks.push_str(" PLANT ")?;
+    marks.push_str(whole.as_str())?;
+    marks.push_str(" CROSSES ")?;
+    marks.push_str(crossing.as_str())?;
+    Ok(marks)
+}
+
+/// The note of a start with these marks.
+fn note_with(
+    alloc: Global,
+    marks: &str,
+    plant: &Plant,
+    resource: usize,
+    incarnation: u32,
+    opening: &[Retained],
+) -> Result<String, AllocError>
+    requires { AreOpeningOf plant.now resource opening.now }
+    ensures { IfOk result (λ note. string_bytes note ≡ start_with marks.now plant.now resource incarnation opening.now) }
+{
+    let mut kept = String::new(alloc);
+    push_all_kept(alloc, &mut kept, plant, resource, opening)?;
+    let mut note = String::new(alloc);
+    note.push_str("\nSTART ")?;
+    push_resource(&mut note, plant, resource)?;
+    write!(note, " {incarnation}")?;
+    note.push_str(marks)?;
+    if !kept.is_empty() {
+        note.push_str(" KEEPS")?;
+    }
+    note.push_str(kept.as_str())?;
+    note.push_str(";\n")?;
+    Ok(note)
+}
+
+/// The note of a start: a line feed, `START R i`, the digests of the plant, and the retained values that it opens with.
 pub fn note_of_start(
     alloc: Global,
     plant: &Plant,
@@ -109,18 +154,22 @@ pub fn note_of_start(
     requires { AreOpeningOf plant.now resource opening.now }
     ensures { IfOk result (λ note. string_bytes note ≡ start_note plant.now resource incarnation opening.now) }
 {
-    let mut kept = String::new(alloc);
-    push_all_kept(alloc, &mut kept, plant, resource, opening)?;
-    let mut note = String::new(alloc);
-    note.push_str("\nSTART ")?;
-    push_resource(&mut note, plant, resource)?;
-    write!(note, " {incarnation}")?;
-    if !kept.is_empty() {
-        note.push_str(" KEEPS")?;
-    }
-    note.push_str(kept.as_str())?;
-    note.push_str(";\n")?;
-    Ok(note)
+    let marks = marks_of(alloc, plant)?;
+    note_with(alloc, marks.as_str(), plant, resource, incarnation, opening)
+}
+
+/// The note of a start as nodes wrote it that told no digests.
+pub fn unmarked_note_of_start(
+    alloc: Global,
+    plant: &Plant,
+    resource: usize,
+    incarnation: u32,
+    opening: &[Retained],
+) -> Result<String, AllocError>
+    requires { AreOpeningOf plant.now resource opening.now }
+    ensures { IfOk result (λ note. string_bytes note ≡ unmarked_start_note plant.now resource incarnation opening.now) }
+{
+    note_with(alloc, "", plant, resource, incarnation, opening)
 }
 
 /// The note of a restart: `RESTART R i`.

@@ -5,6 +5,8 @@ pub enum LineRefusal {
     Syntax,
     /// It has more than 16,777,216 bytes.
     TooLong,
+    /// It tells what crosses in another plant.
+    OtherPlant,
     /// The plant has no such resource.
     NoSuchResource,
     /// The resource isn't this node's.

@@ -34,9 +34,9 @@ use crate::node_core::NodeCore;
 use crate::node_line::NodeLine;
 use crate::node_stop::NodeStop;
 use crate::notes::{NoteFault, Notes};
-use crate::partners::takes_from_resource;
 use crate::reading::read_node_line;
 use crate::sends::{push_greetings, push_hello_to, push_message_sends};
+use crossings::takes_from_resource;
 use evaluation::{Evaluation, Inputs, Message, Retained};
 use exchange_core::Accepted;
 use keepers::{Keeper, KeeperFault};
@@ -499,6 +499,10 @@ impl<K: Keeper, N: Notes> Node<K, N> {
             Some(NodeLine::Take(message)) => self.answer_message(line, message, out),
             Some(NodeLine::Hello { of, incarnation }) => {
                 self.answer_hello(line, of, incarnation, out)
+            }
+            Some(NodeLine::Foreign) => {
+                push_refused(out, LineRefusal::OtherPlant)?;
+                Ok(())
             }
             Some(NodeLine::Restart { resource }) => self.answer_restart(line, resource, out),
         }

@@ -19,6 +19,8 @@ pub enum NodeLine {
         of: usize,
         incarnation: u32,
     },
+    /// Nothing that is done here: it is a hello of a node of another plant.
+    Foreign,
     /// To restart a resource.
     Restart {
         resource: usize,

@@ -1,12 +1,13 @@
 //! What a line asks of a node.
 
-ghost use Rattle.std.specs.Prelude.{◌≡◌, ℕ, IfOk, MatchOption};
+ghost use Rattle.std.specs.Prelude.{◌≡◌, ◌↔◌, [], ◌∷◌, ◌++◌, ℕ, IfOk, IsTrue, MatchOption};
 ghost use Rattle.plant.specs.Find.{Finds};
 ghost use Rattle.evaluation.specs.InputTexts.{words_of};
-ghost use Rattle.live_node.specs.NodeLines.{SpellsHello, Spells, SpellsNothing};
-ghost use Rattle.live_node.specs.Steps.Reading.{texts, IsEventLine, IsWordsLine};
+ghost use Rattle.live_node.specs.NodeLines.{is_mark, IsOwnMark, SpellsHello, Spells, SpellsNothing};
+ghost use Rattle.live_node.specs.Steps.Reading.{texts, IsEventLine, IsHelloLine, IsWordsLine};
 
 use crate::node_line::NodeLine;
+use crossings::crossing_mark;
 use evaluation::push_words;
 use plant::Plant;
 use std::alloc::{AllocError, Global};
@@ -27,6 +28,62 @@ fn read_hello(plant: &Plant, words: &[&[u8]]) -> Option<(usize, u32)>
     let of = resource_of(plant, of)?;
     let incarnation = number_up_to(incarnation, 4_294_967_295)?;
     Some((of, incarnation as u32))
+}
+
+/// Whether a word is 16 hexadecimal digits.
+fn is_mark(word: &[u8]) -> bool
+    ensures { result ≡ is_mark word.now }
+{
+    word.len() == 16 && word.iter().all(|c| c.is_ascii_hexdigit())
+}
+
+/// Whether a word is the mark of what crosses in the plant, in either case.
+fn is_own_mark(alloc: Global, plant: &Plant, word: &[u8]) -> Result<bool, AllocError>
+    ensures { IfOk result (λ is. IsTrue is ↔ IsOwnMark plant.now word.now) }
+{
+    let mark = crossing_mark(alloc, plant)?;
+    Ok(word.eq_ignore_ascii_case(mark.as_bytes()))
+}
+
+/// The hello that words and a mark behind them spell.
+fn read_marked(
+    alloc: Global,
+    plant: &Plant,
+    words: &[&[u8]],
+    mark: &[u8],
+) -> Result<Option<NodeLine>, AllocError>
+    ensures { IfOk result (IsHelloLine plant.now (texts words.now ++ mark.now ∷ [])) }
+{
+    let Some((of, incarnation)) = read_hello(plant, words) else {
+        return Ok(None);
+    };
+    if !is_mark(mark) {
+        return Ok(None);
+    }
+    if is_own_mark(alloc, plant, mark)? {
+        Ok(Some(NodeLine::Hello { of, incarnation }))
+    } else {
+        Ok(Some(NodeLine::Foreign))
+    }
+}
+
+/// The hello that the words of a line spell, with a mark or without.
+fn read_any_hello(
+    alloc: Global,
+    plant: &Plant,
+    words: &[&[u8]],
+) -> Result<Option<NodeLine>, AllocError>
+    ensures { IfOk result (IsHelloLine plant.now (texts words.now)) }
+{
+    if let [hello @ .., mark] = words {
+        if hello.len() == 3 {
+            return read_marked(alloc, plant, hello, mark);
+        }
+    }
+    match read_hello(plant, words) {
+        Some((of, incarnation)) => Ok(Some(NodeLine::Hello { of, incarnation })),
+        None => Ok(None),
+    }
 }
 
 /// The evaluation or the restart that the words of a line spell.
@@ -65,8 +122,8 @@ fn read_by_words(
     if is_idle(words) {
         return Ok(Some(NodeLine::Idle));
     }
-    match read_hello(plant, words) {
-        Some((of, incarnation)) => Ok(Some(NodeLine::Hello { of, incarnation })),
+    match read_any_hello(alloc, plant, words)? {
+        Some(asked) => Ok(Some(asked)),
         None => read_own_event(alloc, plant, words),
     }
 }

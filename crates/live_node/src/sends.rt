@@ -5,7 +5,7 @@ ghost use Rattle.text_lines.specs.Growing.{GrowsBy};
 ghost use Rattle.text_lines.specs.MessageLines.{HasForm};
 ghost use Rattle.live_node.specs.Sends.{send_text, hello_text, greetings, message_sends, hello_to, is_taker, message_to};
 
-use crate::partners::{is_partner, takes_from_task};
+use crossings::{crossing_mark, is_partner, takes_from_task};
 use evaluation::Message;
 use plant::Plant;
 use std::alloc::{AllocError, Global};
@@ -50,6 +50,9 @@ pub(crate) fn push_hello_to(
 {
     let mut line = String::new(alloc);
     push_hello(&mut line, plant, resource, incarnation)?;
+    let mark = crossing_mark(alloc, plant)?;
+    line.push_str(" ")?;
+    line.push_str(mark.as_str())?;
     push_send(out, plant, to, line.as_str())
 }
 

@@ -8,6 +8,8 @@ mod checks;
 #[cfg(test)]
 mod cores;
 #[cfg(test)]
+mod digests;
+#[cfg(test)]
 mod evaluations;
 mod figures;
 mod no_ladder;

@@ -15,7 +15,7 @@ use Rattle.audit.specs.declared.journal_file.JournalFile.{JournalFile}
 use Rattle.audit.specs.declared.needs.Need.{Need}
 use Rattle.audit.specs.declared.needs.Need.TheVariants.{Evaluation, Incarnation}
 use Rattle.audit.specs.declared.reason.Reason.{Reason}
-use Rattle.audit.specs.declared.reason.Reason.TheVariants.{Syntax, NotRisen, TooHigh, Kept, Differs, Unmade, Waits, Missing, Misfit as Unfit}
+use Rattle.audit.specs.declared.reason.Reason.TheVariants.{Syntax, OtherPlant, NotRisen, TooHigh, Kept, Differs, Unmade, Waits, Missing, Misfit as Unfit}
 use Rattle.audit.specs.declared.reason.Unshown.{Unshown}
 use Rattle.audit.specs.declared.auditing.Audited.{Audited}
 use Rattle.run_texts.specs.ReportText.{entry_lines, replay_line, TellsBeginning}
@@ -47,6 +47,7 @@ misfit_text misfit.Misheard = codes "Misheard"
 -- why a journal can't be shown from a line on
 abbrev pub reason_text : PlantValue → Reason → List ℕ
 reason_text plant Syntax = codes "Syntax"
+reason_text plant (OtherPlant incarnation) = codes "OtherPlant " ++ decimal incarnation
 reason_text plant (NotRisen incarnation) = codes "NotRisen " ++ decimal incarnation
 reason_text plant (TooHigh incarnation) = codes "TooHigh " ++ decimal incarnation
 reason_text plant Kept = codes "Kept"

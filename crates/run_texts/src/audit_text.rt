@@ -72,6 +72,7 @@ fn push_reason(line: &mut String, plant: &Plant, reason: Reason) -> Result<(), A
 {
     match reason {
         Reason::Syntax => line.push_str("Syntax"),
+        Reason::OtherPlant(incarnation) => write!(line, "OtherPlant {incarnation}"),
         Reason::NotRisen(incarnation) => write!(line, "NotRisen {incarnation}"),
         Reason::TooHigh(incarnation) => write!(line, "TooHigh {incarnation}"),
         Reason::Kept => line.push_str("Kept"),

@@ -11,8 +11,9 @@ from .plants import PlantMaker, inputs
 from .slips import with_line_twice, with_other_sign, with_sign_left_out, with_sign_put_in, without_line
 
 FOREIGN = ["EVAL R9.T1 10", "HELLO R9 1", "RESTART R9", "EVAL R1.T9 10", "EVAL R2.T1 10", "RESTART R2", "HELLO R1 0"]
+FOREIGN += ["HELLO R2 7 0123456789abcdef", "hello R9 1 0123456789ABCDEF", "HELLO R2 4294967295 0123456789abcdef"]
 FOREIGN += ["HELLO R2 4294967295", "HELLO R9 4294967295", "hello R1 1_000_001", "HELLO R2 1000000"]
-NO_LINES = ["HELLO R1", "HELLO R1 x", "HELLO R1 4294967296", "RESTART R1 2", "EVAL R1.T1", "EVAL R1.T1 10 %IX0=2", "DELIVER 1 R1", "START R1 1", "x", "MESSAGE"]
+NO_LINES = ["HELLO R2 1 0123456789abcde", "HELLO R2 1 0123456789abcdef x", "HELLO R1", "HELLO R1 x", "HELLO R1 4294967296", "RESTART R1 2", "EVAL R1.T1", "EVAL R1.T1 10 %IX0=2", "DELIVER 1 R1", "START R1 1", "x", "MESSAGE"]
 EMPTY = ["", " \t", "# a comment"]
 # Incarnations that were kept before: a node goes on from them, maybe to the last one.
 NUMBERS = ["0\n", "6\n", "500000\n", "999998\n", "999999\n", "1000000\n", "4294967293\n"]

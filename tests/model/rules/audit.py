@@ -1,6 +1,6 @@
 """The audit of journals: what all nodes did as one book, and where their journals can't be followed further."""
 from .core import Core, Message, left_by
-from .journals import Evaluated, Hello, Restart, Start, runs_of, told_of
+from .journals import Evaluated, Foreign, Hello, Restart, Start, runs_of, told_of
 
 MOST_ABOVE = 1_000_000
 # So many restarts may be of no START or RESTART that was noted, in all journals together.
@@ -64,6 +64,8 @@ class Journal:
     def follow(self, item):
         if item is None:
             raise Stop("Syntax")
+        if isinstance(item, Foreign):
+            raise Stop(f"OtherPlant {item.incarnation}")
         if isinstance(item, (Start, Restart)):
             self.rise(item)
         elif isinstance(item, Hello):

@@ -3,6 +3,7 @@ from dataclasses import dataclass
 
 from . import words
 from .core import message_of
+from .digests import crossing_mark, is_of_digits, marks_of
 from .inputs import parts_of
 from .kept_files import BadFile, value_of
 from .plant_text import find
@@ -18,6 +19,14 @@ class Start:
 
 
 @dataclass
+class Foreign:
+    """A START in another plant."""
+
+    resource: object
+    incarnation: int
+
+
+@dataclass
 class Restart:
     resource: object
     incarnation: int
@@ -25,8 +34,11 @@ class Restart:
 
 @dataclass
 class Hello:
+    """It is told by a node of this plant, unless it has another mark than that of what crosses in the plant."""
+
     resource: object
     incarnation: int
+    is_own: bool = True
 
 
 @dataclass
@@ -36,12 +48,14 @@ class Evaluated:
     inputs: object
 
 
-def start_line(resource, incarnation, kept):
-    """The values with which the tasks of a resource open stand in it one by one, where it has such."""
+def start_line(resource, incarnation, kept, marks=None):
+    """The values with which the tasks of a resource open stand in it one by one, where it has such. Nodes noted it without the
+    digests of the plant, too."""
     values = [
         f" {program.name}.{it.name}={words.shown(value)}" for task in resource.tasks for (program, it), value in zip(task.retained(), kept[task])
     ]
-    return f"START {resource.name} {incarnation}{' KEEPS' if values else ''}{''.join(values)}"
+    told = f" {marks}" if marks else ""
+    return f"START {resource.name} {incarnation}{told}{' KEEPS' if values else ''}{''.join(values)}"
 
 
 def start_of(plant, line):
@@ -50,7 +64,14 @@ def start_of(plant, line):
     incarnation = resource and words.digits_of(parts[2], MOST_U32)
     if incarnation is None or not resource:
         return None
-    kept, given = {}, parts[4:]
+    if parts[3:4] == ["PLANT"] and not told_marks(parts):
+        return None
+    marks, behind = (" ".join(parts[3:7]), parts[7:]) if told_marks(parts) else (None, parts[3:])
+    if marks and marks != marks_of(plant):
+        ends = not behind or (behind[0] == "KEEPS" and len(line) > line.index(" KEEPS") + len(" KEEPS"))
+        is_foreign = ends and parts[1] == resource.name and parts[2] == str(incarnation)
+        return Foreign(resource, incarnation) if is_foreign else None
+    kept, given = {}, behind[1:]
     try:
         for task in resource.tasks:
             retained = task.retained()
@@ -60,7 +81,14 @@ def start_of(plant, line):
             given = given[len(retained) :]
     except BadFile:
         return None
-    return Start(resource, incarnation, kept) if start_line(resource, incarnation, kept) == line else None
+    return Start(resource, incarnation, kept) if start_line(resource, incarnation, kept, marks) == line else None
+
+
+def told_marks(parts):
+    """Whether the words of a START tell digests."""
+    whole, crossing = parts[4:5], parts[6:7]
+    are_digits = all(it and is_of_digits(it[0], 64) for it in (whole, crossing))
+    return are_digits and parts[3] == "PLANT" and parts[5] == "CROSSES"
 
 
 def restart_of(resource, line):
@@ -72,10 +100,13 @@ def restart_of(resource, line):
 
 def hello_of(plant, parts):
     """The resource's name is looked up by the reader: a name of the right form may stand for none."""
-    if len(parts) != 3 or words.fold(parts[0]) != "HELLO" or not words.is_plain_name(parts[1]):
+    if len(parts) not in (3, 4) or words.fold(parts[0]) != "HELLO" or not words.is_plain_name(parts[1]):
         return None
-    incarnation = number_up_to(parts[2], MOST_U32)
-    return None if incarnation is None else Hello(find(plant.resources, parts[1]), incarnation)
+    incarnation, mark = number_up_to(parts[2], MOST_U32), parts[3:]
+    if incarnation is None or (mark and not is_of_digits(mark[0], 16)):
+        return None
+    is_own = not mark or mark[0].lower() == crossing_mark(plant)
+    return Hello(find(plant.resources, parts[1]), incarnation, is_own)
 
 
 def evaluate_of(parts):
@@ -89,7 +120,7 @@ def item_of(plant, resource, line):
     parts = parts_of(line)
     hello, event = hello_of(plant, parts), evaluate_of(parts)
     if hello:
-        return hello if hello.resource else None
+        return hello if hello.resource and hello.is_own else None
     if isinstance(event, Evaluate):
         task = find(resource.tasks, event.task) if find(plant.resources, event.resource) is resource else None
         return Evaluated(task, event.elapsed, event.inputs) if task else None

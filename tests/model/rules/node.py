@@ -2,6 +2,7 @@
 from functools import partial
 
 from .core import Core, initial, message_in, message_of
+from .digests import crossing_mark, marks_of
 from .inputs import parts_of
 from .journals import evaluate_of, hello_of, start_line
 from .kept_files import BadFile, retained_name, text_of
@@ -81,7 +82,7 @@ class Node:
         incarnation = keeper.raised(resource)
         kept = {task: keeper.retained(task) or initial(task) for task in resource.tasks}
         self.core = Core(plant, resource, kept)
-        note("\n" + start_line(resource, incarnation, kept))
+        note("\n" + start_line(resource, incarnation, kept, marks_of(plant)))
         self.core.begin(incarnation)
         self.first = [*self.greetings(), f"START {resource.name} {incarnation}"]
 
@@ -91,7 +92,7 @@ class Node:
         return [self.greeting(it) for it in joined]
 
     def greeting(self, to):
-        return f"SEND {to.name} HELLO {self.resource.name} {self.core.incarnation}"
+        return f"SEND {to.name} HELLO {self.resource.name} {self.core.incarnation} {crossing_mark(self.plant)}"
 
     def answer(self, line):
         """The lines that are written of a line; none of a blank line or a comment."""
@@ -120,6 +121,8 @@ class Node:
         raise Refused("Syntax")
 
     def known(self, hello):
+        if not hello.is_own:
+            raise Refused("OtherPlant")
         if not hello.resource:
             raise Refused("NoSuchResource")
         return hello.resource

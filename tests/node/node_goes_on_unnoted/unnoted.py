@@ -13,6 +13,7 @@ import sys
 
 PLC = sys.argv[1]
 LINES = ["HELLO R2 1", "EVAL R1.FAST 10 %IX0=1", "RESTART R1", "EVAL R1.FAST 10", "HELLO R2 1", "EVAL  R1.FAST 10 %IX0=1"]
+MARKS = "PLANT ec92fbbcb4928da7d26fbf1d5a14dd2c1de854967574c6ee6a593a1b808a2e53 CROSSES 1928de26b31946e724e1df1294d9ac2f6be0bec92fc06f7e1488ec92600be081"
 FIELD = ["INPUT %IX0=1", "EVAL R1.FAST 10 %IX0=1", "RESTART R1", "EVAL R1.FAST 10"]
 NEVER = len(LINES) + 1
 told = []
@@ -21,7 +22,7 @@ told = []
 def noted_of(lines):
     """What is noted at the start, and of each line."""
     notes = ["" if line.startswith("INPUT") else f"{line}{' 2' * line.startswith('RESTART')};\n" for line in lines]
-    return ["\nSTART R1 1;\n", *notes]
+    return [f"\nSTART R1 1 {MARKS};\n", *notes]
 
 
 def limited(limit):
@@ -124,7 +125,7 @@ def try_audit(limit, lines, whole, first):
     run(words_of("R1", "--journal-full", "go-on"))
     text = read("R1.journal")
     with open("R1.journal", "w", encoding="ascii") as file:
-        file.write(text.removesuffix("START R1 1;\n") or text)
+        file.write(text.removesuffix(f"START R1 1 {MARKS};\n") or text)
     ran = run([PLC, "audit", "pair.plant", "R1.journal", "R2.journal"])
     shown = [line for line in made(ran.stdout) if line.startswith("R1.")]
     answered, promised = made("".join(whole)), made(noted)

@@ -11,7 +11,9 @@ import sys
 
 PLC = sys.argv[1]
 LINES = ["HELLO R2 1", "EVAL R1.FAST 10 %IX0=1", "RESTART R1", "EVAL R1.FAST 10", "HELLO R2 1", "EVAL  R1.FAST 10 %IX0=1"]
-NOTED = ["\nSTART R1 1;\n", *(f"{line} 2;\n" if line == "RESTART R1" else f"{line};\n" for line in LINES)]
+MARKS = "PLANT ec92fbbcb4928da7d26fbf1d5a14dd2c1de854967574c6ee6a593a1b808a2e53 CROSSES 1928de26b31946e724e1df1294d9ac2f6be0bec92fc06f7e1488ec92600be081"
+START = f"\nSTART R1 1 {MARKS};\n"
+NOTED = [START, *(f"{line} 2;\n" if line == "RESTART R1" else f"{line};\n" for line in LINES)]
 told = []
 
 
@@ -52,7 +54,7 @@ def try_audit(limit, answers):
     with open("R1.journal", encoding="ascii") as file:
         text = file.read()
     with open("R1.journal", "w", encoding="ascii") as file:
-        file.write(text.removesuffix("\nSTART R1 1;\n") or text)
+        file.write(text.removesuffix(START) or text)
     ran = run(["audit", "pair.plant", "R1.journal", "R2.journal"], "")
     made = [line.split(" ", 2)[2] for line in ran.stdout.splitlines() if line.startswith("EVAL ")]
     missing = [line for line in answers.splitlines() if line.startswith("EVAL ") and line.split(" ", 2)[2] not in made]

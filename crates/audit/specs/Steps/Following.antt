@@ -12,7 +12,7 @@ use Rattle.book.specs.Book.{BookValue, IsMisfit}
 use Rattle.exchange_core.specs.CoreValue.{CoreValue}
 use Rattle.node_reports.specs.Stations.{StationValue, PendingValue, fresh_station, IsNoted}
 use Rattle.audit.specs.declared.item.Item.{Item}
-use Rattle.audit.specs.declared.item.Item.TheVariants.{Start, Restart, Message, Hello, Evaluate, Faulty}
+use Rattle.audit.specs.declared.item.Item.TheVariants.{Start, Restart, Message, Hello, Evaluate, Foreign, Faulty}
 use Rattle.audit.specs.declared.line.Line.{Line}
 use Rattle.audit.specs.declared.follower.Follower.{Follower}
 use Rattle.audit.specs.declared.needs.Need.{Need}
@@ -39,6 +39,7 @@ IsStart (Restart incarnation) is = is ≡ false
 IsStart (Message m) is = is ≡ false
 IsStart (Hello of incarnation) is = is ≡ false
 IsStart (Evaluate task dt inputs) is = is ≡ false
+IsStart (Foreign incarnation) is = is ≡ false
 IsStart Faulty is = is ≡ false
 
 -- whether a line can't be done, whatever others do
@@ -117,6 +118,7 @@ WouldNeed s item (Incarnation n i) = WouldHear s item n i
 -- this is why a line can't be done, whatever others do
 abbrev pub IsStop : AuditedBook → StationValue → Item → Reason → Type 0
 IsStop b s item reason.Syntax = IsNoLine s item
+IsStop b s item (reason.OtherPlant i) = item ≡ Foreign i
 IsStop b s item (reason.NotRisen i) = (begins i item ≡ true) × (i ≤ s.core.incarnation)
 IsStop b s item (reason.TooHigh i) = (begins i item ≡ true) × IsTooHigh (sum b.skips) s item i
 IsStop b s item reason.Kept = OpensOtherwise s item

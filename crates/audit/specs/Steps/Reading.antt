@@ -1,5 +1,5 @@
 -- A START that is read part by part.
-use Rattle.std.specs.Prelude.{◌≡◌, ℕ, ◌++◌, List, Option, Some, codes}
+use Rattle.std.specs.Prelude.{◌≡◌, ◌⊎◌, ℕ, ◌++◌, List, [], Option, Some, codes}
 use Rattle.std.specs.List.{AllZip}
 use Rattle.std.specs.Fmt.{decimal}
 use Rattle.std_blocks.specs.declared.value.Value.{Value}
@@ -9,8 +9,10 @@ use Rattle.plant.specs.PlantValue.{PlantValue, codes_at}
 use Rattle.text_lines.specs.LineParts.{resource_text}
 use Rattle.text_lines.specs.MessageLines.{IsSmall}
 use Rattle.text_lines.specs.Steps.Reading.{IsOfKind}
-use Rattle.live_node.specs.NodeJournal.{all_kept_text, keeps_text}
-use Rattle.audit.specs.JournalLines.{AreInRange, IsStart}
+use Rattle.crossings.specs.Digests.{crossing_digits}
+use Rattle.plant_digest.specs.Digests.{plant_digits}
+use Rattle.live_node.specs.NodeJournal.{all_kept_text, keeps_text, marks_text}
+use Rattle.audit.specs.JournalLines.{AreInRange, IsForeignStart, IsStart}
 
 -- a value of a retained variable
 abbrev pub IsKeptOf : RetainedVariable → Value → Type 0
@@ -20,11 +22,15 @@ IsKeptOf v value = IsOfKind v.kind value
 abbrev pub AreKeptOf : CodeValue → List Value → Type 0
 AreKeptOf code values = AllZip IsKeptOf code.retained values
 
--- the text of a START
-abbrev pub start_line : (plant : PlantValue) (n incarnation : ℕ) (opening : List (List Value)) → List ℕ
-start_line plant n incarnation opening =
+-- the text of a START with these marks
+abbrev pub start_line : (marks : List ℕ) (plant : PlantValue) (n incarnation : ℕ) (opening : List (List Value)) → List ℕ
+start_line marks plant n incarnation opening =
     (codes "START " ++ resource_text plant n ++ codes " ")
-    ++ (decimal incarnation ++ keeps_text (all_kept_text plant n opening))
+    ++ (decimal incarnation ++ (marks ++ keeps_text (all_kept_text plant n opening)))
+
+-- marks that a START of the plant may have
+abbrev pub AreMarks : PlantValue → List ℕ → Type 0
+AreMarks plant marks = (marks ≡ marks_text (plant_digits plant) (crossing_digits plant)) ⊎ (marks ≡ [])
 
 -- Where a text is what is kept of all tasks of a resource, that was read.
 abbrev pub AreKeptRead : PlantValue → ℕ → List ℕ → Option (List (List Value)) → Type 0
@@ -35,11 +41,16 @@ AreKeptRead plant n text found =
 -- Where a line is a START of a resource, its incarnation and values were read.
 abbrev pub IsStartRead : PlantValue → ℕ → List ℕ → Option (ℕ × List (List Value)) → Type 0
 IsStartRead plant n line found =
-    (incarnation : ℕ) (opening : List (List Value)) → IsSmall incarnation → AllZip AreKeptOf (codes_at plant n) opening
-    → line ≡ start_line plant n incarnation opening → found ≡ Some (incarnation, opening)
+    (marks : List ℕ) (incarnation : ℕ) (opening : List (List Value)) → AreMarks plant marks → IsSmall incarnation
+    → AllZip AreKeptOf (codes_at plant n) opening → line ≡ start_line marks plant n incarnation opening
+    → found ≡ Some (incarnation, opening)
 
 -- a line is no START of this resource
 abbrev pub IsNoStartOf : PlantValue → ℕ → List ℕ → Type 0
 IsNoStartOf plant n line =
     (incarnation : ℕ) (opening : List (List Value)) → IsSmall incarnation → AreInRange opening
     → IsStart plant n incarnation opening line → ⊥
+
+-- a line is no START of a resource of this name in another plant
+abbrev pub IsNoForeignStartOf : PlantValue → ℕ → List ℕ → Type 0
+IsNoForeignStartOf plant n line = (incarnation : ℕ) → IsSmall incarnation → IsForeignStart plant n incarnation line → ⊥

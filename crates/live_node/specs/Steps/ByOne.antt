@@ -5,7 +5,7 @@ use Rattle.keepers.specs.declared.keeper_fault.KeeperFault.{KeeperFault}
 use Rattle.live_node.specs.declared.line_refusal.LineRefusal.{LineRefusal}
 use Rattle.live_node.specs.declared.line_refusal.LineRefusal.TheVariants as refusal
 use Rattle.live_node.specs.declared.node_line.NodeLine.{NodeLine}
-use Rattle.live_node.specs.declared.node_line.NodeLine.TheVariants.{Idle, Evaluate, Take, Hello, Restart}
+use Rattle.live_node.specs.declared.node_line.NodeLine.TheVariants.{Idle, Evaluate, Take, Hello, Foreign, Restart}
 use Rattle.live_node.specs.declared.node_stop.NodeStop.{NodeStop}
 use Rattle.live_node.specs.declared.node_stop.NodeStop.TheVariants as ends
 use Rattle.live_node.specs.NodeValue.{NodeValue}
@@ -19,6 +19,7 @@ asked_by_one last gives keeper old new line (Some Idle) note text held h = h
 asked_by_one last gives keeper old new line (Some (Evaluate t dt inputs)) note text held h = h
 asked_by_one last gives keeper old new line (Some (Take m)) note text held h = h
 asked_by_one last gives keeper old new line (Some (Hello of incarnation)) note text held h = h
+asked_by_one last gives keeper old new line (Some Foreign) note text held h = h
 asked_by_one last gives keeper old new line (Some (Restart n)) note text held (inl h) =
     inl (record { incarnation = h.incarnation; here = h.here; given = (keeper, held, h.given); above = h.above; risen = h.risen; note_is = h.note_is; text_is = h.text_is })
 asked_by_one last gives keeper old new line (Some (Restart n)) note text held (inr (told, why, refused)) = inr (told, by told why, refused)
@@ -26,6 +27,7 @@ asked_by_one last gives keeper old new line (Some (Restart n)) note text held (i
     by : (r : LineRefusal) → IsRestartRefusal (keeper_gives gives keeper) old.core n r → IsRestartRefusal (a_keeper_gives last gives) old.core n r
     by refusal.Syntax w = w
     by refusal.TooLong w = w
+    by refusal.OtherPlant w = w
     by refusal.NoSuchResource w = w
     by refusal.NotHere w = w
     by refusal.NoSuchTask w = w

@@ -6,7 +6,7 @@ use Rattle.evaluation.specs.Messages.{MessageValue}
 use Rattle.exchange_core.specs.declared.accepted.Accepted.{Accepted}
 use Rattle.exchange_core.specs.declared.accepted.Accepted.TheVariants.{Taken, Old, Unused, Stray}
 use Rattle.live_node.specs.declared.node_line.NodeLine.{NodeLine}
-use Rattle.live_node.specs.declared.node_line.NodeLine.TheVariants.{Idle, Evaluate, Take, Hello, Restart}
+use Rattle.live_node.specs.declared.node_line.NodeLine.TheVariants.{Idle, Evaluate, Take, Hello, Foreign, Restart}
 use Rattle.live_node.specs.NodeJournal.{restart_note}
 use Rattle.live_node.specs.NodeLines.{Spells}
 use Rattle.live_node.specs.NodeValue.{NodeValue}
@@ -46,6 +46,7 @@ noted_asked raising old new line (Some (Take m)) note text read (inl h) = noted_
 noted_asked raising old new line (Some (Take m)) note text read (inr h) = inl (h.1.same, h.1.unnoted)
 noted_asked raising old new line (Some (Hello of incarnation)) note text read (inl h) = noted_hello raising old new line of incarnation note h.newer read h.unrefused h.done
 noted_asked raising old new line (Some (Hello of incarnation)) note text read (inr h) = inl (h.2.same, h.2.unnoted)
+noted_asked raising old new line (Some Foreign) note text read h = inl (h.same, h.unnoted)
 noted_asked raising old new line (Some (Restart n)) note text read (inl h) =
     inr (inr (record { resource = n; asked = read; here = h.here; incarnation = h.incarnation; raised = h.given; above = h.above; note_is = subst (λ k. note ≡ restart_note old.core.plant k h.incarnation) h.here h.note_is }))
 noted_asked raising old new line (Some (Restart n)) note text read (inr h) = inl (h.2.same, h.2.unnoted)

@@ -1,6 +1,6 @@
 -- The hellos so far stand behind the text.
 use Rattle.std.proofs.Common.{◌≡◌, ◌++◌, string_bytes}
-use Rattle.live_node.specs.Partners.{is_partner}
+use Rattle.crossings.specs.Partners.{is_partner}
 use Rattle.live_node.specs.Sends.{hello_to, for_each_below}
 use Rattle.live_node.proofs.sends.push_greetings.Given as goal
 

@@ -3,7 +3,7 @@
 ghost use Rattle.std.specs.Prelude.{◌≡◌};
 ghost use Rattle.std.specs.List.{list_any};
 ghost use Rattle.evaluation.specs.Last.{same_task};
-ghost use Rattle.live_node.specs.Partners.{is_of, takes_from_task, takes_from_resource, is_partner, some_producer};
+ghost use Rattle.crossings.specs.Partners.{is_of, takes_from_task, takes_from_resource, is_partner, some_producer};
 
 use plant::Plant;
 use task_codes::TaskRef;
@@ -31,7 +31,7 @@ pub fn takes_from_task(plant: &Plant, resource: usize, task: TaskRef) -> bool
 }
 
 /// Whether some task of a resource takes from some task of another.
-pub(crate) fn takes_from_resource(plant: &Plant, resource: usize, other: usize) -> bool
+pub fn takes_from_resource(plant: &Plant, resource: usize, other: usize) -> bool
     ensures { result ≡ takes_from_resource plant.now resource other }
 {
     let tasks = plant.tasks(resource).len();
@@ -39,7 +39,7 @@ pub(crate) fn takes_from_resource(plant: &Plant, resource: usize, other: usize) 
 }
 
 /// Whether two resources are different, and one of them takes from the other.
-pub(crate) fn is_partner(plant: &Plant, resource: usize, other: usize) -> bool
+pub fn is_partner(plant: &Plant, resource: usize, other: usize) -> bool
     ensures { result ≡ is_partner plant.now resource other }
 {
     other != resource

@@ -1,0 +1,5 @@
+pub mod Partners
+pub mod Crossings
+pub mod CrossingText
+pub mod Digests
+pub mod OneCrossing

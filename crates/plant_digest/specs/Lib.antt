@@ -1,0 +1,4 @@
+pub mod DrawnLines
+pub mod ProgramLines
+pub mod PlantLines
+pub mod Digests
