@@ -199,7 +199,7 @@ pub const NODES: [(&str, &str); 12] = [
 pub const AUDITS: [(&str, &str); 9] = [
     (
         "Syntax",
-        "The line is none that a node of this plant's resource notes: a byte was changed, a line was cut, the plant is another one, or no START stands before it. At FILE.n:1, of a further file that --journal-size made, its line CONTINUES tells another file before it than was given: that one is missing, or a byte of it was changed.",
+        "The line is none that a node of this plant's resource notes: a byte was changed, a line was cut, the plant is another one, or no START stands before it. At FILE.n:1, of a further file that --journal-size made, its line CONTINUES tells another file before it than was given: that one is missing, or a byte of it was changed. Take the file from the machine again.",
     ),
     (
         "OtherPlant",
@@ -207,7 +207,7 @@ pub const AUDITS: [(&str, &str); 9] = [
     ),
     (
         "NotRisen",
-        "This START or RESTART isn't above the incarnation before. Two nodes of one resource wrote journals, each with a folder of state of its own, or the folder was lost.",
+        "This START or RESTART isn't above the incarnation before. Two nodes of one resource wrote journals, each with a folder of state of its own, or the folder was lost, or a file was given twice. Give all files of each resource, each once.",
     ),
     (
         "TooHigh",
@@ -215,15 +215,15 @@ pub const AUDITS: [(&str, &str); 9] = [
     ),
     (
         "Kept",
-        "The retained values that this START opens with aren't those that were left. A file of the folder of state was changed, or the journal of a run between isn't given.",
+        "The retained values that this START opens with aren't those that were left. A file of the folder of state was changed, or the journal of a run between isn't given. Give all files of each resource.",
     ),
     (
         "Differs",
-        "The message was taken otherwise than it was made: with other values, or another list of what its maker had heard. Something between the nodes changed or forged it, or a journal was changed.",
+        "The message was taken otherwise than it was made: with other values, or another list of what its maker had heard. Something between the nodes changed or forged it, or a journal was changed. See the broker's access list and log.",
     ),
     (
         "Unmade",
-        "The message was taken, and its maker, which went on to a later incarnation, never made it. Something between the nodes forged it, or a journal was changed or cut.",
+        "The message was taken, and its maker, which went on to a later incarnation, never made it. Something between the nodes forged it, or a journal was changed or cut. See the broker's access list and log.",
     ),
     (
         "Waits",

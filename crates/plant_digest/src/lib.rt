@@ -1,4 +1,4 @@
-//! The canonical text of a plant, which tells what it means and nothing of how it is laid out, and its digest.
+//! The canonical text of a plant, and its digest.
 #![tactic(auto)]
 
 mod digits;
