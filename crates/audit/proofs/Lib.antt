@@ -3,6 +3,7 @@ mod Restarts
 mod Risen
 mod RunLines
 mod Starts
+mod ForeignStarts
 mod LineTellings
 mod WholeLines
 pub mod GoingOn

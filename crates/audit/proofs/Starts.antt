@@ -1,5 +1,5 @@
 -- STARTs, and lines that are none.
-use Rattle.std.proofs.Common.{◌≡◌, ℕ, zero, suc, ◌+◌, ◌<◌, ◌++◌, ◌∷◌, [], List, Option, map, slice_get, Some, None, sym, ap, refl, ◌∙◌, codes, append_assoc, subst, below_more}
+use Rattle.std.proofs.Common.{◌≡◌, ◌⊎◌, ℕ, zero, suc, ◌+◌, ◌<◌, ◌++◌, ◌∷◌, [], List, Option, map, slice_get, Some, None, sym, ap, refl, ◌∙◌, codes, append_assoc, subst, below_more, inl, inr}
 use Rattle.std.specs.Fmt.{decimal}
 use Rattle.std.specs.List.{AllByRecursion, AllZip, flat_map, zip}
 use Rattle.std.specs.Option.{option_map}
@@ -15,9 +15,9 @@ use Rattle.text_lines.specs.LineParts.{resource_text}
 use Rattle.text_lines.specs.ReadParts.{IsInRange, IsBehind}
 use Rattle.text_lines.specs.MessageLines.{IsSmall}
 use Rattle.text_lines.specs.Steps.Reading.{StopsAt, IsRead}
-use Rattle.live_node.specs.NodeJournal.{note_end, kept_text, task_kept_text, all_kept_text, keeps_text, start_note}
+use Rattle.live_node.specs.NodeJournal.{note_end, kept_text, task_kept_text, all_kept_text, keeps_text, own_marks, start_with, start_note, unmarked_start_note}
 use Rattle.audit.specs.JournalLines.{AreInRange, IsStart}
-use Rattle.audit.specs.Steps.Reading.{IsKeptOf, AreKeptOf, start_line, AreKeptRead, IsStartRead, IsNoStartOf}
+use Rattle.audit.specs.Steps.Reading.{IsKeptOf, AreKeptOf, AreMarks, start_line, AreKeptRead, IsStartRead, IsBehindOwn, IsNoStartOf}
 use Rattle.audit.proofs.KeptLists.{all_zip}
 
 -- what is kept of a task begins with a blank, or is empty
@@ -64,42 +64,82 @@ abbrev before : PlantValue → ℕ → List ℕ
 before plant n = codes "START " ++ resource_text plant n ++ codes " "
 
 -- the text of a START's line
-start_parted : (plant : PlantValue) (n incarnation : ℕ) (opening : List (List Value)) → start_note plant n incarnation opening ≡ codes "\n" ++ (start_line plant n incarnation opening ++ note_end)
-start_parted plant n incarnation opening = ap (λ l. 10 ∷ (l ++ note_end)) (append_assoc (before plant n) (decimal incarnation) (keeps_text (all_kept_text plant n opening)))
+start_parted : (marks : List ℕ) (plant : PlantValue) (n incarnation : ℕ) (opening : List (List Value)) → start_with marks plant n incarnation opening ≡ codes "\n" ++ (start_line marks plant n incarnation opening ++ note_end)
+start_parted marks plant n incarnation opening =
+    ap (λ l. 10 ∷ (l ++ note_end))
+    (append_assoc (before plant n ++ decimal incarnation) marks (keeps_text (all_kept_text plant n opening))
+    ∙ append_assoc (before plant n) (decimal incarnation) (marks ++ keeps_text (all_kept_text plant n opening)))
 
-pub start_is : (plant : PlantValue) (n incarnation : ℕ) (opening : List (List Value)) (line : List ℕ) → IsStart plant n incarnation opening line → line ≡ start_line plant n incarnation opening
-start_is plant n incarnation opening line is =
-    append_cancel_right line (start_line plant n incarnation opening) note_end
-    (append_cancel_left (codes "\n") (line ++ note_end) (start_line plant n incarnation opening ++ note_end) (is.noted ∙ start_parted plant n incarnation opening))
+start_noted : (marks : List ℕ) (plant : PlantValue) (n incarnation : ℕ) (opening : List (List Value)) (line : List ℕ) → codes "\n" ++ line ++ note_end ≡ start_with marks plant n incarnation opening → line ≡ start_line marks plant n incarnation opening
+start_noted marks plant n incarnation opening line is =
+    append_cancel_right line (start_line marks plant n incarnation opening) note_end
+    (append_cancel_left (codes "\n") (line ++ note_end) (start_line marks plant n incarnation opening ++ note_end) (is ∙ start_parted marks plant n incarnation opening))
+
+pub start_is : (plant : PlantValue) (n incarnation : ℕ) (opening : List (List Value)) (line : List ℕ) → IsStart plant n incarnation opening line → (marks : List ℕ) × AreMarks plant marks × (line ≡ start_line marks plant n incarnation opening)
+start_is plant n incarnation opening line is = by is.noted
+  where
+    by : (codes "\n" ++ line ++ note_end ≡ start_note plant n incarnation opening) ⊎ (codes "\n" ++ line ++ note_end ≡ unmarked_start_note plant n incarnation opening)
+        → (marks : List ℕ) × AreMarks plant marks × (line ≡ start_line marks plant n incarnation opening)
+    by (inl own) = (own_marks plant, inl refl, start_noted (own_marks plant) plant n incarnation opening line own)
+    by (inr bare) = ([], inr refl, start_noted [] plant n incarnation opening line bare)
+
+-- digests and what is kept begin with a blank, or are empty
+marked_stops : (plant : PlantValue) (marks kept : List ℕ) → AreMarks plant marks → StopsAt 32 (marks ++ keeps_text kept)
+marked_stops plant marks kept (inl own) = subst (λ m. StopsAt 32 (m ++ keeps_text kept)) (sym own) refl
+marked_stops plant marks kept (inr none) = subst (λ m. StopsAt 32 (m ++ keeps_text kept)) (sym none) (keeps_stops kept)
+
+-- what is kept doesn't begin as digests do
+no_marks : (plant : PlantValue) (kept more : List ℕ) → keeps_text kept ≡ own_marks plant ++ more → ⊥
+no_marks plant [] more is = absurd cc
+no_marks plant (c ∷ others) more is = absurd cc
+
+pub own_behind : (plant : PlantValue) (text rest : List ℕ) → IsBehind text (own_marks plant) (Some rest) → IsBehindOwn plant text rest
+own_behind plant text rest begun = (
+  λ more is. append_cancel_left (own_marks plant) rest more (sym begun ∙ is),
+  λ kept is. absurd (no_marks plant kept rest (sym is ∙ begun)),
+)
+
+pub own_without : (plant : PlantValue) (text : List ℕ) → IsBehind text (own_marks plant) None → IsBehindOwn plant text text
+own_without plant text none = (λ more is. absurd (none more is), λ kept is. refl)
+
+-- what is kept, behind digests or not
+pub part_kept : (plant : PlantValue) (left rest part : List ℕ) → IsBehindOwn plant left rest → ((kept : List ℕ) → rest ≡ keeps_text kept → part ≡ kept)
+    → (marks kept : List ℕ) → AreMarks plant marks → left ≡ marks ++ keeps_text kept → part ≡ kept
+part_kept plant left rest part own parts marks kept (inl are) is = parts kept (own.0 (keeps_text kept) (is ∙ ap (λ m. m ++ keeps_text kept) are))
+part_kept plant left rest part own parts marks kept (inr are) is =
+    let bare : left ≡ keeps_text kept = is ∙ ap (λ m. m ++ keeps_text kept) are in
+    parts kept (own.1 kept bare ∙ bare)
 
 pub start_not_begun : (plant : PlantValue) (n : ℕ) (line : List ℕ) → IsBehind line (codes "START " ++ resource_text plant n ++ codes " ") None → IsStartRead plant n line None
-start_not_begun plant n line none = λ incarnation opening small all is. absurd (none (decimal incarnation ++ keeps_text (all_kept_text plant n opening)) is)
+start_not_begun plant n line none = λ marks incarnation opening are small all is. absurd (none (decimal incarnation ++ (marks ++ keeps_text (all_kept_text plant n opening))) is)
 
 module _ (plant : PlantValue) (n : ℕ) (line rest : List ℕ) (begun : IsBehind line (codes "START " ++ resource_text plant n ++ codes " ") (Some rest)) where
-  behind_before : (incarnation : ℕ) (opening : List (List Value)) → line ≡ start_line plant n incarnation opening → rest ≡ decimal incarnation ++ keeps_text (all_kept_text plant n opening)
-  behind_before incarnation opening is = append_cancel_left (before plant n) rest (decimal incarnation ++ keeps_text (all_kept_text plant n opening)) (sym begun ∙ is)
+  behind_before : (marks : List ℕ) (incarnation : ℕ) (opening : List (List Value)) → line ≡ start_line marks plant n incarnation opening → rest ≡ decimal incarnation ++ (marks ++ keeps_text (all_kept_text plant n opening))
+  behind_before marks incarnation opening is = append_cancel_left (before plant n) rest (decimal incarnation ++ (marks ++ keeps_text (all_kept_text plant n opening))) (sym begun ∙ is)
 
   pub start_no_number : IsRead decimal IsSmall 32 rest None → IsStartRead plant n line None
-  start_no_number none = λ incarnation opening small all is.
-      absurd (none-some (incarnation, keeps_text (all_kept_text plant n opening))
-      (none incarnation (keeps_text (all_kept_text plant n opening)) small (keeps_stops (all_kept_text plant n opening)) (behind_before incarnation opening is)))
+  start_no_number none = λ marks incarnation opening are small all is.
+      absurd (none-some (incarnation, marks ++ keeps_text (all_kept_text plant n opening))
+      (none incarnation (marks ++ keeps_text (all_kept_text plant n opening)) small (marked_stops plant marks (all_kept_text plant n opening) are) (behind_before marks incarnation opening is)))
 
-  pub start_kept : (number : ℕ) (left part : List ℕ) (found : Option (List (List Value))) → IsRead decimal IsSmall 32 rest (Some (number, left)) → ((kept : List ℕ) → left ≡ keeps_text kept → part ≡ kept)
+  pub start_kept : (number : ℕ) (left part : List ℕ) (found : Option (List (List Value))) → IsRead decimal IsSmall 32 rest (Some (number, left)) → ((marks kept : List ℕ) → AreMarks plant marks → left ≡ marks ++ keeps_text kept → part ≡ kept)
       → AreKeptRead plant n part found → IsStartRead plant n line (option_map (λ kept. (number, kept)) found)
-  start_kept number left part found counted parts read = λ incarnation opening small all is.
-      let same = some_pair_parts number incarnation left (keeps_text (all_kept_text plant n opening))
-      (counted incarnation (keeps_text (all_kept_text plant n opening)) small (keeps_stops (all_kept_text plant n opening)) (behind_before incarnation opening is)) in
-      let kept : found ≡ Some opening = read opening all (parts (all_kept_text plant n opening) same.1) in
+  start_kept number left part found counted parts read = λ marks incarnation opening are small all is.
+      let same = some_pair_parts number incarnation left (marks ++ keeps_text (all_kept_text plant n opening))
+      (counted incarnation (marks ++ keeps_text (all_kept_text plant n opening)) small (marked_stops plant marks (all_kept_text plant n opening) are) (behind_before marks incarnation opening is)) in
+      let kept : found ≡ Some opening = read opening all (parts marks (all_kept_text plant n opening) are same.1) in
       ap (option_map (λ k. (number, k))) kept ∙ ap (λ i. Some (i, opening)) same.0
 
 -- a line of which nothing was read, or another START, is none
 pub no_start_read : (plant : PlantValue) (n : ℕ) (line : List ℕ) → IsStartRead plant n line None → IsNoStartOf plant n line
 no_start_read plant n line none = λ incarnation opening small all is.
-    none-some (incarnation, opening) (none incarnation opening small (opening_kept plant n opening is.opens all) (start_is plant n incarnation opening line is))
+    let written = start_is plant n incarnation opening line is in
+    none-some (incarnation, opening) (none written.0 incarnation opening written.1 small (opening_kept plant n opening is.opens all) written.2)
 
 pub another_start : (plant : PlantValue) (n number : ℕ) (kept : List (List Value)) (line : List ℕ) → IsStartRead plant n line (Some (number, kept)) → (IsStart plant n number kept line → ⊥) → IsNoStartOf plant n line
 another_start plant n number kept line read not = λ incarnation opening small all is.
-    let same = some_pair_parts number incarnation kept opening (read incarnation opening small (opening_kept plant n opening is.opens all) (start_is plant n incarnation opening line is)) in
+    let written = start_is plant n incarnation opening line is in
+    let same = some_pair_parts number incarnation kept opening (read written.0 incarnation opening written.1 small (opening_kept plant n opening is.opens all) written.2) in
     not (subst (λ o. IsStart plant n number o line) (sym same.1) (subst (λ i. IsStart plant n i opening line) (sym same.0) is))
 
 -- one more resource of which a line is no START

@@ -1,19 +1,17 @@
 -- What a line of a journal tells: it is what a node notes. `;` and the line feed stand behind it.
-use Rattle.std.specs.Prelude.{◌≡◌, ◌≢◌, ◌⊎◌, ℕ, ◌<◌, ◌≤◌, ◌==◌, ◌&&◌, ◌++◌, Bool, IsTrue, List, Some, codes, length}
+use Rattle.std.specs.Prelude.{◌≡◌, ◌≢◌, ◌⊎◌, ℕ, ◌<◌, ◌≤◌, ◌==◌, ◌&&◌, ◌++◌, Bool, not, IsTrue, List, [], Some, codes, length}
+use Rattle.std.specs.Char.{is_ascii_hexdigit, is_ascii_uppercase}
 use Rattle.std.specs.Fmt.{decimal}
 use Rattle.std.specs.List.{AllByRecursion, list_all}
-use Rattle.hex.specs.Hex.{is_hex_digit}
 use Rattle.std_blocks.specs.declared.value.Value.{Value}
 use Rattle.plant.specs.PlantValue.{PlantValue, code_at}
 use Rattle.task_codes.specs.CodeValue.{CodeValue}
 use Rattle.exchange_core.specs.Openings.{AreOpeningOf}
-use Rattle.crossings.specs.Digests.{crossing_digits}
-use Rattle.plant_digest.specs.Digests.{plant_digits}
 use Rattle.text_lines.specs.LineParts.{resource_text}
 use Rattle.text_lines.specs.ReadParts.{IsInRange}
 use Rattle.text_lines.specs.MessageLines.{IsSmall}
 use Rattle.live_node.specs.NodeLines.{Spells, SpellsNothing}
-use Rattle.live_node.specs.NodeJournal.{note_end, keeps_text, line_note, marks_text, start_note, restart_note, unmarked_start_note}
+use Rattle.live_node.specs.NodeJournal.{note_end, line_note, marks_text, own_marks, start_note, restart_note, unmarked_start_note}
 use Rattle.live_node.specs.declared.node_line.NodeLine.{NodeLine}
 use Rattle.live_node.specs.declared.node_line.NodeLine.TheVariants as asked
 use Rattle.audit.specs.declared.item.Item.{Item}
@@ -27,25 +25,43 @@ pub record IsStart (plant : PlantValue) (n incarnation : ℕ) (opening : List (L
   pub noted : (codes "\n" ++ line ++ note_end ≡ start_note plant n incarnation opening)
       ⊎ (codes "\n" ++ line ++ note_end ≡ unmarked_start_note plant n incarnation opening)
 
--- 64 hexadecimal digits
-abbrev pub is_digest : List ℕ → Bool
-is_digest word = (length word == 64) && list_all is_hex_digit word
+-- a hexadecimal digit, no capital letter
+abbrev pub is_digit : ℕ → Bool
+is_digit c = is_ascii_hexdigit c && not (is_ascii_uppercase c)
 
--- two digests are those of the plant and of what crosses in it
-abbrev pub AreOwnDigests : PlantValue → (whole crossing : List ℕ) → Type 0
-AreOwnDigests plant whole crossing = (whole ≡ plant_digits plant) × (crossing ≡ crossing_digits plant)
+-- 64 of them
+abbrev pub is_digest : List ℕ → Bool
+is_digest word = (length word == 64) && list_all is_digit word
+
+-- a text doesn't begin with the digests of the plant and of what crosses in it
+abbrev pub BeginsOtherwise : PlantValue → List ℕ → Type 0
+BeginsOtherwise plant text = (rest : List ℕ) → text ≢ own_marks plant ++ rest
+
+-- a text is nothing, or what is kept
+abbrev pub IsKept : List ℕ → Type 0
+IsKept text = (text ≡ []) ⊎ ((kept : List ℕ) × (text ≡ codes " KEEPS " ++ kept))
+
+-- a text is two digests, not the plant's, and what is kept
+pub record TellsAnother (plant : PlantValue) (text : List ℕ) : Type 0 where
+  pub whole : List ℕ
+  pub crossing : List ℕ
+  pub rest : List ℕ
+  pub whole_is : IsTrue (is_digest whole)
+  pub crossing_is : IsTrue (is_digest crossing)
+  pub other : BeginsOtherwise plant text
+  pub text_is : text ≡ marks_text whole crossing ++ rest
+  pub ended : IsKept rest
+
+-- `START R i`
+abbrev pub start_head : PlantValue → ℕ → ℕ → List ℕ
+start_head plant n incarnation = codes "START " ++ resource_text plant n ++ codes " " ++ decimal incarnation
 
 -- a line is what a resource of this name notes as it starts in this incarnation, in another plant
 pub record IsForeignStart (plant : PlantValue) (n incarnation : ℕ) (line : List ℕ) : Type 0 where
   pub exists : n < length plant.resources
-  pub whole : List ℕ
-  pub crossing : List ℕ
-  pub kept : List ℕ
-  pub whole_is : IsTrue (is_digest whole)
-  pub crossing_is : IsTrue (is_digest crossing)
-  pub other : AreOwnDigests plant whole crossing → ⊥
-  pub line_is : line ≡ codes "START " ++ resource_text plant n ++ codes " " ++ decimal incarnation
-      ++ marks_text whole crossing ++ keeps_text kept
+  pub rest : List ℕ
+  pub told : TellsAnother plant rest
+  pub line_is : line ≡ start_head plant n incarnation ++ rest
 
 -- values that are in their ranges
 abbrev pub AreInRange : List (List Value) → Type 0

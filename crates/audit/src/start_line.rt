@@ -1,5 +1,5 @@
-//! The line of a START, such as `START R1 2 PLANT .. CROSSES .. KEEPS H.M=1 H.K=-3`, with the digests of the plant, or without. It is read freely, part by part, and what was read is
-//! written again: it is that START only if both are equal.
+//! The line of a START, such as `START R1 2 PLANT .. CROSSES .. KEEPS H.M=1 H.K=-3`, with the digests of the plant or without.
+//! It is read freely, part by part, and what was read is written again: it is that START only if both are equal.
 
 ghost use Rattle.std.specs.Prelude.{◌≡◌, ◌<◌, ◌↔◌, IfOk, IfSome, IsTrue, List, MatchOption, ℕ, length};
 ghost use Rattle.std.specs.Option.{option_map};
@@ -10,7 +10,7 @@ ghost use Rattle.audit.specs.Steps.Reading.{IsStartRead, IsNoStartOf};
 use crate::beginnings::{behind_resource, number_at};
 use crate::kept_values::all_kept_in;
 use crate::notes::is_note_of;
-use crate::start_marks::behind_marks;
+use crate::start_marks::behind_own;
 use evaluation::Retained;
 use exchange_core::is_opening;
 use live_node::{note_of_start, unmarked_note_of_start};
@@ -53,7 +53,8 @@ fn read_freely(
     let Some((incarnation, rest)) = number_at(rest) else {
         return Ok(None);
     };
-    match all_kept_in(alloc, kept_part(behind_marks(rest)), plant, resource)? {
+    let rest = behind_own(alloc, plant, rest)?;
+    match all_kept_in(alloc, kept_part(rest), plant, resource)? {
         Some(kept) => Ok(Some((incarnation, kept))),
         None => Ok(None),
     }

@@ -1,78 +1,85 @@
 //! The digests that a START tells, as ` PLANT digits CROSSES digits`.
 
-ghost use Rattle.std.specs.Prelude.{◌≡◌, ◌++◌, ◌↔◌, IfOk, IfSome, IsTrue, List, MatchOption, [], ℕ, codes, length};
-ghost use Rattle.live_node.specs.NodeJournal.{keeps_text, marks_text};
-ghost use Rattle.audit.specs.JournalLines.{is_digest, AreOwnDigests};
+ghost use Rattle.std.specs.Prelude.{◌≡◌, ◌↔◌, IfOk, IsTrue};
+ghost use Rattle.std.specs.Option.{option_map};
+ghost use Rattle.audit.specs.JournalLines.{is_digest, BeginsOtherwise};
+ghost use Rattle.audit.specs.Steps.Reading.{IsBehindDigest, IsBehindDigests, IsBehindOwn};
 
-use crossings::crossing_digits;
+use live_node::marks_of;
 use plant::Plant;
-use plant_digest::plant_digits;
 use std::alloc::{AllocError, Global};
-use text_lines::{are_same, behind};
-
-/// The digests of a plant, and of what crosses in it.
-pub(crate) struct Marks<'a> {
-    pub whole: &'a [u8],
-    pub crossing: &'a [u8],
-}
+use text_lines::behind;
 
 /// How many digits a digest has.
 const DIGITS: usize = 64;
 
-/// Whether a word is 64 hexadecimal digits.
+/// Whether a word is 64 hexadecimal digits, with small letters.
 fn is_digest(word: &[u8]) -> bool
     ensures { result ≡ is_digest word.now }
 {
-    word.len() == DIGITS && word.iter().all(|c| c.is_ascii_hexdigit())
+    word.len() == DIGITS
+        && word
+            .iter()
+            .all(|c| c.is_ascii_hexdigit() && !c.is_ascii_uppercase())
 }
 
-/// The digest with which a text begins, and the rest.
-fn digest_at(text: &[u8]) -> Option<(&[u8], &[u8])>
-    ensures found { IfSome result (λ r. (text.now ≡ r.0.now ++ r.1.now) × IsTrue (is_digest r.0.now)) }
-    ensures all { (digits more : List ℕ) → IsTrue (is_digest digits) → text.now ≡ digits ++ more
-        → IfSome result (λ r. (r.0.now ≡ digits) × (r.1.now ≡ more)) }
+/// What stands behind the digest with which a text begins.
+fn behind_digest(text: &[u8]) -> Option<&[u8]>
+    ensures { IsBehindDigest text.now (option_map (λ rest. rest.now) result) }
 {
     if text.len() < DIGITS {
         return None;
     }
     let (digits, rest) = text.split_at(DIGITS);
     if is_digest(digits) {
-        Some((digits, rest))
+        Some(rest)
     } else {
         None
     }
 }
 
-/// The digests with which a text begins, and the rest.
-pub(crate) fn marks_at(text: &[u8]) -> Option<(Marks, &[u8])>
-    ensures found { IfSome result (λ r. (text.now ≡ marks_text r.0.whole.now r.0.crossing.now ++ r.1.now)
-        × IsTrue (is_digest r.0.whole.now) × IsTrue (is_digest r.0.crossing.now)) }
-    ensures all { (whole crossing more : List ℕ) → IsTrue (is_digest whole) → IsTrue (is_digest crossing)
-        → text.now ≡ marks_text whole crossing ++ more
-        → IfSome result (λ r. (r.0.whole.now ≡ whole) × (r.0.crossing.now ≡ crossing) × (r.1.now ≡ more)) }
+/// What stands behind the digests with which a text begins.
+pub(crate) fn behind_digests(text: &[u8]) -> Option<&[u8]>
+    ensures { IsBehindDigests text.now (option_map (λ rest. rest.now) result) }
 {
-    let (whole, rest) = digest_at(behind(text, b" PLANT ")?)?;
-    let (crossing, rest) = digest_at(behind(rest, b" CROSSES ")?)?;
-    Some((Marks { whole, crossing }, rest))
+    let Some(whole) = behind(text, b" PLANT ") else {
+        return None;
+    };
+    let Some(rest) = behind_digest(whole) else {
+        return None;
+    };
+    let Some(crossing) = behind(rest, b" CROSSES ") else {
+        return None;
+    };
+    behind_digest(crossing)
 }
 
-/// What stands behind the digests with which a text begins; the text itself, where it doesn't begin so.
-pub(crate) fn behind_marks(text: &[u8]) -> &[u8]
-    ensures marked { (whole crossing more : List ℕ) → IsTrue (is_digest whole) → IsTrue (is_digest crossing)
-        → text.now ≡ marks_text whole crossing ++ more → result.now ≡ more }
-    ensures unmarked { (kept : List ℕ) → text.now ≡ keeps_text kept → result.now ≡ text.now }
+/// What stands behind the plant's own digests; the text itself, where it doesn't begin with them.
+pub(crate) fn behind_own<'a>(
+    alloc: Global,
+    plant: &Plant,
+    text: &'a [u8],
+) -> Result<&'a [u8], AllocError>
+    ensures { IfOk result (λ rest. IsBehindOwn plant.now text.now rest.now) }
 {
-    match marks_at(text) {
-        Some((_, rest)) => rest,
-        None => text,
+    let marks = marks_of(alloc, plant)?;
+    match behind(text, marks.as_bytes()) {
+        Some(rest) => Ok(rest),
+        None => Ok(text),
     }
 }
 
-/// Whether these are the digests of the plant and of what crosses in it.
-pub(crate) fn are_own(alloc: Global, plant: &Plant, marks: &Marks) -> Result<bool, AllocError>
-    ensures { IfOk result (λ are. IsTrue are ↔ AreOwnDigests plant.now marks.now.whole.now marks.now.crossing.now) }
+/// Whether a text doesn't begin with the plant's own digests.
+pub(crate) fn begins_otherwise(
+    alloc: Global,
+    plant: &Plant,
+    text: &[u8],
+) -> Result<bool, AllocError>
+    ensures { IfOk result (λ is. IsTrue is ↔ BeginsOtherwise plant.now text.now) }
 {
-    let whole = plant_digits(alloc, plant)?;
-    let crossing = crossing_digits(alloc, plant)?;
-    Ok(are_same(marks.whole, whole.as_bytes()) && are_same(marks.crossing, crossing.as_bytes()))
+    let marks = marks_of(alloc, plant)?;
+    match behind(text, marks.as_bytes()) {
+        Some(_) => Ok(false),
+        None => Ok(true),
+    }
 }

@@ -47,11 +47,14 @@ start_with marks plant n incarnation opening =
 abbrev pub marks_text : List ℕ → List ℕ → List ℕ
 marks_text whole crossing = codes " PLANT " ++ whole ++ codes " CROSSES " ++ crossing
 
+-- those of a plant
+abbrev pub own_marks : PlantValue → List ℕ
+own_marks plant = marks_text (plant_digits plant) (crossing_digits plant)
+
 -- A start: a line feed, `START R i`, the digests of the plant, and the values that it opens with. The line feed ends a torn
 -- line before it.
 abbrev pub start_note : PlantValue → ℕ → ℕ → List (List Value) → List ℕ
-start_note plant n incarnation opening =
-    start_with (marks_text (plant_digits plant) (crossing_digits plant)) plant n incarnation opening
+start_note plant n incarnation opening = start_with (own_marks plant) plant n incarnation opening
 
 -- the same as nodes noted it that told no digests
 abbrev pub unmarked_start_note : PlantValue → ℕ → ℕ → List (List Value) → List ℕ

@@ -1,7 +1,7 @@
 -- What a line asks of a node.
 use Rattle.std.specs.Prelude.{◌≡◌, ◌⊎◌, ℕ, ◌==◌, ◌&&◌, ◌++◌, Bool, true, IsTrue, List, [], ◌∷◌, Some, codes, length}
+use Rattle.std.specs.Char.{is_ascii_hexdigit}
 use Rattle.std.specs.List.{list_all}
-use Rattle.hex.specs.Hex.{is_hex_digit}
 use Rattle.words.specs.Lines.{without_last}
 use Rattle.words.specs.Chars.{same_word}
 use Rattle.words.specs.Numbers.{number_up_to}
@@ -34,7 +34,7 @@ SpellsHello plant of incarnation (keyword ∷ first ∷ second ∷ third ∷ mor
 
 -- 16 hexadecimal digits
 abbrev pub is_mark : List ℕ → Bool
-is_mark word = (length word == 16) && list_all is_hex_digit word
+is_mark word = (length word == 16) && list_all is_ascii_hexdigit word
 
 -- the mark of what crosses in the plant, in either case
 abbrev pub IsOwnMark : PlantValue → List ℕ → Type 0

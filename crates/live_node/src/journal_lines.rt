@@ -7,9 +7,7 @@ ghost use Rattle.text_lines.specs.Growing.{GrowsBy};
 ghost use Rattle.plant.specs.PlantValue.{code_at, codes_at};
 ghost use Rattle.task_codes.specs.CodeValue.{CodeValue};
 ghost use Rattle.exchange_core.specs.Openings.{AreOpeningOf};
-ghost use Rattle.crossings.specs.Digests.{crossing_digits};
-ghost use Rattle.plant_digest.specs.Digests.{plant_digits};
-ghost use Rattle.live_node.specs.NodeJournal.{kept_text, task_kept_text, all_kept_text, keeps_text, line_note, marks_text, start_note, start_with, restart_note, unmarked_start_note};
+ghost use Rattle.live_node.specs.NodeJournal.{kept_text, task_kept_text, all_kept_text, keeps_text, line_note, own_marks, start_note, start_with, restart_note, unmarked_start_note};
 
 use crossings::crossing_digits;
 use evaluation::Retained;
@@ -103,8 +101,8 @@ fn push_all_kept(
 }
 
 /// The digests of a plant, as ` PLANT digits CROSSES digits`.
-fn marks_of(alloc: Global, plant: &Plant) -> Result<String, AllocError>
-    ensures { IfOk result (λ marks. string_bytes marks ≡ marks_text (plant_digits plant.now) (crossing_digits plant.now)) }
+pub fn marks_of(alloc: Global, plant: &Plant) -> Result<String, AllocError>
+    ensures { IfOk result (λ marks. string_bytes marks ≡ own_marks plant.now) }
 {
     let whole = plant_digits(alloc, plant)?;
     let crossing = crossing_digits(alloc, plant)?;

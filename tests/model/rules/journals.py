@@ -87,7 +87,7 @@ def start_of(plant, line):
 def told_marks(parts):
     """Whether the words of a START tell digests."""
     whole, crossing = parts[4:5], parts[6:7]
-    are_digits = all(it and is_of_digits(it[0], 64) for it in (whole, crossing))
+    are_digits = all(it and is_of_digits(it[0], 64) and it[0] == it[0].lower() for it in (whole, crossing))
     return are_digits and parts[3] == "PLANT" and parts[5] == "CROSSES"
 
 
