@@ -61,10 +61,6 @@ impl Occasion {
 }
 
 pub const EVENTS: [(&str, &str); 6] = [
-    (
-        "OtherPlant",
-        "The HELLO comes from a node of a plant in which something else crosses between the resources: other resources, tasks that give to others, or names or kinds of what they give. Give all nodes plants in which the same crosses, and begin them anew.",
-    ),
     ("NoSuchResource", "The plant has no resource of that name."),
     ("NoSuchTask", "The resource has no task of that name."),
     (
@@ -175,6 +171,10 @@ pub const NODES: [(&str, &str); 12] = [
     (
         "Twice",
         "Two words of the INPUT have one address. None of its words was taken.",
+    ),
+    (
+        "OtherPlant",
+        "The HELLO comes from a node of a plant in which something else crosses between the resources: other resources, tasks that give to others, or names or kinds of what they give. Give all nodes plants in which the same crosses, and begin them anew.",
     ),
     ("NoSuchResource", "The plant has no resource of that name."),
     (
