@@ -4,6 +4,7 @@ The tasks are due in turn, and each evaluation reaches the other resource before
 the other task, and none is lost, stray or overtaken, whether threads make the run (paced), a schedule, or two nodes. The audit of
 what these note is the same run.
 """
+import hashlib
 import subprocess
 import sys
 
@@ -11,6 +12,7 @@ PLC, PLANT = sys.argv[1], "ping_pong.plant"
 MOMENTS, INTERVAL = 10_000, 10
 # In the order in which they are due at each moment: resource, task, program, and the place of the one from which it takes.
 TASKS = [("R1", "PING", "A", 1), ("R2", "PONG", "B", 0)]
+OUTPUTS = (("OWN", "INT"), ("ODD", "BOOL"), ("SEEN", "INT"), ("SEEN_ODD", "BOOL"))
 
 
 def named(place):
@@ -23,12 +25,22 @@ def counted(number):
     return (number + 1) // 2, number % 2
 
 
+def crossing(place):
+    """What crosses from a resource to others, and to whom."""
+    resource, task, program, other = TASKS[place]
+    gives = " ".join(f"{program}.{name}:{kind}" for name, kind in OUTPUTS)
+    return f"RESOURCE {resource}\nTASK {task} GIVES {gives} TO {TASKS[other][0]}\n"
+
+
+MARK = hashlib.sha256("".join(map(crossing, range(len(TASKS)))).encode()).hexdigest()[:16]
+
+
 def gives(place, number):
     """The outputs of evaluation `number` of a task: its own count, and that of the evaluation which it takes."""
     _, _, program, other = TASKS[place]
     seen = number if other < place else number - 1
-    names = zip(("OWN", "ODD", "SEEN", "SEEN_ODD"), counted(number) + counted(seen))
-    return " ".join(f"{program}.{name}={value}" for name, value in names)
+    values = zip(OUTPUTS, counted(number) + counted(seen))
+    return " ".join(f"{program}.{name}={value}" for (name, _), value in values)
 
 
 def evaluation(message, place, number):
@@ -64,7 +76,7 @@ def message_line(place, number):
 def dialog(own):
     """The lines that a node reads, what it writes at its start, and what it answers to each."""
     name, other = TASKS[own][0], TASKS[TASKS[own][3]][0]
-    hello = f"SEND {other} HELLO {name} 1"
+    hello = f"SEND {other} HELLO {name} 1 {MARK}"
     yield "", [hello, f"START {name} 1"]
     yield f"HELLO {other} 1", [hello, f"HELLO {other} 1 new"]
     for _, place, number in in_turn():

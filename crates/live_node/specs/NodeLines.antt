@@ -1,5 +1,5 @@
 -- What a line asks of a node.
-use Rattle.std.specs.Prelude.{◌≡◌, ◌⊎◌, ℕ, ◌==◌, ◌&&◌, ◌++◌, Bool, true, IsTrue, List, [], ◌∷◌, Some, codes, length}
+use Rattle.std.specs.Prelude.{◌≡◌, ◌⊎◌, ℕ, ◌==◌, ◌&&◌, Bool, true, IsTrue, List, [], ◌∷◌, Some, codes, length}
 use Rattle.std.specs.Char.{is_ascii_hexdigit}
 use Rattle.std.specs.List.{list_all}
 use Rattle.words.specs.Lines.{without_last}
@@ -40,11 +40,15 @@ is_mark word = (length word == 16) && list_all is_ascii_hexdigit word
 abbrev pub IsOwnMark : PlantValue → List ℕ → Type 0
 IsOwnMark plant word = IsTrue (same_word word (crossing_mark plant))
 
--- a hello, and behind it a mark of which this holds
-abbrev pub SpellsMarked : (IsMark : List ℕ → Type 0) (plant : PlantValue) (of incarnation : ℕ) → List (List ℕ) → Type 0
-SpellsMarked IsMark plant of incarnation words =
-    (hello : List (List ℕ)) × (mark : List ℕ) × (words ≡ hello ++ mark ∷ []) × SpellsHello plant of incarnation hello
-    × IsTrue (is_mark mark) × IsMark mark
+-- four words: a hello, and behind it a mark of which this holds
+abbrev pub SpellsMarked : (IsSo : List ℕ → Type 0) (plant : PlantValue) (of incarnation : ℕ) → List (List ℕ) → Type 0
+SpellsMarked IsSo plant of incarnation [] = ⊥
+SpellsMarked IsSo plant of incarnation (keyword ∷ []) = ⊥
+SpellsMarked IsSo plant of incarnation (keyword ∷ first ∷ []) = ⊥
+SpellsMarked IsSo plant of incarnation (keyword ∷ first ∷ second ∷ []) = ⊥
+SpellsMarked IsSo plant of incarnation (keyword ∷ first ∷ second ∷ mark ∷ []) =
+    SpellsHello plant of incarnation (keyword ∷ first ∷ second ∷ []) × IsTrue (is_mark mark) × IsSo mark
+SpellsMarked IsSo plant of incarnation (keyword ∷ first ∷ second ∷ mark ∷ fourth ∷ more) = ⊥
 
 -- a hello of a node of this plant: it has no mark, or that of what crosses in the plant
 abbrev pub SpellsOwnHello : (plant : PlantValue) (of incarnation : ℕ) → List (List ℕ) → Type 0

@@ -1,10 +1,10 @@
 //! What a line asks of a node.
 
-ghost use Rattle.std.specs.Prelude.{◌≡◌, ◌↔◌, [], ◌∷◌, ◌++◌, ℕ, IfOk, IsTrue, MatchOption};
+ghost use Rattle.std.specs.Prelude.{◌≡◌, ◌↔◌, [], ◌∷◌, ℕ, IfOk, IsTrue, MatchOption};
 ghost use Rattle.plant.specs.Find.{Finds};
 ghost use Rattle.evaluation.specs.InputTexts.{words_of};
 ghost use Rattle.live_node.specs.NodeLines.{is_mark, IsOwnMark, SpellsHello, Spells, SpellsNothing};
-ghost use Rattle.live_node.specs.Steps.Reading.{texts, IsEventLine, IsHelloLine, IsWordsLine};
+ghost use Rattle.live_node.specs.Steps.Reading.{texts, IsEventLine, IsHelloLine, IsMarkedLine, IsWordsLine};
 
 use crate::node_line::NodeLine;
 use crossings::crossing_mark;
@@ -15,13 +15,15 @@ use text_lines::read_message;
 use words::number_up_to;
 use world::{Event, LineFault, is_idle, read_event, resource_of, without_last};
 
-/// The resource and the incarnation that the words of a line `HELLO` spell.
-fn read_hello(plant: &Plant, words: &[&[u8]]) -> Option<(usize, u32)>
-    ensures { Finds (λ (h : ℕ × ℕ). SpellsHello plant.now h.0 h.1 (texts words.now)) result }
+/// The resource and the incarnation that the three words of a hello spell.
+fn read_hello(
+    plant: &Plant,
+    keyword: &[u8],
+    of: &[u8],
+    incarnation: &[u8],
+) -> Option<(usize, u32)>
+    ensures { Finds (λ (h : ℕ × ℕ). SpellsHello plant.now h.0 h.1 (keyword.now ∷ of.now ∷ incarnation.now ∷ [])) result }
 {
-    let [keyword, of, incarnation] = words else {
-        return None;
-    };
     if !keyword.eq_ignore_ascii_case(b"HELLO") {
         return None;
     }
@@ -45,18 +47,16 @@ fn is_own_mark(alloc: Global, plant: &Plant, word: &[u8]) -> Result<bool, AllocE
     Ok(word.eq_ignore_ascii_case(mark.as_bytes()))
 }
 
-/// The hello that words and a mark behind them spell.
-fn read_marked(
+/// What a hello with a mark behind it asks.
+fn marked_line(
     alloc: Global,
     plant: &Plant,
-    words: &[&[u8]],
+    of: usize,
+    incarnation: u32,
     mark: &[u8],
 ) -> Result<Option<NodeLine>, AllocError>
-    ensures { IfOk result (IsHelloLine plant.now (texts words.now ++ mark.now ∷ [])) }
+    ensures { IfOk result (IsMarkedLine plant.now of incarnation mark.now) }
 {
-    let Some((of, incarnation)) = read_hello(plant, words) else {
-        return Ok(None);
-    };
     if !is_mark(mark) {
         return Ok(None);
     }
@@ -75,14 +75,16 @@ fn read_any_hello(
 ) -> Result<Option<NodeLine>, AllocError>
     ensures { IfOk result (IsHelloLine plant.now (texts words.now)) }
 {
-    if let [hello @ .., mark] = words {
-        if hello.len() == 3 {
-            return read_marked(alloc, plant, hello, mark);
-        }
-    }
-    match read_hello(plant, words) {
-        Some((of, incarnation)) => Ok(Some(NodeLine::Hello { of, incarnation })),
-        None => Ok(None),
+    match words {
+        [keyword, of, incarnation] => match read_hello(plant, keyword, of, incarnation) {
+            Some((of, incarnation)) => Ok(Some(NodeLine::Hello { of, incarnation })),
+            None => Ok(None),
+        },
+        [keyword, of, incarnation, mark] => match read_hello(plant, keyword, of, incarnation) {
+            Some((of, incarnation)) => marked_line(alloc, plant, of, incarnation, mark),
+            None => Ok(None),
+        },
+        _ => Ok(None),
     }
 }
 

@@ -6,7 +6,7 @@ use Rattle.plant.specs.PlantValue.{PlantValue}
 use Rattle.evaluation.specs.declared.field_input.FieldInput.{FieldInput}
 use Rattle.world.specs.declared.event.Event.TheVariants as event
 use Rattle.world.specs.ScheduleText.{is_idle, SpellsEvent}
-use Rattle.live_node.specs.NodeLines.{SpellsOwnHello, SpellsForeignHello}
+use Rattle.live_node.specs.NodeLines.{is_mark, IsOwnMark, SpellsOwnHello, SpellsForeignHello}
 use Rattle.live_node.specs.declared.node_line.NodeLine.{NodeLine}
 use Rattle.live_node.specs.declared.node_line.NodeLine.TheVariants.{Idle, Evaluate, Take, Hello, Foreign, Restart}
 
@@ -44,6 +44,17 @@ IsHelloLine plant words (Some (Take m)) = ⊥
 IsHelloLine plant words (Some (Hello of incarnation)) = SpellsOwnHello plant of incarnation words
 IsHelloLine plant words (Some Foreign) = SpellsForeignHello plant words
 IsHelloLine plant words (Some (Restart resource)) = ⊥
+
+-- what a hello with this mark is
+abbrev pub IsMarkedLine : PlantValue → (of incarnation : ℕ) → (mark : List ℕ) → Option NodeLine → Type 0
+IsMarkedLine plant of incarnation mark None = is_mark mark ≡ false
+IsMarkedLine plant of incarnation mark (Some Idle) = ⊥
+IsMarkedLine plant of incarnation mark (Some (Evaluate task dt inputs)) = ⊥
+IsMarkedLine plant of incarnation mark (Some (Take m)) = ⊥
+IsMarkedLine plant of incarnation mark (Some (Hello o i)) =
+    (o ≡ of) × (i ≡ incarnation) × IsTrue (is_mark mark) × IsOwnMark plant mark
+IsMarkedLine plant of incarnation mark (Some Foreign) = IsTrue (is_mark mark) × (IsOwnMark plant mark → ⊥)
+IsMarkedLine plant of incarnation mark (Some (Restart resource)) = ⊥
 
 -- these words are those of no blank line or comment, no hello and none of those
 pub record SpellsNoneByWords (plant : PlantValue) (words : List (List ℕ)) : Type 0 where
