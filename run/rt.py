@@ -1,8 +1,9 @@
-"""rt.py WORD..: rt, the command of the Rattle kit, with the sum of each crate made once.
+"""rt.py WORD..: rt, the command of the Rattle kit, with the sum of each crate made once, and what is below it listed once.
 
 By a sum over a crate and all below it rt tells whether its library still fits. rt makes the sum of a crate anew on each
 way down to it, and from plc_main there are 32,000 ways: 50 seconds each time. Here a sum is made once while that of a crate above
-is made. An rt that is built otherwise runs as it is.
+is made. The crates below each one rt lists as often, and what a crate names never changes while rt runs. An rt that is built
+otherwise runs as it is.
 """
 import importlib.machinery
 import importlib.util
@@ -41,11 +42,22 @@ def each_once(sum_of):
     return sum_once
 
 
+def listed_once(below):
+    """The same lists of crates, each made once."""
+
+    def below_once(crate):
+        if not hasattr(crate, "listed_below"):
+            crate.listed_below = below(crate)
+        return [*crate.listed_below]
+
+    return below_once
+
+
 def load_once(path):
-    """rt as a module, with each sum made once."""
+    """rt as a module, with each sum and each list of the crates below made once."""
     rt = load(path)
     crate = rt.rtlib.Crate
-    crate.stamp = each_once(crate.stamp)
+    crate.stamp, crate.below = each_once(crate.stamp), listed_once(crate.below)
     return rt
 
 
