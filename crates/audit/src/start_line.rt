@@ -53,8 +53,8 @@ fn read_freely(
     let Some((incarnation, rest)) = number_at(rest) else {
         return Ok(None);
     };
-    let rest = behind_own(alloc, plant, rest)?;
-    match all_kept_in(alloc, kept_part(rest), plant, resource)? {
+    let part = behind_own(alloc, plant, rest)?;
+    match all_kept_in(alloc, kept_part(part), plant, resource)? {
         Some(kept) => Ok(Some((incarnation, kept))),
         None => Ok(None),
     }

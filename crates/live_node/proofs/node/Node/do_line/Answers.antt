@@ -30,3 +30,10 @@ pub returns-in-Some-Restart-clause-stopped : goal.returns-in-Some-Restart-clause
 returns-in-Some-Restart-clause-stopped g c =
     let asked : Spells c.args.self.now.state.core.plant (Restart c.in-Some-Restart.resource) c.args.line.now = search rules in
     restart_unanswered c.answer_restart.result (keeper_gives g.K.Keeper.raise_gives c.args.self.now.keeper) c.args.self.now.state c.in-Some-Restart.resource c.args.line.now (g.N.Notes.noted c.args.self.now.notes) (g.N.Notes.noted c.answer_restart.new.self.notes) asked c.answer_restart.ensures.stopped
+
+pub returns-in_err-push_refused-in-Some-Foreign-clause-stopped : goal.returns-in_err-push_refused-in-Some-Foreign-clause-stopped
+returns-in_err-push_refused-in-Some-Foreign-clause-stopped g c = none_unanswered c.from_residual-in_err-push_refused-in-Some-Foreign.result (keeper_gives g.K.Keeper.raise_gives c.args.self.now.keeper) c.args.self.now.state c.args.line.now (g.N.Notes.noted c.args.self.now.notes) c.from_residual-in_err-push_refused-in-Some-Foreign.ensures.1
+
+pub returns-in_err-push_refused-in-Some-Foreign-clause-first : goal.returns-in_err-push_refused-in-Some-Foreign-clause-first
+returns-in_err-push_refused-in-Some-Foreign-clause-first g c =
+    same_first g.K.Keeper.kept_gives c.args.self.now.keeper c.args.self.now.keeper (g.N.Notes.noted c.args.self.now.notes) (g.N.Notes.synced c.args.self.now.notes) refl
