@@ -1,5 +1,5 @@
 -- STARTs, and lines that are none.
-use Rattle.std.proofs.Common.{◌≡◌, ◌⊎◌, ℕ, zero, suc, ◌+◌, ◌<◌, ◌++◌, ◌∷◌, [], List, Option, map, slice_get, Some, None, sym, ap, refl, ◌∙◌, codes, append_assoc, subst, below_more, inl, inr}
+use Rattle.std.proofs.Common.{◌≡◌, ◌⊎◌, ℕ, zero, suc, ◌+◌, ◌<◌, ◌++◌, ◌∷◌, [], List, Option, map, length, slice_get, Some, None, sym, ap, refl, ◌∙◌, codes, append_assoc, subst, below_more, inl, inr}
 use Rattle.std.specs.Fmt.{decimal}
 use Rattle.std.specs.List.{AllByRecursion, AllZip, flat_map, zip}
 use Rattle.std.specs.Option.{option_map}
@@ -82,6 +82,24 @@ start_is plant n incarnation opening line is = by is.noted
         → (marks : List ℕ) × AreMarks plant marks × (line ≡ start_line marks plant n incarnation opening)
     by (inl own) = (own_marks plant, inl refl, start_noted (own_marks plant) plant n incarnation opening line own)
     by (inr bare) = ([], inr refl, start_noted [] plant n incarnation opening line bare)
+
+-- a line is a START where it is written with the digests, or without
+pub start_written : (plant : PlantValue) (n incarnation : ℕ) (opening : List (List Value)) (line : List ℕ) → n < length plant.resources → AreOpeningOf plant n opening
+    → codes "\n" ++ line ++ note_end ≡ start_note plant n incarnation opening → IsStart plant n incarnation opening line
+start_written plant n incarnation opening line exists opens is = record { exists = exists; opens = opens; noted = inl is }
+
+pub start_bare : (plant : PlantValue) (n incarnation : ℕ) (opening : List (List Value)) (line : List ℕ) → n < length plant.resources → AreOpeningOf plant n opening
+    → codes "\n" ++ line ++ note_end ≡ unmarked_start_note plant n incarnation opening → IsStart plant n incarnation opening line
+start_bare plant n incarnation opening line exists opens is = record { exists = exists; opens = opens; noted = inr is }
+
+pub start_else : (plant : PlantValue) (n incarnation : ℕ) (opening : List (List Value)) (line : List ℕ) → (codes "\n" ++ line ++ note_end ≡ start_note plant n incarnation opening → ⊥)
+    → IsStart plant n incarnation opening line → codes "\n" ++ line ++ note_end ≡ unmarked_start_note plant n incarnation opening
+start_else plant n incarnation opening line not is = by is.noted
+  where
+    by : (codes "\n" ++ line ++ note_end ≡ start_note plant n incarnation opening) ⊎ (codes "\n" ++ line ++ note_end ≡ unmarked_start_note plant n incarnation opening)
+        → codes "\n" ++ line ++ note_end ≡ unmarked_start_note plant n incarnation opening
+    by (inl own) = absurd (not own)
+    by (inr bare) = bare
 
 -- digests and what is kept begin with a blank, or are empty
 marked_stops : (plant : PlantValue) (marks kept : List ℕ) → AreMarks plant marks → StopsAt 32 (marks ++ keeps_text kept)

@@ -21,6 +21,7 @@ pub(crate) struct ForeignStart {
 }
 
 /// The incarnation that a START of a resource tells. Other lines may be read too.
+#[tactic(auto, using(crate::proofs::ForeignStarts::head_not_begun, crate::proofs::ForeignStarts::head_no_number, crate::proofs::ForeignStarts::head_number))]
 fn incarnation_in(line: &[u8], plant: &Plant, resource: usize) -> Option<u32>
     ensures { IsIncarnationRead plant.now resource line.now result }
 {
@@ -58,6 +59,7 @@ fn is_kept(text: &[u8]) -> bool
 }
 
 /// Whether a text is the digests of another plant, and what is kept.
+#[tactic(auto, using(crate::proofs::ForeignStarts::not_marked, crate::proofs::ForeignStarts::not_ended, crate::proofs::ForeignStarts::told_other))]
 fn tells_another(alloc: Global, plant: &Plant, text: &[u8]) -> Result<bool, AllocError>
     ensures { IfOk result (λ is. IsTrue is ↔ TellsAnother plant.now text.now) }
 {
@@ -72,6 +74,7 @@ fn tells_another(alloc: Global, plant: &Plant, text: &[u8]) -> Result<bool, Allo
 }
 
 /// In which incarnation a resource of this name started in another plant, where the line tells that.
+#[tactic(auto, using(crate::proofs::ForeignStarts::no_incarnation, crate::proofs::ForeignStarts::no_head, crate::proofs::ForeignStarts::no_other, crate::proofs::ForeignStarts::foreign_start))]
 fn foreign_start_of(
     alloc: Global,
     plant: &Plant,

@@ -61,6 +61,7 @@ fn read_freely(
 }
 
 /// Whether a line is the START of a resource in this incarnation, with these retained values.
+#[tactic(auto, using(crate::proofs::Starts::start_written, crate::proofs::Starts::start_bare, crate::proofs::Starts::start_else))]
 fn is_start(
     alloc: Global,
     plant: &Plant,

@@ -24,6 +24,7 @@ fn is_digest(word: &[u8]) -> bool
 }
 
 /// What stands behind the digest with which a text begins.
+#[tactic(auto, using(crate::proofs::ForeignStarts::digits_short, crate::proofs::ForeignStarts::digits_start, crate::proofs::ForeignStarts::digits_other))]
 fn behind_digest(text: &[u8]) -> Option<&[u8]>
     ensures { IsBehindDigest text.now (option_map (λ rest. rest.now) result) }
 {
@@ -39,6 +40,7 @@ fn behind_digest(text: &[u8]) -> Option<&[u8]>
 }
 
 /// What stands behind the digests with which a text begins.
+#[tactic(auto, using(crate::proofs::ForeignStarts::no_plant, crate::proofs::ForeignStarts::no_whole, crate::proofs::ForeignStarts::no_crosses, crate::proofs::ForeignStarts::both_passed))]
 pub(crate) fn behind_digests(text: &[u8]) -> Option<&[u8]>
     ensures { IsBehindDigests text.now (option_map (λ rest. rest.now) result) }
 {
@@ -55,6 +57,7 @@ pub(crate) fn behind_digests(text: &[u8]) -> Option<&[u8]>
 }
 
 /// What stands behind the plant's own digests; the text itself, where it doesn't begin with them.
+#[tactic(auto, using(crate::proofs::Starts::own_behind, crate::proofs::Starts::own_without))]
 pub(crate) fn behind_own<'a>(
     alloc: Global,
     plant: &Plant,
