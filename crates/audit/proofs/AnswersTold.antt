@@ -12,7 +12,7 @@ use Rattle.live_node.specs.declared.node_line.NodeLine.{NodeLine}
 use Rattle.live_node.specs.declared.node_line.NodeLine.TheVariants as asked
 use Rattle.live_node.specs.NodeAnswers.{Raising, AnswersAsked, DoesHello, DoesMessage, IsAsking}
 use Rattle.live_node.specs.NodeJournal.{note_end, line_note, restart_note}
-use Rattle.live_node.specs.NodeLines.{Spells, node_text, SpellsHello}
+use Rattle.live_node.specs.NodeLines.{Spells, node_text, SpellsOwnHello}
 use Rattle.live_node.specs.NodeValue.{NodeValue}
 use Rattle.audit.specs.declared.item.Item.TheVariants.{Restart, Message, Hello, Evaluate}
 use Rattle.audit.specs.OneTelling.{HasTold, AnswersAreTold}
@@ -46,7 +46,7 @@ module _ (raising : Raising) (old new : NodeValue) (line note text : List ℕ) w
         comes = (old, true, refl, done.0);
         told = λ front is plain. (
           exists,
-          (subst (λ l. SpellsHello old.core.plant of incarnation (words_of l)) (noted_text line note front done.1 is plain) read, whole_note front plain),
+          (subst (λ l. SpellsOwnHello old.core.plant of incarnation (words_of l)) (noted_text line note front done.1 is plain) read, whole_note front plain),
         );
       })
   hello_told of incarnation read exists false done = inl (done.2, done.1)
@@ -74,6 +74,7 @@ module _ (raising : Raising) (old new : NodeValue) (line note text : List ℕ) w
   asked_told (Some (asked.Take m)) read (inr refused) = inl (refused.1.unnoted, refused.1.same)
   asked_told (Some (asked.Hello of incarnation)) read (inl h) = hello_told of incarnation read h.unrefused.0 h.newer h.done
   asked_told (Some (asked.Hello of incarnation)) read (inr refused) = inl (refused.2.unnoted, refused.2.same)
+  asked_told (Some asked.Foreign) read refused = inl (refused.unnoted, refused.same)
   asked_told (Some (asked.Restart n)) read (inl done) =
       inr (record {
         item = Restart done.incarnation;

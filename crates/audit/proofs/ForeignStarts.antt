@@ -40,7 +40,7 @@ digits_other text start first not = λ digits rest is e.
     let many = digits_many digits is in
     let same : start ≡ digits = first ∙ ap (take 64) e ∙ ap (λ n. take n (digits ++ rest)) (sym many) ∙ take-append_seam digits rest in
     let both : true ≡ false = sym is ∙ ap is_digest (sym same) ∙ not in
-    absurd cc
+    cc (both)
 
 -- the two digests, part by part
 marks_parted : (whole crossing rest : List ℕ) → marks_text whole crossing ++ rest ≡ codes " PLANT " ++ (whole ++ (codes " CROSSES " ++ (crossing ++ rest)))

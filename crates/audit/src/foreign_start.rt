@@ -102,6 +102,7 @@ fn foreign_start_of(
 }
 
 /// The START of a resource of a name in the plant, in another plant, that a line is. `line` is without its `;`.
+#[tactic(auto, using(crate::proofs::ForeignStarts::no_foreign_more))]
 pub(crate) fn read_foreign_start(
     alloc: Global,
     plant: &Plant,
