@@ -62,6 +62,7 @@ later_high was is_now s item i further (inr (above, left, many)) = inr (above, l
 
 later_stop : (old new : AuditedBook) (s : StationValue) (item : Item) (why : Reason) → IsFurther old new → IsStop old s item why → IsStop new s item why
 later_stop old new s item reason.Syntax is h = h
+later_stop old new s item (reason.OtherPlant i) is h = h
 later_stop old new s item (reason.NotRisen i) is h = h
 later_stop old new s item (reason.TooHigh i) is h = (h.0, later_high (sum old.skips) (sum new.skips) s item i is.more h.1)
 later_stop old new s item reason.Kept is h = h

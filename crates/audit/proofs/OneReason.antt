@@ -27,6 +27,7 @@ use Rattle.audit.specs.OneReason.{OneReason, AreMisfits}
 -- to which lines a reason belongs
 abbrev group : Reason → ℕ
 group reason.Syntax = 2
+group (reason.OtherPlant i) = 3
 group (reason.NotRisen i) = 0
 group (reason.TooHigh i) = 0
 group reason.Kept = 0
@@ -42,7 +43,7 @@ kind (Restart incarnation) = 0
 kind (Message m) = 1
 kind (Hello of incarnation) = 1
 kind (Evaluate task dt inputs) = 2
-kind (Foreign incarnation) = 2
+kind (Foreign incarnation) = 3
 kind Faulty = 2
 
 begun_kind : (i : ℕ) (item : Item) → begins i item ≡ true → kind item ≡ 0
@@ -61,6 +62,7 @@ needed_kind book all s item (Incarnation n i) h = ap kind h.0.0
 grouped : (book : BookValue) (all : List Course) (s : StationValue) (item : Item) (why : Reason) → IsReason book all s item why → kind item ≡ group why
 grouped book all s item reason.Syntax (inl h) = ap kind h
 grouped book all s item reason.Syntax (inr h) = ap kind h.3
+grouped book all s item (reason.OtherPlant i) h = ap kind h
 grouped book all s item (reason.NotRisen i) h = begun_kind i item h.0
 grouped book all s item (reason.TooHigh i) h = begun_kind i item h.0
 grouped book all s item reason.Kept h = ap kind h.2
@@ -138,6 +140,9 @@ one book all s item reason.Syntax reason.Syntax a b = inl refl
 one book all s item reason.Syntax (reason.Misfit y) a b = absurd (no_line_unfit book s item y a b)
 one book all s item (reason.Misfit x) reason.Syntax a b = absurd (no_line_unfit book s item x b a)
 one book all s item (reason.Misfit x) (reason.Misfit y) a b = inr (x, y, refl, refl)
+one book all s item (reason.OtherPlant i) (reason.OtherPlant j) a b =
+    let same : Foreign i ≡ Foreign j = sym a ∙ b in
+    inl (let e = same in cc)
 one book all s item (reason.NotRisen i) (reason.NotRisen j) a b = inl (ap reason.NotRisen (one_begun i j item a.0 b.0))
 one book all s item (reason.NotRisen i) (reason.TooHigh j) a b = absurd (omega (arith, one_begun i j item a.0 b.0, a.1, high_above _ s item j b.1))
 one book all s item (reason.NotRisen i) reason.Kept a b = absurd (omega (arith, a.1, (above_not s item i a.0 b).0))

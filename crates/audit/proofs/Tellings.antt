@@ -74,6 +74,7 @@ needs_so b fs s item (Incarnation n i) stand would unmet = (would, not_in b fs n
 -- a need that isn't met is the reason
 reason_for : (book : BookValue) (all : List Course) (s : StationValue) (item : Item) (need : Need) (why : Reason) → IsReasonFor (maker_in all need) need why → Needs book all s item need → IsReason book all s item why
 reason_for book all s item need reason.Syntax is h = absurd is
+reason_for book all s item need (reason.OtherPlant i) is h = absurd is
 reason_for book all s item need (reason.NotRisen i) is h = absurd is
 reason_for book all s item need (reason.TooHigh i) is h = absurd is
 reason_for book all s item need reason.Kept is h = absurd is
@@ -89,6 +90,7 @@ reason_for book all s item need (reason.Misfit misfit) is h = absurd is
 -- a line that can't be done, whatever others do
 stop_reason : (b : AuditedBook) (all : List Course) (s : StationValue) (item : Item) (why : Reason) → sum b.skips ≡ skipped_in (map (λ (c : Course). c.journal) all) → IsStop b s item why → IsReason b.book all s item why
 stop_reason b all s item reason.Syntax skips h = h
+stop_reason b all s item (reason.OtherPlant i) skips h = h
 stop_reason b all s item (reason.NotRisen i) skips h = h
 stop_reason b all s item (reason.TooHigh i) skips h = (h.0, subst (λ n. IsTooHigh n s item i) skips h.1)
 stop_reason b all s item reason.Kept skips h = h

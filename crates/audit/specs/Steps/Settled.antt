@@ -59,6 +59,7 @@ maker_of (Incarnation n i) = n
 -- why a need isn't met
 abbrev pub IsReasonFor : Option Course → Need → Reason → Type 0
 IsReasonFor maker need reason.Syntax = ⊥
+IsReasonFor maker need (reason.OtherPlant i) = ⊥
 IsReasonFor maker need (reason.NotRisen i) = ⊥
 IsReasonFor maker need (reason.TooHigh i) = ⊥
 IsReasonFor maker need reason.Kept = ⊥
