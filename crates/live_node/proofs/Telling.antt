@@ -226,6 +226,16 @@ idle_answer raising s line noted out idle = record {
   written = sym (append-nil out);
 }
 
+-- a hello of another plant is refused
+pub foreign_answer : (raising : Raising) (s : NodeValue) (line : List ℕ) (noted : Option (List ℕ)) (out_old out_new : List ℕ) → Spells s.core.plant Foreign line → out_new ≡ out_old ++ refused_line OtherPlant → IsAnswered raising s s line noted noted out_old out_new
+foreign_answer raising s line noted out_old out_new read is = record {
+  note = [];
+  text = refused_line OtherPlant;
+  answers = record { asked = Some Foreign; read = read; answered = record { same = refl; unnoted = refl; text_is = refl } };
+  noted = Appends-nil noted;
+  written = is;
+}
+
 -- a line that asks what was answered
 pub line_answered : (raising : Raising) (old new : NodeValue) (line : List ℕ) (asked : NodeLine) (noted_old noted_new : Option (List ℕ)) (out_old out_new : List ℕ) → Spells old.core.plant asked line → IsAnsweredBy raising old new line (Some asked) noted_old noted_new out_old out_new
     → IsAnswered raising old new line noted_old noted_new out_old out_new

@@ -473,7 +473,7 @@ impl<K: Keeper, N: Notes> Node<K, N> {
     }
 
     /// Does a line, without its line feed: notes it, does it, keeps what it left, and writes its answer behind what is there, which may be told once its note is on the disk. A line that is refused, a message that isn't taken, a hello that is no news, a blank line and a comment change nothing, and aren't noted. After a stop there is no answer, and the node is at its end: a line `EVAL` is noted whole, on the disk, where the keeper can't keep what it left, else no more than a beginning of the line's note.
-    #[tactic(auto, using(crate::proofs::Telling::idle_answer, crate::proofs::Telling::line_answered, crate::proofs::Syncing::same_first))]
+    #[tactic(auto, using(crate::proofs::Telling::idle_answer, crate::proofs::Telling::foreign_answer, crate::proofs::Telling::line_answered, crate::proofs::Syncing::same_first))]
     pub fn do_line(&mut self, line: &[u8], out: &mut String) -> Result<(), NodeStop>
         requires few { self.old.state.lines < 18446744073709551615 }
         requires kept { K.last self.old.keeper ≡ self.old.state.core.incarnation }
