@@ -5,7 +5,7 @@ ghost use Rattle.std.specs.Prelude.{None as Unknown};
 use crate::journal_files::JournalFiles;
 use crate::last_file::LastFile;
 use journal_rows::{digest_more, is_further};
-use live_node::{FileNotes, JournalFault, NoteFault, Notes};
+use live_node::{FileNotes, JournalFault, NoteFault, Notes, SystemFile};
 use std::alloc::{AllocError, Global};
 use std::fs::{File, OpenFile, OpenOptions};
 use std::io::{ErrorKind, Read, Write};
@@ -61,8 +61,8 @@ pub struct FileRow<R: Files<File = File> + Alloc<A = Global> + Clone + Drop> {
     rt: R,
     path: String,
     /// The first file, whose lock is kept, where it is there and another one is the last.
-    first: Option<FileNotes>,
-    notes: FileNotes,
+    first: Option<SystemFile>,
+    notes: FileNotes<SystemFile>,
 }
 
 /// The folder of a path, and the name there.
@@ -257,11 +257,11 @@ fn make_file<R: Files>(rt: &R, path: &str, beside: &str, bytes: &[u8]) -> io::Re
 pub fn open_single<R: Files<File = File> + Alloc<A = Global> + Clone + Drop>(
     rt: &R,
     path: &str,
-) -> Result<FileNotes, RowFault> {
+) -> Result<FileNotes<SystemFile>, RowFault> {
     if !is_there(rt, path)? && has_further(rt, path)? {
         return Err(RowFault::Further);
     }
-    let notes = FileNotes::open(rt, path)?;
+    let notes = FileNotes::new(SystemFile::open(rt, path)?);
     if has_further(rt, path)? {
         return Err(RowFault::Further);
     }
@@ -273,11 +273,11 @@ fn lock_first<R: Files<File = File>>(
     rt: &R,
     path: &str,
     number: u64,
-) -> Result<Option<FileNotes>, RowFault> {
+) -> Result<Option<SystemFile>, RowFault> {
     if number == 0 || !is_there(rt, path)? {
         return Ok(None);
     }
-    Ok(Some(FileNotes::open(rt, path)?))
+    Ok(Some(SystemFile::open(rt, path)?))
 }
 
 impl<R: Files<File = File> + Alloc<A = Global> + Clone + Drop> FileRow<R> {
@@ -290,7 +290,7 @@ impl<R: Files<File = File> + Alloc<A = Global> + Clone + Drop> FileRow<R> {
         if number > 0 && !begins_as_further(&rt, last_path.as_str())? {
             return Err(RowFault::NotFurther);
         }
-        let notes = FileNotes::open(&rt, last_path.as_str())?;
+        let notes = FileNotes::new(SystemFile::open(&rt, last_path.as_str())?);
         // Another node may have gone on meanwhile.
         if last_number(&rt, path)? != number {
             return Err(RowFault::Journal(JournalFault::InUse));
@@ -307,12 +307,12 @@ impl<R: Files<File = File> + Alloc<A = Global> + Clone + Drop> FileRow<R> {
     }
 
     /// Makes the file of this number, which holds this line, and opens it.
-    fn begin(&self, number: u64, line: &[u8]) -> Result<FileNotes, RowFault> {
+    fn begin(&self, number: u64, line: &[u8]) -> Result<FileNotes<SystemFile>, RowFault> {
         let alloc = self.rt.alloc();
         let path = path_of(alloc, self.path.as_str(), number)?;
         let beside = format!(in alloc; "{path}.tmp")?;
         make_file(&self.rt, path.as_str(), beside.as_str(), line)?;
-        Ok(FileNotes::open(&self.rt, path.as_str())?)
+        Ok(FileNotes::new(SystemFile::open(&self.rt, path.as_str())?))
     }
 }
 

@@ -9,3 +9,4 @@ pub mod LineTaking
 pub mod Keeping
 pub mod Sent
 pub mod Together
+pub mod Synced

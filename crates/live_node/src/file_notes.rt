@@ -1,26 +1,8 @@
-ghost use Rattle.std.specs.Prelude.{None};
+ghost use Rattle.live_node.specs.Steps.Synced.{IsSynced};
 
+use crate::note_file::NoteFile;
 use crate::notes::{NoteFault, Notes};
-use std::fs::{File, OpenOptions, TryLockError};
-use std::io::Write;
-use std::os::unix::fs::OpenOptionsExt;
-use std::rt::Files;
-use std::{fs, io};
-use thiserror::Error;
-
-/// Why a journal isn't opened.
-#[derive(Clone, Copy, Debug, PartialEq, Eq, Error)]
-pub enum JournalFault {
-    /// The file can't be opened, made, or kept with its folder, or a link stands in its place.
-    #[error("this journal can't be opened")]
-    Unopened,
-    /// Another program has it.
-    #[error("another node uses this journal")]
-    InUse,
-    /// The system has no lock for it.
-    #[error("this journal can't be locked")]
-    NoLock,
-}
+use std::marker::Model;
 
 /// What of the notes is on the disk.
 #[derive(Clone, Copy)]
@@ -33,87 +15,66 @@ enum Synced {
     Unknown,
 }
 
-/// Notes to the end of a file of the system, which no other program that locks it uses meanwhile.
+/// Notes to the end of a file. After a fault of the disk nothing is brought to it any more.
 #[derive(Drop)]
-pub struct FileNotes {
-    file: File,
+pub struct FileNotes<F: NoteFile> {
+    file: F,
     synced: Synced,
 }
 
-/// Whether a symbolic link stands at a path.
-fn is_link<R: Files>(rt: &R, path: &str) -> bool {
-    match fs::symlink_metadata(rt, path) {
-        Ok(found) => found.is_symlink(),
-        Err(_) => false,
-    }
+impl<F: NoteFile> Model for FileNotes<F> {
+    ghost Value = { F };
+
+    ghost view = { λ n. n.file };
+
+    ghost invariant = { λ n. IsSynced (F.holds n.file) (F.kept n.file) (F.is_sound n.file) n.synced };
 }
 
-/// The folder of a path.
-fn folder_of(path: &str) -> &str {
-    match path.rsplit_once('/') {
-        Some(("", _)) => "/",
-        Some((folder, _)) => folder,
-        None => ".",
-    }
-}
+impl<F: NoteFile> FileNotes<F> {
+    ghost use Rattle.std.specs.Prelude.{◌≡◌, OnOk};
+    ghost use Rattle.live_node.specs.Syncing.{Grows};
 
-/// Opens a file to append to it, which is made where there is none, for its owner alone. It is kept in its folder, whatever
-/// becomes of the program; so is one that an earlier program made, and perhaps didn't live to keep.
-fn open_to_append<R: Files<File = File>>(rt: &R, path: &str) -> io::Result<File> {
-    let mut options = OpenOptions::new();
-    options.append(true).create(true).mode(0o600);
-    let file = options.open(rt, path)?;
-    fs::open(rt, folder_of(path))?.sync_all()?;
-    Ok(file)
-}
-
-impl FileNotes {
-    /// The file of this path, which is made where there is none. A link isn't followed.
-    pub fn open<R: Files<File = File>>(rt: &R, path: &str) -> Result<FileNotes, JournalFault> {
-        if is_link(rt, path) {
-            return Err(JournalFault::Unopened);
-        }
-        let Ok(file) = open_to_append(rt, path) else {
-            return Err(JournalFault::Unopened);
-        };
-        match file.try_lock() {
-            Ok(()) => Ok(FileNotes {
-                file,
-                synced: Synced::Less,
-            }),
-            Err(TryLockError::WouldBlock) => Err(JournalFault::InUse),
-            Err(TryLockError::Error(_)) => Err(JournalFault::NoLock),
+    /// Notes to the end of this file, which no sync has failed yet.
+    pub fn new(file: F) -> FileNotes<F>
+        requires { F.is_sound file }
+        ensures { result ≡ file }
+    {
+        FileNotes {
+            file,
+            synced: Synced::Less,
         }
     }
 
     /// Brings the file to the disk. After a fault it isn't tried again.
-    fn sync_file(&mut self) -> Result<(), NoteFault> {
-        match self.file.sync_all() {
+    fn sync_file(&mut self) -> Result<(), NoteFault>
+        requires { F.is_sound self.old }
+        ensures noted { F.holds self.new ≡ F.holds self.old }
+        ensures synced { OnOk result (F.kept self.new ≡ F.holds self.new) }
+        ensures stays { Grows (F.kept self.old) (F.kept self.new) }
+    {
+        match self.file.sync() {
             Ok(()) => {
                 self.synced = Synced::All;
                 Ok(())
             }
-            Err(_) => {
+            Err(fault) => {
                 self.synced = Synced::Unknown;
-                Err(NoteFault)
+                Err(fault)
             }
         }
     }
 }
 
-impl Notes for FileNotes {
-    ghost noted = { λ _. None };
+impl<F: NoteFile> Notes for FileNotes<F> {
+    ghost noted = { F.holds };
 
-    ghost synced = { λ _. None };
+    ghost synced = { F.kept };
 
     fn note(&mut self, bytes: &[u8]) -> Result<(), NoteFault> {
         if let Synced::All = self.synced {
             self.synced = Synced::Less;
         }
-        match self.file.write_all(bytes) {
-            Ok(()) => Ok(()),
-            Err(_) => Err(NoteFault),
-        }
+        self.file.append(bytes)
     }
 
     fn sync(&mut self) -> Result<(), NoteFault> {
