@@ -33,9 +33,13 @@ abbrev pub left_of : List Place → ℕ
 left_of [] = 0
 left_of (p ∷ more) = p.column
 
--- the left rail stands directly on the left of a place
+-- a place stands directly on the left of another one
+abbrev pub is_beside : Place → ℕ → ℕ → Bool
+is_beside p row column = p.row == row && p.column + 1 == column
+
+-- the left rail does
 abbrev pub is_railed : List Place → ℕ → ℕ → Bool
-is_railed rails row column = list_any (λ p. p.row == row && p.column + 1 == column) rails
+is_railed rails row column = list_any (λ p. is_beside p row column) rails
 
 -- ` 1 4`: a place, its row counted from a network's topmost one, its column from the left rail; and ` RAIL` beside that
 abbrev pub place_text : List Place → ℕ → ℕ → ℕ → List ℕ

@@ -5,7 +5,7 @@ ghost use Rattle.std.specs.List.{flat_map};
 ghost use Rattle.std.specs.Char.{to_ascii_uppercase};
 ghost use Rattle.text_lines.specs.Growing.{GrowsBy};
 ghost use Rattle.network.specs.GraphValue.{diagram};
-ghost use Rattle.plant_digest.specs.DrawnLines.{block_text, box_lines, coil_sign, contact_sign, element_lines, folded, is_railed, left_of, network_lines, operand_text, pin_line, place_text, side_column, side_text, top_of};
+ghost use Rattle.plant_digest.specs.DrawnLines.{block_text, box_lines, coil_sign, contact_sign, element_lines, folded, is_beside, is_railed, left_of, network_lines, operand_text, pin_line, place_text, side_column, side_text, top_of};
 
 use drawings::{CoilKind, ContactKind, DrawnBox, DrawnPin, Operand, Place, Side};
 use network::Element;
@@ -42,11 +42,19 @@ fn left_of(rails: &[Place]) -> usize
     }
 }
 
+/// Whether a place stands directly on the left of another one.
+#[tactic(auto, using(crate::proofs::Columns::beside, crate::proofs::Columns::not_beside))]
+fn is_beside(left: Place, row: usize, column: usize) -> bool
+    ensures { result ≡ is_beside left row column }
+{
+    left.row == row && left.column < column && column - left.column == 1
+}
+
 /// Whether the left rail stands directly on the left of a place.
 fn is_railed(rails: &[Place], row: usize, column: usize) -> bool
     ensures { result ≡ is_railed rails.now row column }
 {
-    rails.iter().any(|rail| rail.row == row && rail.column < column && column - rail.column == 1)
+    rails.iter().any(|rail| is_beside(*rail, row, column))
 }
 
 /// Writes a place, as ` 1 4` or ` 1 1 RAIL`, behind a text.
