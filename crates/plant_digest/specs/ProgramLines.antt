@@ -1,12 +1,14 @@
 -- The program instances of a task: what is declared, what fills the inputs, and what is drawn.
-use Rattle.std.specs.Prelude.{ℕ, ◌==◌, ◌++◌, List, [], Option, Some, None, codes, length, slice_get, if◌then◌else◌}
+use Rattle.std.specs.Prelude.{ℕ, ◌==◌, ◌++◌, Bool, List, [], Option, Some, None, codes, length, slice_get, if◌then◌else◌}
 use Rattle.std.specs.Fmt.{decimal}
-use Rattle.std.specs.List.{find, flat_map, list_any}
+use Rattle.std.specs.List.{find, list_any}
 use Rattle.words.specs.declared.address.Space.{Space}
 use Rattle.words.specs.declared.address.Space.TheVariants.{Bit, Word}
 use Rattle.declared_names.specs.declared.declarations.Declaration.{Declaration}
 use Rattle.declared_names.specs.declared.declarations.Declared.{Declared}
 use Rattle.declared_names.specs.declared.declarations.Declared.TheVariants.{Input, Output, Local, Instance}
+use Rattle.network.specs.Links.{Diagram}
+use Rattle.power_flow.specs.LadderValue.{LadderValue}
 use Rattle.task_codes.specs.declared.binding.Binding.{Binding}
 use Rattle.task_codes.specs.declared.binding.Source.{Source}
 use Rattle.task_codes.specs.declared.binding.Source.TheVariants.{Field, Given}
@@ -52,9 +54,13 @@ bound_text plant code (Some b) = codes " " ++ source_text plant code b.source
 abbrev pub binding_of : List Binding → ℕ → Option Binding
 binding_of bs place = find (λ b. b.place == place) bs
 
--- ` RETAIN`, if the place is one of a retained variable
+-- the place is one of a retained variable
+abbrev pub is_retained : List ℕ → ℕ → Bool
+is_retained retained place = list_any (λ r. r == place) retained
+
+-- ` RETAIN`, if it is
 abbrev pub retain_text : List ℕ → ℕ → List ℕ
-retain_text retained place = if list_any (λ r. r == place) retained then codes " RETAIN" else []
+retain_text retained place = if is_retained retained place then codes " RETAIN" else []
 
 abbrev pub declared_text : Declared → List ℕ
 declared_text (Input k) = codes "INPUT"
@@ -79,12 +85,19 @@ abbrev pub variable_at : PlantValue → CodeValue → ℕ → ProgramValue → �
 variable_at plant code i p place =
     variable_line plant code (bindings_at code i) p.retained place (slice_get p.ladder.declarations place)
 
--- `PROGRAM A`, its variables in order of declaration, and its networks
+abbrev pub network_of : Option Diagram → List ℕ
+network_of None = []
+network_of (Some d) = network_lines d
+
+abbrev pub network_at : LadderValue → ℕ → List ℕ
+network_at ladder k = network_of (slice_get ladder.networks k)
+
+-- `PROGRAM A`, its variables in order of declaration, and its networks in order
 abbrev pub program_lines : PlantValue → CodeValue → ℕ → Option ProgramValue → List ℕ
 program_lines plant code i None = []
 program_lines plant code i (Some p) =
     codes "PROGRAM " ++ p.name ++ codes "\n" ++ below (variable_at plant code i p) (length p.ladder.declarations)
-    ++ flat_map network_lines p.ladder.networks
+    ++ below (network_at p.ladder) (length p.ladder.networks)
 
 abbrev pub program_at : PlantValue → CodeValue → ℕ → List ℕ
 program_at plant code i = program_lines plant code i (slice_get code.programs i)

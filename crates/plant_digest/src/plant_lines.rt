@@ -7,24 +7,32 @@ ghost use Rattle.plant_digest.specs.PlantLines.{plant_text, resource_lines, task
 ghost use Rattle.plant_digest.specs.ProgramLines.{programs_of};
 
 use crate::program_lines::push_programs;
-use plant::Plant;
+use plant::{Plant, Task};
 use std::alloc::{AllocError, Global};
 use std::fmt::Write;
 use task_codes::TaskRef;
 use text_lines::push_resource;
 
-/// Writes a task's name, its interval and its priority, as `TASK FAST 10 1`, behind a text; nothing where there is no such
-/// task.
+/// Writes a task's name, its interval and its priority, as `TASK FAST 10 1`, behind a text.
+fn push_found(text: &mut String, task: &Task) -> Result<(), AllocError>
+    ensures { OnOk result (GrowsBy text.old text.new (task_line (Some task.now))) }
+{
+    let interval = task.interval();
+    let priority = task.priority();
+    text.push_str("TASK ")?;
+    text.push_str(task.name())?;
+    write!(text, " {interval} {priority}")?;
+    text.push_str("\n")
+}
+
+/// Writes the line of a task behind a text; nothing where there is no such task.
 fn push_task_line(text: &mut String, plant: &Plant, task: TaskRef) -> Result<(), AllocError>
     ensures { OnOk result (GrowsBy text.old text.new (task_line (slice_get (tasks_at plant.now task.resource) task.task))) }
 {
-    let Some(found) = plant.tasks(task.resource).get(task.task) else {
-        return Ok(());
-    };
-    let name = found.name();
-    let interval = found.interval();
-    let priority = found.priority();
-    write!(text, "TASK {name} {interval} {priority}\n")
+    match plant.tasks(task.resource).get(task.task) {
+        Some(found) => push_found(text, found),
+        None => Ok(()),
+    }
 }
 
 /// Writes the program instances of a task behind a text; nothing where there is no such task.

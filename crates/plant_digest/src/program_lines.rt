@@ -1,14 +1,12 @@
 //! The program instances of a task, line by line.
 
 ghost use Rattle.std.specs.Prelude.{◌≡◌, OnOk, Some, length, slice_get};
-ghost use Rattle.std.specs.List.{flat_map};
 ghost use Rattle.std.specs.Option.{option_copied};
 ghost use Rattle.text_lines.specs.Growing.{GrowsBy};
 ghost use Rattle.task_codes.specs.CodeValue.{ProgramValue};
 ghost use Rattle.plant.specs.PlantValue.{code_at};
 ghost use Rattle.crossings.specs.Crossings.{below};
-ghost use Rattle.plant_digest.specs.DrawnLines.{network_lines};
-ghost use Rattle.plant_digest.specs.ProgramLines.{binding_of, bound_text, declared_text, origin_text, output_of, program_at, programs_of, retain_text, source_text, space_text, type_text, variable_at, variable_line};
+ghost use Rattle.plant_digest.specs.ProgramLines.{binding_of, bound_text, declared_text, is_retained, network_at, origin_text, output_of, program_at, programs_of, retain_text, source_text, space_text, type_text, variable_at, variable_line};
 
 use crate::drawn_lines::{block_text, push_network};
 use crossings::kind_text;
@@ -41,6 +39,20 @@ fn push_output_of(
     text.push_str(variable)
 }
 
+/// Writes an output of a task with its resource, as `R1.A.N`, behind a text.
+fn push_whole_output(
+    text: &mut String,
+    plant: &Plant,
+    task: TaskRef,
+    output: usize,
+) -> Result<(), AllocError>
+    ensures { OnOk result (GrowsBy text.old text.new (origin_text plant.now (Some task) output)) }
+{
+    push_resource(text, plant, task.resource)?;
+    text.push_str(".")?;
+    push_output_of(text, plant, task, output)
+}
+
 /// Writes an output of a producer of a code, as `R1.A.N`, behind a text; nothing where there is no such producer.
 fn push_origin(
     text: &mut String,
@@ -51,12 +63,10 @@ fn push_origin(
 ) -> Result<(), AllocError>
     ensures { OnOk result (GrowsBy text.old text.new (origin_text plant.now (slice_get code.now.producers producer) output)) }
 {
-    let Some(task) = code.producers().get(producer).copied() else {
-        return Ok(());
-    };
-    push_resource(text, plant, task.resource)?;
-    text.push_str(".")?;
-    push_output_of(text, plant, task, output)
+    match code.producers().get(producer) {
+        Some(task) => push_whole_output(text, plant, *task, output),
+        None => Ok(()),
+    }
 }
 
 fn space_text(space: Space) -> &'static str
@@ -111,11 +121,18 @@ fn push_bound(
     push_source(text, plant, code, binding.source)
 }
 
+/// Whether the variable at a place is retained.
+fn is_retained(retained: &[usize], place: usize) -> bool
+    ensures { result ≡ is_retained retained.now place }
+{
+    retained.iter().any(|kept| *kept == place)
+}
+
 /// Writes ` RETAIN` behind a text, if the variable at a place is retained.
 fn push_retain(text: &mut String, retained: &[usize], place: usize) -> Result<(), AllocError>
     ensures { OnOk result (GrowsBy text.old text.new (retain_text retained.now place)) }
 {
-    if retained.iter().any(|kept| *kept == place) {
+    if is_retained(retained, place) {
         text.push_str(" RETAIN")?;
     }
     Ok(())
@@ -184,14 +201,22 @@ fn push_variables(
     Ok(())
 }
 
+/// Writes a network of a ladder behind a text; nothing where there is none.
+fn push_network_at(text: &mut String, ladder: &Ladder, network: usize) -> Result<(), AllocError>
+    ensures { OnOk result (GrowsBy text.old text.new (network_at ladder.now network)) }
+{
+    match ladder.elements(network) {
+        Some(elements) => push_network(text, ladder.rails(), elements),
+        None => Ok(()),
+    }
+}
+
 /// Writes the networks of a ladder behind a text.
 fn push_networks(text: &mut String, ladder: &Ladder) -> Result<(), AllocError>
-    ensures { OnOk result (GrowsBy text.old text.new (flat_map network_lines ladder.now.networks)) }
+    ensures { OnOk result (GrowsBy text.old text.new (below (network_at ladder.now) (length ladder.now.networks))) }
 {
     for network in 0..ladder.networks() {
-        if let Some(elements) = ladder.elements(network) {
-            push_network(text, ladder.rails(), elements)?;
-        }
+        push_network_at(text, ladder, network)?;
     }
     Ok(())
 }
