@@ -94,14 +94,13 @@ pin_line rails top b pin =
 abbrev pub corners_text : List Place → ℕ → DrawnBox → List ℕ
 corners_text rails top b = codes "BOX" ++ place_text rails top b.top b.left ++ place_text rails top b.bottom b.right
 
--- `BOX 0 3 4 11 CTU C1`: its type and its name too
-abbrev pub box_line : List Place → ℕ → DrawnBox → List ℕ
-box_line rails top b =
-    corners_text rails top b ++ codes " " ++ block_text b.block ++ codes " " ++ folded b.instance ++ codes "\n"
+-- ` CTU C1`, and a line feed: its type and its name
+abbrev pub titled : DrawnBox → List ℕ
+titled b = codes " " ++ block_text b.block ++ codes " " ++ folded b.instance ++ codes "\n"
 
--- a box and its pins
+-- `BOX 0 3 4 11 CTU C1`, and its pins
 abbrev pub box_lines : List Place → ℕ → DrawnBox → List ℕ
-box_lines rails top b = box_line rails top b ++ flat_map (pin_line rails top b) b.pins
+box_lines rails top b = corners_text rails top b ++ titled b ++ flat_map (pin_line rails top b) b.pins
 
 -- `- 1 1 RAIL`, `|P| 1 3 GO`, `(S) 1 7 RUN`: an element
 abbrev pub element_lines : List Place → ℕ → Element → List ℕ

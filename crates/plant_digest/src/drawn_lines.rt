@@ -5,7 +5,7 @@ ghost use Rattle.std.specs.List.{flat_map};
 ghost use Rattle.std.specs.Char.{to_ascii_uppercase};
 ghost use Rattle.text_lines.specs.Growing.{GrowsBy};
 ghost use Rattle.network.specs.GraphValue.{diagram};
-ghost use Rattle.plant_digest.specs.DrawnLines.{block_text, box_line, box_lines, coil_sign, contact_sign, corners_text, element_lines, folded, is_beside, is_railed, left_of, network_lines, operand_text, pin_line, place_text, side_column, side_text, top_of};
+ghost use Rattle.plant_digest.specs.DrawnLines.{block_text, box_lines, coil_sign, contact_sign, corners_text, element_lines, folded, is_beside, is_railed, left_of, network_lines, operand_text, pin_line, place_text, side_column, side_text, titled, top_of};
 
 use drawings::{CoilKind, ContactKind, DrawnBox, DrawnPin, Operand, Place, Side};
 use network::Element;
@@ -227,16 +227,10 @@ fn push_corners(
     push_place(text, rails, top, drawn.bottom, drawn.right)
 }
 
-/// Writes the line of a box behind a text.
-fn push_box_line(
-    text: &mut String,
-    rails: &[Place],
-    top: usize,
-    drawn: &DrawnBox,
-) -> Result<(), AllocError>
-    ensures { OnOk result (GrowsBy text.old text.new (box_line rails.now top drawn.now)) }
+/// Writes a box's type and its name behind a text.
+fn push_title(text: &mut String, drawn: &DrawnBox) -> Result<(), AllocError>
+    ensures { OnOk result (GrowsBy text.old text.new (titled drawn.now)) }
 {
-    push_corners(text, rails, top, drawn)?;
     text.push_str(" ")?;
     text.push_str(block_text(drawn.block))?;
     text.push_str(" ")?;
@@ -253,7 +247,8 @@ fn push_box(
 ) -> Result<(), AllocError>
     ensures { OnOk result (GrowsBy text.old text.new (box_lines rails.now top drawn.now)) }
 {
-    push_box_line(text, rails, top, drawn)?;
+    push_corners(text, rails, top, drawn)?;
+    push_title(text, drawn)?;
     push_pins(text, rails, top, drawn)
 }
 
