@@ -26,12 +26,14 @@ no_hello_of plant words not_three not_four = record { no_own = own words not_thr
     marked IsSo (a ∷ b ∷ c ∷ []) not of incarnation h = h
     marked IsSo (a ∷ b ∷ c ∷ d ∷ []) not of incarnation h = not refl
     marked IsSo (a ∷ b ∷ c ∷ d ∷ e ∷ more) not of incarnation h = h
+
     plain : (ws : List (List ℕ)) → (length ws ≡ 3 → ⊥) → (of incarnation : ℕ) → SpellsHello plant of incarnation ws → ⊥
     plain [] not of incarnation h = h
     plain (a ∷ []) not of incarnation h = h
     plain (a ∷ b ∷ []) not of incarnation h = h
     plain (a ∷ b ∷ c ∷ []) not of incarnation h = not refl
     plain (a ∷ b ∷ c ∷ d ∷ more) not of incarnation h = h
+
     own : (ws : List (List ℕ)) → (length ws ≡ 3 → ⊥) → (length ws ≡ 4 → ⊥) → (of incarnation : ℕ) → SpellsOwnHello plant of incarnation ws → ⊥
     own ws not_three not_four of incarnation (inl h) = plain ws not_three of incarnation h
     own ws not_three not_four of incarnation (inr h) = marked (IsOwnMark plant) ws not_four of incarnation h

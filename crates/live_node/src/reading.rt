@@ -16,12 +16,7 @@ use words::number_up_to;
 use world::{Event, LineFault, is_idle, read_event, resource_of, without_last};
 
 /// The resource and the incarnation that the three words of a hello spell.
-fn read_hello(
-    plant: &Plant,
-    keyword: &[u8],
-    of: &[u8],
-    incarnation: &[u8],
-) -> Option<(usize, u32)>
+fn read_hello(plant: &Plant, keyword: &[u8], of: &[u8], incarnation: &[u8]) -> Option<(usize, u32)>
     ensures { Finds (λ (h : ℕ × ℕ). SpellsHello plant.now h.0 h.1 (keyword.now ∷ of.now ∷ incarnation.now ∷ [])) result }
 {
     if !keyword.eq_ignore_ascii_case(b"HELLO") {
