@@ -114,6 +114,13 @@ pub record HasHeard (old new : MessageCoreValue) (of incarnation : ℕ) (answer 
 abbrev pub own_last : MessageCoreValue → ℕ → Option Evaluated
 own_last core task = whole_known core.table (own_task core task)
 
+-- an evaluation can be the last one of its task: the task is one of the core's resource, it is by the task's code, and in
+-- the present incarnation
+pub record CanBeLast (core : MessageCoreValue) (x : Evaluated) : Type 0 where
+  pub own : x.name.task.resource ≡ core.resource
+  pub incarnation_is : x.name.incarnation ≡ core.incarnation
+  pub coded : code_at core.plant x.name.task ≡ Some x.code
+
 -- the name of the next evaluation of one of its tasks
 abbrev pub next_name_of : MessageCoreValue → ℕ → Name
 next_name_of core task =

@@ -42,6 +42,7 @@ impl Model for MessageCore {
 }
 
 ghost use Rattle.std.specs.Prelude.{◌≡◌, ◌≢◌, ◌+◌, ◌<◌, ◌↔◌, IfOk, IfErr, OnOk, OnErr, IsTrue, Some, length, slice_set, slice_index};
+ghost use Rattle.std.specs.Bool.{OnTrue, OnFalse};
 ghost use Rattle.std.specs.Option.{option_copied};
 ghost use Rattle.plant.specs.PlantValue.{code_at};
 ghost use Rattle.task_codes.specs.CodeValue.{CodeValue};
@@ -49,7 +50,7 @@ ghost use Rattle.evaluation.specs.Last.{last_number, left_by};
 ghost use Rattle.evaluation.specs.Retained.{Suits};
 ghost use Rattle.exchange_core.specs.HeldMessages.{message_in};
 ghost use Rattle.exchange_core.specs.Openings.{AreOpeningOf, IsCoreFault};
-ghost use Rattle.exchange_core.specs.MessageCoreValue.{fresh_core, IsRestartOf, kept_at, HasOwnTask, IsUsable, is_for, IsAnswer, holding, IsAccepted, is_news, HasHeard, IsAskedOf, IsNextOf, IsNext, IsDue, IsEvalFault, held_of, whole_held_of, own_last, own_task};
+ghost use Rattle.exchange_core.specs.MessageCoreValue.{fresh_core, IsRestartOf, kept_at, HasOwnTask, IsUsable, is_for, IsAnswer, holding, IsAccepted, is_news, HasHeard, IsAskedOf, IsNextOf, IsNext, IsDue, IsEvalFault, held_of, whole_held_of, own_last, own_task, CanBeLast};
 ghost use Rattle.exchange_core.specs.declared.last.Last.TheVariants.{Whole, Told};
 ghost use Rattle.exchange_core.specs.Steps.Outliving.{AreLeft};
 ghost use Rattle.exchange_core.specs.Steps.KnowingMessages.{Holds};
@@ -395,5 +396,48 @@ impl MessageCore {
         ensures { result ≡ self.now.incarnation }
     {
         self.incarnation
+    }
+
+    /// What each of its tasks began this incarnation with.
+    pub fn kept(&self) -> &[Retained]
+        ensures { result.now ≡ self.now.kept }
+    {
+        self.kept.as_slice()
+    }
+
+    /// The last evaluation of one of its tasks in this incarnation.
+    pub fn last(&self, task: usize) -> Option<&Frame>
+        ensures { option_copied result ≡ own_last self.now task }
+    {
+        self.table.whole(self.own(task))
+    }
+
+    /// Whether an evaluation can be the last one of its task: the task is one of this resource, it is by the task's code, and
+    /// in the present incarnation.
+    fn can_be_last(&self, frame: &Frame) -> bool
+        ensures { IsTrue result ↔ CanBeLast self.now frame.now }
+    {
+        let name = frame.name();
+        if name.task.resource != self.resource || name.incarnation != self.incarnation {
+            return false;
+        }
+        match self.plant.code(name.task) {
+            Some(code) => code.same(frame.evaluation().code()),
+            None => false,
+        }
+    }
+
+    /// Makes an evaluation the last one of its task; false, and nothing changes, where it can't be.
+    pub fn stand_at(&mut self, frame: Frame) -> bool
+        ensures stood { IsTrue result ↔ CanBeLast self.old frame }
+        ensures changed { OnTrue result (self.new ≡ holding self.old (Whole frame)) }
+        ensures kept { OnFalse result (self.new ≡ self.old) }
+    {
+        if !self.can_be_last(&frame) {
+            return false;
+        }
+        let task = frame.name().task;
+        self.table.set(task, Last::Whole(frame));
+        true
     }
 }

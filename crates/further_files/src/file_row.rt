@@ -324,7 +324,7 @@ impl<R: Files<File = File> + Alloc<A = Global> + Clone + Drop> JournalFiles for 
     ghost last = { λ _. Unknown };
 
     fn note(&mut self, bytes: &[u8]) -> Result<(), NoteFault> {
-        self.notes.note(bytes)
+        self.notes.note(None, bytes)
     }
 
     fn sync(&mut self) -> Result<(), NoteFault> {

@@ -1,5 +1,6 @@
 ghost use Rattle.std.specs.Prelude.{None};
 
+use crate::node_core::NodeCore;
 use crate::notes::{NoteFault, Notes};
 use std::fs::{File, OpenOptions, TryLockError};
 use std::io::Write;
@@ -106,7 +107,7 @@ impl Notes for FileNotes {
 
     ghost synced = { λ _. None };
 
-    fn note(&mut self, bytes: &[u8]) -> Result<(), NoteFault> {
+    fn note(&mut self, _stood: Option<&NodeCore>, bytes: &[u8]) -> Result<(), NoteFault> {
         if let Synced::All = self.synced {
             self.synced = Synced::Less;
         }

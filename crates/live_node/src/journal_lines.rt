@@ -84,7 +84,7 @@ fn push_kept_at(
 }
 
 /// Writes those of all tasks of a resource behind a text, task by task.
-fn push_all_kept(
+pub fn push_all_kept(
     alloc: Global,
     text: &mut String,
     plant: &Plant,

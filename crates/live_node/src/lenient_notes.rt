@@ -3,6 +3,7 @@ ghost use Rattle.live_node.specs.LenientNotes.{NotesOrGivesUp, SyncsOrGivesUp, T
 ghost use Rattle.live_node.specs.declared.lenient_notes.Noting.TheVariants as noting;
 
 use crate::answering::hand_on;
+use crate::node_core::NodeCore;
 use crate::notes::{NoteFault, Notes};
 use std::io::Write;
 
@@ -68,7 +69,7 @@ impl<N: Notes, W: Write + Drop> Notes for LenientNotes<N, W> {
 
     ghost synced = { λ _. None };
 
-    fn note(&mut self, bytes: &[u8]) -> Result<(), NoteFault>
+    fn note(&mut self, stood: Option<&NodeCore>, bytes: &[u8]) -> Result<(), NoteFault>
         ensures noting { self.old.noting ≡ noting.All → NotesOrGivesUp bytes.now (N.noted self.old.notes) (N.noted self.new.notes)
             (N.synced self.old.notes) (N.synced self.new.notes) (W.contents self.old.out) (W.contents self.new.out) self.new.noting }
         ensures given_up { self.old.noting ≢ noting.All → self.new ≡ self.old }
@@ -76,7 +77,7 @@ impl<N: Notes, W: Write + Drop> Notes for LenientNotes<N, W> {
         ensures untold { OnErr result (self.new.noting ≡ noting.Untold) }
     {
         if let Noting::All = self.noting {
-            if self.notes.note(bytes).is_err() {
+            if self.notes.note(stood, bytes).is_err() {
                 self.noting = tell(&mut self.out);
             }
         }

@@ -22,7 +22,9 @@ mod sends;
 
 pub use answering::live;
 pub use file_notes::{FileNotes, JournalFault};
-pub use journal_lines::{marks_of, note_of_restart, note_of_start, unmarked_note_of_start};
+pub use journal_lines::{
+    marks_of, note_of_restart, note_of_start, push_all_kept, unmarked_note_of_start,
+};
 pub use lenient_notes::LenientNotes;
 pub use line_refusal::LineRefusal;
 pub use lines_at_hand::LinesAtHand;

@@ -1,5 +1,6 @@
 ghost use Rattle.std.specs.Prelude.{◌≡◌, None, Ok};
 
+use crate::node_core::NodeCore;
 use crate::notes::{NoteFault, Notes};
 
 /// Notes nothing, and so has no fault.
@@ -11,7 +12,7 @@ impl Notes for NoNotes {
 
     ghost synced = { λ _. None };
 
-    fn note(&mut self, _bytes: &[u8]) -> Result<(), NoteFault>
+    fn note(&mut self, _stood: Option<&NodeCore>, _bytes: &[u8]) -> Result<(), NoteFault>
         ensures { result ≡ Ok tt }
     {
         Ok(())
@@ -20,6 +21,6 @@ impl Notes for NoNotes {
     fn sync(&mut self) -> Result<(), NoteFault>
         ensures { result ≡ Ok tt }
     {
-        self.note(&[])
+        self.note(None, &[])
     }
 }

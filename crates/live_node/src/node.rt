@@ -140,7 +140,7 @@ fn note_on_disk<N: Notes>(notes: &mut N, bytes: &[u8]) -> Result<(), NoteFault>
     ensures part { OnErr result (SendsPart bytes.now (N.noted notes.old) (N.noted notes.new)) }
     ensures synced { OnOk result (N.synced notes.new ≡ N.noted notes.new) }
 {
-    notes.note(bytes)?;
+    notes.note(None, bytes)?;
     notes.sync()
 }
 
@@ -224,7 +224,7 @@ impl<K: Keeper, N: Notes> Node<K, N> {
         ensures keeper { self.new.keeper ≡ self.old.keeper }
     {
         let note = note_of_line(self.alloc, line)?;
-        self.notes.note(note.as_slice())?;
+        self.notes.note(Some(&self.state), note.as_slice())?;
         Ok(())
     }
 
@@ -464,7 +464,7 @@ impl<K: Keeper, N: Notes> Node<K, N> {
     {
         let resource = self.state.resource();
         let note = note_of_restart(self.alloc, self.state.plant(), resource, incarnation)?;
-        self.notes.note(note.as_bytes())?;
+        self.notes.note(Some(&self.state), note.as_bytes())?;
         self.state.restart(self.alloc, incarnation)?;
         let plant = self.state.plant();
         push_greetings(self.alloc, out, plant, resource, incarnation)?;

@@ -32,7 +32,7 @@ ghost use Rattle.std.specs.Prelude.{◌≡◌, ◌<◌, IfOk, IfErr, OnOk, OnErr
 ghost use Rattle.exchange_core.specs.MessageCoreValue.{held_of, is_news, IsAnswer, IsEvalFault};
 ghost use Rattle.exchange_core.specs.Openings.{AreOpeningOf};
 ghost use Rattle.live_node.specs.Keeping.{OutlivesMade, OutliveAlike};
-ghost use Rattle.live_node.specs.NodeValue.{IsStarted};
+ghost use Rattle.live_node.specs.NodeValue.{IsNodeOf, IsStarted, node_of};
 ghost use Rattle.live_node.specs.NodeSteps.{CanBeHeard, HasTaken, HasHeardOf, HasRisen, HasMade, IsHelloRefusal, IsTaskRefusal, IsNotRefused, IsPlaceRefusal, is_behind};
 ghost use Rattle.live_node.specs.TooHigh.{is_far, is_far_from_held, is_far_held, is_too_high};
 
@@ -85,6 +85,27 @@ impl NodeCore {
             lines: 0,
             made: 0,
         })
+    }
+
+    /// A node that stands at this core, and has done so many lines since it started. What it made isn't counted.
+    pub fn standing(plant: Arc<Plant>, resource: usize, core: MessageCore, lines: u64) -> NodeCore
+        requires { IsNodeOf plant.value resource (node_of core lines 0) }
+        ensures { result ≡ node_of core lines 0 }
+    {
+        NodeCore {
+            plant,
+            resource,
+            core,
+            lines,
+            made: 0,
+        }
+    }
+
+    /// Its core.
+    pub fn core(&self) -> &MessageCore
+        ensures { result.now ≡ self.now.core }
+    {
+        &self.core
     }
 
     /// The plant.

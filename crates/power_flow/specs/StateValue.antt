@@ -1,4 +1,4 @@
-use Rattle.std.specs.Prelude.{◌≡◌, ℕ, ℤ, List, Bool, false, if◌then◌else◌, int_lt, slice_get, slice_set}
+use Rattle.std.specs.Prelude.{◌≡◌, ℕ, ℤ, List, Some, Bool, true, false, if◌then◌else◌, int_lt, slice_get, slice_set}
 use Rattle.std.specs.Option.{option_map_or}
 use Rattle.std_blocks.specs.declared.value.Value.{Value}
 use Rattle.declared_names.specs.Kinds.{kind_of, value_first}
@@ -6,6 +6,8 @@ use Rattle.scan_steps.specs.declared.slot.Instance.{Instance}
 use Rattle.scan_steps.specs.declared.slot.Slot.{Slot}
 use Rattle.scan_steps.specs.declared.slot.Slot.TheVariants.{Variable, Block}
 use Rattle.scan_steps.specs.First.{instance_first}
+use Rattle.scan_steps.specs.Slots.{IsKindAt}
+use Rattle.std_blocks.specs.declared.block_type.BlockType.{BlockType}
 
 -- a state: what stands at each declared name, a memory for each element of each network, and how many waiting places
 -- there are
@@ -18,6 +20,23 @@ pub record StateValue : Type 0 where
 -- the state in which the variable at a place has this value
 abbrev pub with_variable : StateValue → ℕ → Value → StateValue
 with_variable s place value = record s { slots = slice_set s.slots place (Variable value) }
+
+-- the state in which this stands at a place
+abbrev pub with_slot : StateValue → ℕ → Slot → StateValue
+with_slot s place slot = record s { slots = slice_set s.slots place slot }
+
+-- a block of this type stands at a place
+abbrev pub IsBlockAt : List Slot → ℕ → BlockType → Type 0
+IsBlockAt slots place block = (i : Instance) × (slice_get slots place ≡ Some (Block i)) × (i.state.block ≡ block)
+
+-- a variable of the kind of this one stands at a place, or a block of this one's type
+abbrev pub IsLikeAt : List Slot → ℕ → Slot → Type 0
+IsLikeAt slots place (Variable v) = IsKindAt slots place v
+IsLikeAt slots place (Block i) = IsBlockAt slots place i.state.block
+
+-- the state in which the memory at a place is ON
+abbrev pub turned_on_at : StateValue → ℕ → StateValue
+turned_on_at s memory = record s { memories = slice_set s.memories memory true }
 
 -- what stands at a name as it was before the first scan: FALSE, 0 or T#0ms, or a block before its first step
 abbrev pub slot_cleared : Slot → Slot

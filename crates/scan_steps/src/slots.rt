@@ -171,14 +171,14 @@ impl Slots {
     }
 
     /// How many names there are.
-    fn len(&self) -> usize
+    pub fn len(&self) -> usize
         ensures { result ≡ length self.now }
     {
         count(&self.seats)
     }
 
     /// What stands at a place.
-    fn slot(&self, place: usize) -> Option<Slot>
+    pub fn slot(&self, place: usize) -> Option<Slot>
         ensures { result ≡ slice_get self.now place }
     {
         match seat_at(&self.seats, place) {

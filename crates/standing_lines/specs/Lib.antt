@@ -1,0 +1,3 @@
+pub mod StateTexts
+pub mod LastTexts
+pub mod StandsLine
