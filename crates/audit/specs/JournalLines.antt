@@ -15,7 +15,7 @@ use Rattle.live_node.specs.NodeJournal.{note_end, line_note, marks_text, own_mar
 use Rattle.live_node.specs.declared.node_line.NodeLine.{NodeLine}
 use Rattle.live_node.specs.declared.node_line.NodeLine.TheVariants as asked
 use Rattle.audit.specs.declared.item.Item.{Item}
-use Rattle.audit.specs.declared.item.Item.TheVariants.{Start, Restart, Message, Hello, Evaluate, Foreign, Faulty}
+use Rattle.audit.specs.declared.item.Item.TheVariants.{Start, Restart, Message, Hello, Evaluate, Foreign, Stands, Faulty}
 
 -- A line is what a resource notes as it starts in this incarnation, and opens with these values. It tells the digests of the
 -- plant, or, as nodes noted that told none, no digest.
@@ -115,9 +115,12 @@ AsksNothing plant n line =
 abbrev pub IsNoRestart : PlantValue → ℕ → List ℕ → Type 0
 IsNoRestart plant n line = (incarnation : ℕ) → IsSmall incarnation → IsRestart plant n line incarnation → ⊥
 
+-- a line tells where a resource stands
+abbrev pub IsStands : List ℕ → Type 0
+IsStands line = (rest : List ℕ) × (line ≡ codes "STANDS " ++ rest)
+
 -- A line behind a START of a resource tells this: a restart of it; a message of the plant; a hello of a resource of the
--- plant; or an evaluation of one of its tasks. It is faulty only where it tells
--- none of these.
+-- plant; an evaluation of one of its tasks; or where it stands. It is faulty only where it tells none of these.
 abbrev pub Tells : PlantValue → ℕ → List ℕ → Item → Type 0
 Tells plant n line (Start incarnation kept) = ⊥
 Tells plant n line (Restart incarnation) = IsRestart plant n line incarnation
@@ -126,4 +129,5 @@ Tells plant n line (Hello of incarnation) = (of < length plant.resources) × IsN
 Tells plant n line (Evaluate task dt inputs) =
     HasTask plant n task × IsNoted plant (asked.Evaluate (record { resource = n; task = task }) dt inputs) line
 Tells plant n line (Foreign incarnation) = ⊥
-Tells plant n line Faulty = IsNoRestart plant n line × AsksNothing plant n line
+Tells plant n line (Stands text) = IsStands line × (text.items ≡ line)
+Tells plant n line Faulty = IsNoRestart plant n line × (IsStands line → ⊥) × AsksNothing plant n line

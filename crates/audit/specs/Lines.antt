@@ -16,8 +16,9 @@ use Rattle.exchange_core.specs.Wholes.{as_wholes}
 use Rattle.node_reports.specs.declared.journal.Journal.{Journal}
 use Rattle.node_reports.specs.Journals.{last_of, opening_at}
 use Rattle.node_reports.specs.Stations.{StationValue, PendingValue, fresh_station, IsReceived, IsTold, IsPending, IsNoted, IsRestarted}
+use Rattle.standing_lines.specs.StandsLine.{stands_line}
 use Rattle.audit.specs.declared.item.Item.{Item}
-use Rattle.audit.specs.declared.item.Item.TheVariants.{Start, Restart, Message, Hello, Evaluate, Foreign, Faulty}
+use Rattle.audit.specs.declared.item.Item.TheVariants.{Start, Restart, Message, Hello, Evaluate, Foreign, Stands, Faulty}
 use Rattle.audit.specs.declared.line.Line.{Line}
 
 -- the first incarnations: 0 for each resource
@@ -73,6 +74,7 @@ OpensWith (Some (Message m)) task values = ⊥
 OpensWith (Some (Hello of incarnation)) task values = ⊥
 OpensWith (Some (Evaluate other dt inputs)) task values = ⊥
 OpensWith (Some (Foreign incarnation)) task values = ⊥
+OpensWith (Some (Stands text)) task values = ⊥
 OpensWith (Some Faulty) task values = ⊥
 
 -- an evaluation that the resource could make next leaves these values
@@ -108,7 +110,8 @@ Evaluates next ticket task dt inputs old new =
     ⊎ (WasDone old.core next ticket task dt inputs × HasEvaluated old new ticket task dt inputs)
 
 -- What a resource does at a line, which has this ticket and stands before that item: a START restarts it, if it opens
--- with what was left; what else a line tells it does, by the ticket. At a faulty line it does nothing more.
+-- with what was left; what else a line tells it does, by the ticket. Where it stands as a line tells, that changes nothing. At
+-- a faulty line it does nothing more.
 abbrev pub Does : ℕ → Option Item → Item → StationValue → StationValue → Type 0
 Does ticket next (Start incarnation kept) old new = AreLeft old.journal kept.items × Rises old new 0 incarnation
 Does ticket next (Restart incarnation) old new = Rises old new ticket incarnation
@@ -116,13 +119,15 @@ Does ticket next (Message m) old new = Takes old new m
 Does ticket next (Hello of incarnation) old new = Hears old new of incarnation
 Does ticket next (Evaluate task dt inputs) old new = Evaluates next ticket task dt inputs old new
 Does ticket next (Foreign incarnation) old new = ⊥
+Does ticket next (Stands text) old new = (text.items ≡ stands_line (messages_in old.core)) × (new ≡ old)
 Does ticket next Faulty old new = ⊥
 
 -- what the line at a place tells
 abbrev pub item_at : List Line → ℕ → Option Item
 item_at lines k = option_map (λ (line : Line). line.item) (slice_get lines k)
 
--- the ticket of the line behind one of this ticket: a START counts as 0
+-- the ticket of the line behind one of this ticket: a START counts as 0, and a line that tells where a resource stands isn't
+-- counted
 abbrev pub ticket_behind : Option Item → ℕ → ℕ
 ticket_behind None ticket = ticket
 ticket_behind (Some (Start incarnation kept)) ticket = 1
@@ -131,6 +136,7 @@ ticket_behind (Some (Message m)) ticket = ticket + 1
 ticket_behind (Some (Hello of incarnation)) ticket = ticket + 1
 ticket_behind (Some (Evaluate task dt inputs)) ticket = ticket + 1
 ticket_behind (Some (Foreign incarnation)) ticket = ticket + 1
+ticket_behind (Some (Stands text)) ticket = ticket
 ticket_behind (Some Faulty) ticket = ticket + 1
 
 -- the ticket of the line at a place: how many lines it stands behind the last START
@@ -149,6 +155,7 @@ Opens plant n (Some (Message m)) opening = opening ≡ initial_opening plant n
 Opens plant n (Some (Hello of incarnation)) opening = opening ≡ initial_opening plant n
 Opens plant n (Some (Evaluate task dt inputs)) opening = opening ≡ initial_opening plant n
 Opens plant n (Some (Foreign incarnation)) opening = opening ≡ initial_opening plant n
+Opens plant n (Some (Stands text)) opening = opening ≡ initial_opening plant n
 Opens plant n (Some Faulty) opening = opening ≡ initial_opening plant n
 
 -- a resource before its first line: it is in incarnation 0, as all are, and does nothing in it

@@ -17,8 +17,9 @@ use Rattle.live_node.specs.NodeLines.{node_text}
 use Rattle.live_node.specs.NodeValue.{NodeValue, IsStarted}
 use Rattle.live_node.specs.NodeSteps.{HasMade, HasTaken, HasHeardOf, HasRisen}
 use Rattle.node_reports.specs.Stations.{StationValue}
+use Rattle.standing_lines.specs.StandsLine.{stands_line}
 use Rattle.audit.specs.declared.item.Item.{Item}
-use Rattle.audit.specs.declared.item.Item.TheVariants.{Start, Restart, Message, Hello, Evaluate, Foreign, Faulty}
+use Rattle.audit.specs.declared.item.Item.TheVariants.{Start, Restart, Message, Hello, Evaluate, Foreign, Stands, Faulty}
 use Rattle.audit.specs.declared.line.Line.{Line}
 use Rattle.audit.specs.JournalLines.{Tells}
 use Rattle.audit.specs.Lines.{item_at, ticket_at, WasUndone, StandsAt}
@@ -35,6 +36,7 @@ NodeComes plant n Stood (Hello of incarnation) s =
 NodeComes plant n Stood (Evaluate task dt inputs) s =
     (old : NodeValue) × (x : Evaluated) × Stood old × HasMade old s task dt inputs x
 NodeComes plant n Stood (Foreign incarnation) s = ⊥
+NodeComes plant n Stood (Stands text) s = (text.items ≡ stands_line s.core) × Stood s
 NodeComes plant n Stood Faulty s = ⊥
 
 -- The resource's node is this behind the first lines of its journals: of its last START and what stands behind it, each

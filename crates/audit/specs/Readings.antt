@@ -7,7 +7,7 @@ use Rattle.std.specs.Ordering.{nat_cmp}
 use Rattle.plant.specs.PlantValue.{PlantValue}
 use Rattle.audit.specs.JournalLines.{IsStart, IsForeignStart, IsNoStart, Tells}
 use Rattle.audit.specs.declared.item.Item.{Item}
-use Rattle.audit.specs.declared.item.Item.TheVariants.{Start, Restart, Message, Hello, Evaluate, Foreign, Faulty}
+use Rattle.audit.specs.declared.item.Item.TheVariants.{Start, Restart, Message, Hello, Evaluate, Foreign, Stands, Faulty}
 use Rattle.audit.specs.declared.line.Place.{Place}
 use Rattle.audit.specs.declared.line.Line.{Line}
 use Rattle.audit.specs.declared.run.Run.{Run}
@@ -36,6 +36,7 @@ IsStartOf plant line run (Hello of incarnation) = ⊥
 IsStartOf plant line run (Evaluate task dt inputs) = ⊥
 IsStartOf plant line run (Foreign incarnation) =
     IsForeignStart plant run.resource incarnation line × (run.incarnation ≡ incarnation)
+IsStartOf plant line run (Stands text) = ⊥
 IsStartOf plant line run Faulty = ⊥
 
 -- a START, which stands here, begins a run

@@ -19,8 +19,9 @@ use Rattle.node_reports.specs.declared.journal.Journal.{Journal}
 use Rattle.node_reports.specs.Journals.{incarnation_after}
 use Rattle.node_reports.specs.Reports.{restarted_in}
 use Rattle.node_reports.specs.Stations.{StationValue}
+use Rattle.standing_lines.specs.StandsLine.{stands_line}
 use Rattle.audit.specs.declared.item.Item.{Item}
-use Rattle.audit.specs.declared.item.Item.TheVariants.{Start, Restart, Message, Hello, Evaluate, Foreign, Faulty}
+use Rattle.audit.specs.declared.item.Item.TheVariants.{Start, Restart, Message, Hello, Evaluate, Foreign, Stands, Faulty}
 use Rattle.audit.specs.declared.line.Line.{Line}
 use Rattle.audit.specs.declared.needs.Need.{Need}
 use Rattle.audit.specs.declared.needs.Need.TheVariants.{Evaluation, Incarnation}
@@ -66,6 +67,7 @@ begins i (Message m) = false
 begins i (Hello of incarnation) = false
 begins i (Evaluate task dt inputs) = false
 begins i (Foreign incarnation) = false
+begins i (Stands text) = false
 begins i Faulty = false
 
 -- a resource was in an incarnation: one of the lines shown is the START or RESTART in it
@@ -107,6 +109,7 @@ OpensAsLeft s (Message m) = Unit {0}
 OpensAsLeft s (Hello of incarnation) = Unit {0}
 OpensAsLeft s (Evaluate task dt inputs) = Unit {0}
 OpensAsLeft s (Foreign incarnation) = Unit {0}
+OpensAsLeft s (Stands text) = Unit {0}
 OpensAsLeft s Faulty = Unit {0}
 
 -- An incarnation is more than 1,000,000 above the present one; or a line rises to it as it may and opens with what was left,
@@ -121,6 +124,11 @@ abbrev pub OpensOtherwise : StationValue → Item → Type 0
 OpensOtherwise s item =
     (i : ℕ) × (kept : Vec (List Value)) × (item ≡ Start i kept) × IsAbove s.core.incarnation i
     × (AreLeft s.journal kept.items → ⊥)
+
+-- A line tells that the resource stands otherwise than it does.
+abbrev pub StandsOtherwise : StationValue → Item → Type 0
+StandsOtherwise s item =
+    (text : Vec ℕ) × (item ≡ Stands text) × (text.items ≢ stands_line (messages_in s.core))
 
 -- a line is a message that the resource takes
 abbrev pub WouldTake : StationValue → Item → MessageValue → Type 0
@@ -173,7 +181,8 @@ IsUnfit book s item misfit =
     × (book.entries ≡ older ++ newer) × IsMisfit book.first (reverse older) x misfit × (misfit ≢ NoMemory)
 
 -- This is why the next line of a resource can't be shown. Syntax: it is no line. OtherPlant: it is a START in another plant. NotRisen, TooHigh: it is a START or
--- RESTART that isn't above the present incarnation, or too high. Kept: it opens otherwise. Differs: what it takes was made
+-- RESTART that isn't above the present incarnation, or too high. Stands: it
+-- tells another standing. Kept: it opens otherwise. Differs: what it takes was made
 -- otherwise. Unmade: what it takes wasn't made, and the maker is over with that incarnation. Waits: what it needs
 -- isn't there, and the other resource may still be in that incarnation. Missing: neither is so.
 abbrev pub IsReason : BookValue → List Course → StationValue → Item → Reason → Type 0
@@ -182,6 +191,7 @@ IsReason book all s item (reason.OtherPlant i) = item ≡ Foreign i
 IsReason book all s item (reason.NotRisen i) = (begins i item ≡ true) × (i ≤ s.core.incarnation)
 IsReason book all s item (reason.TooHigh i) =
     (begins i item ≡ true) × IsTooHigh (skipped_in (map (λ (c : Course). c.journal) all)) s item i
+IsReason book all s item reason.Stands = StandsOtherwise s item
 IsReason book all s item reason.Kept = OpensOtherwise s item
 IsReason book all s item (reason.Differs name) = IsOther book s item name
 IsReason book all s item (reason.Unmade name) =

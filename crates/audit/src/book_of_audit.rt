@@ -68,6 +68,13 @@ impl BookOfAudit {
         })
     }
 
+    /// The plant.
+    pub(crate) fn plant(&self) -> &Plant
+        ensures { result.now ≡ self.now.plant }
+    {
+        &self.plant
+    }
+
     /// The entry of this name.
     pub(crate) fn find(&self, name: Name) -> Option<&Frame>
         ensures { MatchOption result (WasNotMade self.now.book name) (λ f. IsEntry self.now.book name f.now) }

@@ -5,7 +5,7 @@ ghost use Rattle.std.specs.Option.{option_copied};
 ghost use Rattle.plant.specs.PlantValue.{PlantValue};
 ghost use Rattle.audit.specs.Lines.{AreLeft, item_at};
 ghost use Rattle.audit.specs.Steps.Standings.{IsGoing, IsStanding, journal_in, Goes};
-ghost use Rattle.audit.specs.Steps.Following.{HasRisen, HasStarted, Comes, IsStart, IsFollowing};
+ghost use Rattle.audit.specs.Steps.Following.{HasRisen, HasStarted, Comes, HasStood, IsStands, IsStart, IsFollowing};
 ghost use Rattle.audit.specs.Steps.Settled.{Leaves, IsSettledAt};
 ghost use Rattle.audit.specs.declared.standing.Standing.TheVariants.{Going};
 
@@ -23,7 +23,10 @@ use crate::standing::Standing;
 use crate::trail::Trail;
 use evaluation::Retained;
 use node_reports::Station;
+use plant::Plant;
+use standing_lines::stands_line;
 use std::alloc::{AllocError, Global};
+use text_lines::are_same;
 
 /// Restarts a resource, where its incarnation rises, and not too many are skipped in all.
 #[tactic(auto, using(crate::proofs::GoingOn::restarted_goes, crate::proofs::GoingOn::goes_not))]
@@ -86,6 +89,25 @@ fn start(
     restart(alloc, station, 0, incarnation, past, book)
 }
 
+/// Looks whether a resource stands as a line tells.
+fn stand(
+    alloc: Global,
+    plant: &Plant,
+    station: &Station,
+    line: &[u8],
+) -> Result<Outcome, AllocError>
+    requires { station.now.core.plant ≡ plant.now }
+    ensures { IfOk result (HasStood station.now line.now) }
+{
+    let messages = station.core().messages();
+    let told = stands_line(alloc, plant, station.resource(), messages)?;
+    if are_same(told.as_bytes(), line) {
+        Ok(Outcome::Done)
+    } else {
+        Ok(Outcome::Stops(Reason::Stands))
+    }
+}
+
 /// Does what a line tells, where it can be done; `ticket` is how many lines it stands behind the last START, and `next` the
 /// line behind it.
 #[tactic(auto, using(crate::proofs::GoingOn::goes_still, crate::proofs::GoingOn::goes_not))]
@@ -132,6 +154,10 @@ fn do_item(
             let stops = Outcome::Stops(Reason::OtherPlant(*incarnation));
             Ok((Standing::Going(station), stops))
         }
+        Item::Stands(line) => {
+            let outcome = stand(alloc, book.plant(), &station, line.as_slice())?;
+            Ok((Standing::Going(station), outcome))
+        }
         Item::Faulty => Ok((Standing::Going(station), Outcome::Stops(Reason::Syntax))),
     }
 }
@@ -151,6 +177,15 @@ fn is_start(item: &Item) -> bool
 {
     match item {
         Item::Start { .. } => true,
+        _ => false,
+    }
+}
+
+fn is_stands(item: &Item) -> bool
+    ensures { IsStands item.now result }
+{
+    match item {
+        Item::Stands(_) => true,
         _ => false,
     }
 }
@@ -193,7 +228,10 @@ pub(crate) fn do_line(
                 &mut trail.past,
                 book,
             )?;
-            Ok((standing, trail.note(is_start(&line.item), outcome)))
+            Ok((
+                standing,
+                trail.note(is_start(&line.item), is_stands(&line.item), outcome),
+            ))
         }
     }
 }

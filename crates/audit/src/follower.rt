@@ -98,6 +98,7 @@ fn begins(item: &Item, in_incarnation: u32) -> bool
         | Item::Hello { .. }
         | Item::Evaluate { .. }
         | Item::Foreign { .. }
+        | Item::Stands(_)
         | Item::Faulty => false,
     }
 }

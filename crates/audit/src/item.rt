@@ -29,6 +29,8 @@ pub enum Item {
     Foreign {
         incarnation: u32,
     },
+    /// It tells where the resource stands; this is the whole line.
+    Stands(Vec<u8>),
     /// It is no line of a node of the resource.
     Faulty,
 }

@@ -10,7 +10,7 @@ use live_node::{NodeLine, read_node_line};
 use plant::Plant;
 use std::alloc::{AllocError, Global};
 use task_codes::TaskRef;
-use text_lines::are_same;
+use text_lines::{are_same, behind};
 use world::without_last;
 
 /// Whether a node notes a line as it is. A carriage return at its end isn't noted.
@@ -39,6 +39,9 @@ pub(crate) fn read_item(
 {
     if let Some(incarnation) = read_restart(alloc, plant, resource, line)? {
         return Ok(Item::Restart { incarnation });
+    }
+    if behind(line, b"STANDS ").is_some() {
+        return Ok(Item::Stands(Vec::from_slice(alloc, line)?));
     }
     if !is_noted_so(line) {
         return Ok(Item::Faulty);

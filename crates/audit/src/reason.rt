@@ -14,6 +14,8 @@ pub enum Reason {
     NotRisen(u32),
     /// It is above the one before by more than 1,000,000, or more than these are skipped in all.
     TooHigh(u32),
+    /// The resource doesn't stand as this STANDS tells.
+    Stands,
     /// The retained values that a START opens with aren't those that were left.
     Kept,
     /// The message of this name was taken with another image, or with another list of what its maker had heard, than it was made with.

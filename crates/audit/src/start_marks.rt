@@ -31,11 +31,7 @@ fn behind_digest(text: &[u8]) -> Option<&[u8]>
         return None;
     }
     let (digits, rest) = text.split_at(DIGITS);
-    if is_digest(digits) {
-        Some(rest)
-    } else {
-        None
-    }
+    if is_digest(digits) { Some(rest) } else { None }
 }
 
 /// What stands behind the digests with which a text begins.

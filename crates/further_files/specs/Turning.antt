@@ -16,7 +16,7 @@ Holds text file digest = (file ≡ Some text) × (digest ≡ digest_of text)
 
 -- the line of where a node stands, as it is noted
 abbrev pub stood_line : NodeValue → List ℕ
-stood_line s = stands_line s.core s.lines ++ note_end
+stood_line s = stands_line s.core ++ note_end
 
 -- nothing, or the line of where a node stands that has started
 abbrev pub IsStood : Option NodeValue → List ℕ → Type 0

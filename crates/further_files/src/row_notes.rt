@@ -37,13 +37,7 @@ pub struct RowNotes<F: JournalFiles> {
 fn line_of(alloc: Global, node: &NodeCore) -> Result<String, AllocError>
     ensures { IfOk result (λ line. string_bytes line ≡ stood_line node.now) }
 {
-    let mut line = stands_line(
-        alloc,
-        node.plant(),
-        node.resource(),
-        node.core(),
-        node.lines(),
-    )?;
+    let mut line = stands_line(alloc, node.plant(), node.resource(), node.core())?;
     line.push_str(";\n")?;
     Ok(line)
 }

@@ -196,7 +196,7 @@ pub const NODES: [(&str, &str); 12] = [
     ),
 ];
 
-pub const AUDITS: [(&str, &str); 9] = [
+pub const AUDITS: [(&str, &str); 10] = [
     (
         "Syntax",
         "The line is none that a node of this plant's resource notes: a byte was changed, a line was cut, the plant is another one, or no START stands before it. At FILE.n:1, of a further file that --journal-size made, its line CONTINUES tells another file before it than was given: that one is missing, or a byte of it was changed. Take the file from the machine again.",
@@ -212,6 +212,10 @@ pub const AUDITS: [(&str, &str); 9] = [
     (
         "TooHigh",
         "This START or RESTART is above the incarnation before by more than 1,000,000, or more than that are skipped in all. It was changed, or one before it in a journal, or a file of a folder of state was.",
+    ),
+    (
+        "Stands",
+        "Where the resource stood as this file was begun isn't what the lines before it lead to: a byte was changed in this line or before it, a file between is missing, or the node made something otherwise. Take the files from the machine again, and give all of them.",
     ),
     (
         "Kept",

@@ -87,16 +87,16 @@ impl NodeCore {
         })
     }
 
-    /// A node that stands at this core, and has done so many lines since it started. What it made isn't counted.
-    pub fn standing(plant: Arc<Plant>, resource: usize, core: MessageCore, lines: u64) -> NodeCore
-        requires { IsNodeOf plant.value resource (node_of core lines 0) }
-        ensures { result ≡ node_of core lines 0 }
+    /// A node that stands at this core, and has done nothing since.
+    pub fn standing(plant: Arc<Plant>, resource: usize, core: MessageCore) -> NodeCore
+        requires { IsNodeOf plant.value resource (node_of core 0 0) }
+        ensures { result ≡ node_of core 0 0 }
     {
         NodeCore {
             plant,
             resource,
             core,
-            lines,
+            lines: 0,
             made: 0,
         }
     }

@@ -15,7 +15,7 @@ use Rattle.audit.specs.declared.journal_file.JournalFile.{JournalFile}
 use Rattle.audit.specs.declared.needs.Need.{Need}
 use Rattle.audit.specs.declared.needs.Need.TheVariants.{Evaluation, Incarnation}
 use Rattle.audit.specs.declared.reason.Reason.{Reason}
-use Rattle.audit.specs.declared.reason.Reason.TheVariants.{Syntax, OtherPlant, NotRisen, TooHigh, Kept, Differs, Unmade, Waits, Missing, Misfit as Unfit}
+use Rattle.audit.specs.declared.reason.Reason.TheVariants.{Syntax, OtherPlant, NotRisen, TooHigh, Stands, Kept, Differs, Unmade, Waits, Missing, Misfit as Unfit}
 use Rattle.audit.specs.declared.reason.Unshown.{Unshown}
 use Rattle.audit.specs.declared.auditing.Audited.{Audited}
 use Rattle.run_texts.specs.ReportText.{entry_lines, replay_line, TellsBeginning}
@@ -50,6 +50,7 @@ reason_text plant Syntax = codes "Syntax"
 reason_text plant (OtherPlant incarnation) = codes "OtherPlant " ++ decimal incarnation
 reason_text plant (NotRisen incarnation) = codes "NotRisen " ++ decimal incarnation
 reason_text plant (TooHigh incarnation) = codes "TooHigh " ++ decimal incarnation
+reason_text plant Stands = codes "Stands"
 reason_text plant Kept = codes "Kept"
 reason_text plant (Differs name) = codes "Differs " ++ name_text plant name
 reason_text plant (Unmade name) = codes "Unmade " ++ name_text plant name

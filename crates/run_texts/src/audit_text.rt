@@ -75,6 +75,7 @@ fn push_reason(line: &mut String, plant: &Plant, reason: Reason) -> Result<(), A
         Reason::OtherPlant(incarnation) => write!(line, "OtherPlant {incarnation}"),
         Reason::NotRisen(incarnation) => write!(line, "NotRisen {incarnation}"),
         Reason::TooHigh(incarnation) => write!(line, "TooHigh {incarnation}"),
+        Reason::Stands => line.push_str("Stands"),
         Reason::Kept => line.push_str("Kept"),
         Reason::Differs(name) => {
             line.push_str("Differs ")?;

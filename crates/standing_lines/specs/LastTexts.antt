@@ -32,10 +32,10 @@ abbrev pub taken_text : PlantValue → Take → List ℕ
 taken_text plant t =
     codes " " ++ task_text plant t.producer ++ codes "=" ++ pair_text t.from ++ values_text t.image
 
--- An evaluation as it was asked: its name and ticket, the elapsed time, what was heard, its inputs, what it took, and the
+-- An evaluation as it was asked, its ticket aside: its name, the elapsed time, what was heard, its inputs, what it took, and the
 -- state before.
 abbrev pub last_text : PlantValue → Evaluated → List ℕ
 last_text plant x =
-    codes " LAST " ++ name_text plant x.name ++ codes " TICKET " ++ decimal x.ticket ++ codes " DT " ++ decimal x.dt
+    codes " LAST " ++ name_text plant x.name ++ codes " DT " ++ decimal x.dt
     ++ heard_words plant x.heard ++ codes " INPUTS" ++ flat_map input_text x.inputs
     ++ codes " TAKES" ++ flat_map (taken_text plant) x.takes ++ codes " BEFORE" ++ state_text x.before

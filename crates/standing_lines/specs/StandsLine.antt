@@ -40,12 +40,12 @@ last_words core task = last_told core.plant (own_last core task)
 abbrev pub all_last_words : MessageCoreValue → List ℕ
 all_last_words core = flat_map (last_words core) (range (length (tasks_at core.plant core.resource)))
 
--- Where a resource stands, which has done so many lines since it started: its incarnation, what it has heard, what its tasks
+-- Where a resource stands: its incarnation, what it has heard, what its tasks
 -- began this incarnation with, the messages that it holds, and the last evaluation of each of its tasks.
-abbrev pub stands_line : MessageCoreValue → ℕ → List ℕ
-stands_line core lines =
+abbrev pub stands_line : MessageCoreValue → List ℕ
+stands_line core =
     codes "STANDS " ++ resource_text core.plant core.resource ++ codes " " ++ decimal core.incarnation
-    ++ codes " LINES " ++ decimal lines ++ heard_words core.plant core.heard
+    ++ heard_words core.plant core.heard
     ++ keeps_text (all_kept_text core.plant core.resource core.kept) ++ all_held_words core ++ all_last_words core
 
 -- A node of a resource can stand so: its parts suit each other, its incarnation is above 0, all are numbers of 32 bits, and
@@ -59,4 +59,4 @@ pub record IsStanding (plant : PlantValue) (n : ℕ) (s : NodeValue) : Type 0 wh
 
 -- a line is that of no node of the resource that can stand so
 abbrev pub IsNoStanding : PlantValue → ℕ → List ℕ → Type 0
-IsNoStanding plant n line = (s : NodeValue) → IsStanding plant n s → line ≢ stands_line s.core s.lines
+IsNoStanding plant n line = (s : NodeValue) → IsStanding plant n s → line ≢ stands_line s.core

@@ -1,6 +1,6 @@
 //! An evaluation that is made once more as it was asked.
 
-use crate::line_words::{LineWords, long_number_of, pair_of, parted};
+use crate::line_words::{LineWords, pair_of, parted};
 use crate::state_reading::read_state;
 use declared_names::Kind;
 use evaluation::{
@@ -15,7 +15,6 @@ use text_lines::{are_same, behind, number_of, push_task, resource_name, value_of
 
 /// What a line tells of how an evaluation was asked.
 struct Asked {
-    ticket: u64,
     name: Name,
     dt: u32,
     heard: Vec<u32>,
@@ -175,19 +174,12 @@ fn read_takes(
     Ok(Some(takes))
 }
 
-/// The number behind a word.
-fn number_behind(words: &mut LineWords, word: &[u8]) -> Option<u64> {
-    if !words.takes(word) {
+/// The elapsed time, behind `DT`.
+fn read_elapsed(words: &mut LineWords) -> Option<u32> {
+    if !words.takes(b"DT") {
         return None;
     }
-    long_number_of(words.next_word()?)
-}
-
-/// The ticket and the elapsed time.
-fn read_moment(words: &mut LineWords) -> Option<(u64, u32)> {
-    let ticket = number_behind(words, b"TICKET")?;
-    let dt = number_behind(words, b"DT")?;
-    Some((ticket, u32::try_from(dt).ok()?))
+    number_of(words.next_word()?)
 }
 
 /// How an evaluation of this name was asked, by the words behind its name.
@@ -198,7 +190,7 @@ fn read_asked(
     name: Name,
     words: &mut LineWords,
 ) -> Result<Option<Asked>, AllocError> {
-    let Some((ticket, dt)) = read_moment(words) else {
+    let Some(dt) = read_elapsed(words) else {
         return Ok(None);
     };
     let Some(heard) = read_heard(alloc, plant, words)? else {
@@ -215,7 +207,6 @@ fn read_asked(
     }
     match read_state(alloc, code, words)? {
         Some(before) => Ok(Some(Asked {
-            ticket,
             name,
             dt,
             heard,
@@ -253,7 +244,6 @@ fn read_name(
 /// Makes an evaluation of a code as it was asked, where it can be made so.
 fn made(alloc: Global, code: &Arc<TaskCode>, asked: Asked) -> Result<Option<Frame>, AllocError> {
     let Asked {
-        ticket,
         name,
         dt,
         heard,
@@ -269,7 +259,7 @@ fn made(alloc: Global, code: &Arc<TaskCode>, asked: Asked) -> Result<Option<Fram
         return Ok(None);
     }
     let code = Arc::try_clone(code)?;
-    let evaluation = Evaluation::make(alloc, ticket, name, heard, dt, inputs, takes, before, code)?;
+    let evaluation = Evaluation::make(alloc, 0, name, heard, dt, inputs, takes, before, code)?;
     Ok(Some(Frame::new(alloc, evaluation)?))
 }
 

@@ -1,5 +1,5 @@
-//! An evaluation as it was asked, as words of a line, such as ` LAST R1.FAST 1.17 TICKET 17 DT 10 HEARD R1=1 R2=1 INPUTS
-//! %IX0=1 TAKES R2.SLOW=1.3 5 0 BEFORE 1 0 0100:5:0:10:5:0 ON`.
+//! An evaluation as it was asked, as words of a line, such as ` LAST R1.FAST 1.17 DT 10 HEARD R1=1 R2=1 INPUTS %IX0=1
+//! TAKES R2.SLOW=1.3 5 0 BEFORE 1 0 0100:5:0:10:5:0 ON`.
 
 ghost use Rattle.std.specs.Prelude.{◌≡◌, OnOk, length};
 ghost use Rattle.std.specs.List.{flat_map};
@@ -107,10 +107,10 @@ pub(crate) fn push_last(
     requires { length evaluation.now.heard ≡ length plant.now.resources }
     ensures { OnOk result (GrowsBy text.old text.new (last_text plant.now evaluation.now)) }
 {
-    let (ticket, dt) = (evaluation.ticket(), evaluation.dt());
+    let dt = evaluation.dt();
     text.push_str(" LAST ")?;
     push_name(text, plant, evaluation.name())?;
-    write!(text, " TICKET {ticket} DT {dt}")?;
+    write!(text, " DT {dt}")?;
     push_heard(text, plant, evaluation.heard())?;
     text.push_str(" INPUTS")?;
     push_inputs(text, evaluation.inputs().listed())?;

@@ -93,24 +93,23 @@ fn push_keeps(
     text.push_str(kept.as_str())
 }
 
-/// The line of a resource that stands at this core, and has done so many lines since it started: `STANDS R i LINES n`, what
-/// it has heard, what its tasks began with, the messages held, and the last evaluation of each task. Without `;`.
+/// The line of a resource that stands at this core: `STANDS R i`, what it has heard, what its tasks began with, the messages
+/// held, and the last evaluation of each task. Without `;`.
 pub fn stands_line(
     alloc: Global,
     plant: &Plant,
     resource: usize,
     core: &MessageCore,
-    lines: u64,
 ) -> Result<String, AllocError>
     requires plant { core.now.plant ≡ plant.now }
     requires resource { core.now.resource ≡ resource }
-    ensures { IfOk result (λ text. string_bytes text ≡ stands_line core.now lines) }
+    ensures { IfOk result (λ text. string_bytes text ≡ stands_line core.now) }
 {
     let incarnation = core.incarnation();
     let mut text = String::new(alloc);
     text.push_str("STANDS ")?;
     push_resource(&mut text, plant, resource)?;
-    write!(text, " {incarnation} LINES {lines}")?;
+    write!(text, " {incarnation}")?;
     push_heard(&mut text, plant, core.heard())?;
     push_keeps(alloc, &mut text, plant, resource, core)?;
     push_all_held(&mut text, plant, core)?;

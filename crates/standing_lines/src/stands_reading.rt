@@ -5,7 +5,7 @@ ghost use Rattle.plant.specs.PlantValue.{PlantValue};
 ghost use Rattle.standing_lines.specs.StandsLine.{IsStanding, IsNoStanding, stands_line};
 
 use crate::last_reading::{read_heard, read_last};
-use crate::line_words::{LineWords, long_number_of};
+use crate::line_words::LineWords;
 use crate::stands_line::stands_line;
 use evaluation::Retained;
 use exchange_core::{Accepted, MessageCore, is_opening};
@@ -23,8 +23,6 @@ use text_lines::{are_same, behind, number_of, read_message, resource_name, value
 pub struct StandsHead {
     pub resource: usize,
     pub incarnation: u32,
-    /// How many lines the node has done since it started.
-    pub lines: u64,
 }
 
 /// The head of a resource's line.
@@ -33,14 +31,9 @@ fn read_head(plant: &Plant, resource: usize, words: &mut LineWords) -> Option<St
         return None;
     }
     let incarnation = number_of(words.next_word()?)?;
-    if !words.takes(b"LINES") {
-        return None;
-    }
-    let lines = long_number_of(words.next_word()?)?;
     Some(StandsHead {
         resource,
         incarnation,
-        lines,
     })
 }
 
@@ -233,26 +226,19 @@ pub fn read_stands(
     line: &[u8],
 ) -> Result<Option<NodeCore>, AllocError>
     ensures { IfOk result (λ found. MatchOption found (IsNoStanding plant.now.value resource line.now)
-        (λ s. IsStanding plant.now.value resource s × (line.now ≡ stands_line s.core s.lines))) }
+        (λ s. IsStanding plant.now.value resource s × (line.now ≡ stands_line s.core))) }
 {
     let mut words = LineWords::of(alloc, line)?;
-    let Some(
-        StandsHead {
-            incarnation,
-            lines,
-            ..
-        },
-    ) = read_head(plant, resource, &mut words)
-    else {
+    let Some(StandsHead { incarnation, .. }) = read_head(plant, resource, &mut words) else {
         return Ok(None);
     };
     let Some(core) = read_core(alloc, plant, resource, incarnation, &mut words)? else {
         return Ok(None);
     };
-    let again = stands_line(alloc, plant, resource, &core, lines)?;
+    let again = stands_line(alloc, plant, resource, &core)?;
     if !are_same(again.as_bytes(), line) {
         return Ok(None);
     }
     let shared = Arc::try_clone(plant)?;
-    Ok(Some(NodeCore::standing(shared, resource, core, lines)))
+    Ok(Some(NodeCore::standing(shared, resource, core)))
 }

@@ -11,8 +11,9 @@ use Rattle.book.specs.declared.book.misfit.Misfit.TheVariants.{Memory}
 use Rattle.book.specs.Book.{BookValue, IsMisfit}
 use Rattle.exchange_core.specs.CoreValue.{CoreValue}
 use Rattle.node_reports.specs.Stations.{StationValue, PendingValue, fresh_station, IsNoted}
+use Rattle.standing_lines.specs.StandsLine.{stands_line}
 use Rattle.audit.specs.declared.item.Item.{Item}
-use Rattle.audit.specs.declared.item.Item.TheVariants.{Start, Restart, Message, Hello, Evaluate, Foreign, Faulty}
+use Rattle.audit.specs.declared.item.Item.TheVariants.{Start, Restart, Message, Hello, Evaluate, Foreign, Stands, Faulty}
 use Rattle.audit.specs.declared.line.Line.{Line}
 use Rattle.audit.specs.declared.follower.Follower.{Follower}
 use Rattle.audit.specs.declared.needs.Need.{Need}
@@ -24,8 +25,8 @@ use Rattle.audit.specs.declared.reason.Reason.TheVariants as reason
 use Rattle.audit.specs.declared.standing.Standing.{Standing}
 use Rattle.audit.specs.declared.standing.Standing.TheVariants.{Going, Ended}
 use Rattle.audit.specs.declared.trail.Trail.{Trail}
-use Rattle.audit.specs.Lines.{zeros, AreLeft, Rises, OpensWith, WasUndone, WasDone, Does, ticket_at, StandsAt}
-use Rattle.audit.specs.Reasons.{begins, IsNoLine, IsAbove, SkipsTooMany, IsTooHigh, OpensOtherwise, WouldTake, WouldHear, IsOther, IsUnfit}
+use Rattle.audit.specs.Lines.{zeros, AreLeft, Rises, OpensWith, WasUndone, WasDone, Does, ticket_at, StandsAt, messages_in}
+use Rattle.audit.specs.Reasons.{begins, IsNoLine, IsAbove, SkipsTooMany, IsTooHigh, OpensOtherwise, StandsOtherwise, WouldTake, WouldHear, IsOther, IsUnfit}
 use Rattle.audit.specs.Steps.AuditedBook.{AuditedBook}
 
 -- no START that opens the task stands next
@@ -40,7 +41,19 @@ IsStart (Message m) is = is ≡ false
 IsStart (Hello of incarnation) is = is ≡ false
 IsStart (Evaluate task dt inputs) is = is ≡ false
 IsStart (Foreign incarnation) is = is ≡ false
+IsStart (Stands text) is = is ≡ false
 IsStart Faulty is = is ≡ false
+
+-- whether a line tells where a resource stands
+abbrev pub IsStands : Item → Bool → Type 0
+IsStands (Start incarnation kept) is = is ≡ false
+IsStands (Restart incarnation) is = is ≡ false
+IsStands (Message m) is = is ≡ false
+IsStands (Hello of incarnation) is = is ≡ false
+IsStands (Evaluate task dt inputs) is = is ≡ false
+IsStands (Foreign incarnation) is = is ≡ false
+IsStands (Stands text) is = is ≡ true
+IsStands Faulty is = is ≡ false
 
 -- whether a line can't be done, whatever others do
 abbrev pub IsStopped : Outcome → Bool → Type 0
@@ -49,12 +62,18 @@ IsStopped (Waits need) is = is ≡ false
 IsStopped (Stops why) is = is ≡ true
 
 -- what came of a line was noted
-abbrev pub HasNoted : Bool → Outcome → Trail → Trail → Bool → Type 0
-HasNoted start Done old new went =
-    (new ≡ record { at = old.at + 1; begun = if start then old.at else old.begun; past = old.past; last = Done })
+abbrev pub HasNoted : (start stands : Bool) → Outcome → Trail → Trail → Bool → Type 0
+HasNoted start stands Done old new went =
+    (new ≡ record {
+      at = old.at + 1;
+      begun = if start then old.at else old.begun;
+      stood = (if start then 0 else old.stood) + (if stands then 1 else 0);
+      past = old.past;
+      last = Done;
+    })
     × (went ≡ true)
-HasNoted start (Waits need) old new went = (new ≡ record old { last = Waits need }) × (went ≡ false)
-HasNoted start (Stops why) old new went = (new ≡ record old { last = Stops why }) × (went ≡ false)
+HasNoted start stands (Waits need) old new went = (new ≡ record old { last = Waits need }) × (went ≡ false)
+HasNoted start stands (Stops why) old new went = (new ≡ record old { last = Stops why }) × (went ≡ false)
 
 -- why an incarnation doesn't rise as it may
 abbrev pub IsNotRisen : ℕ → ℕ → Reason → Type 0
@@ -121,12 +140,19 @@ IsStop b s item reason.Syntax = IsNoLine s item
 IsStop b s item (reason.OtherPlant i) = item ≡ Foreign i
 IsStop b s item (reason.NotRisen i) = (begins i item ≡ true) × (i ≤ s.core.incarnation)
 IsStop b s item (reason.TooHigh i) = (begins i item ≡ true) × IsTooHigh (sum b.skips) s item i
+IsStop b s item reason.Stands = StandsOtherwise s item
 IsStop b s item reason.Kept = OpensOtherwise s item
 IsStop b s item (reason.Differs name) = IsOther b.book s item name
 IsStop b s item (reason.Unmade name) = ⊥
 IsStop b s item (reason.Waits need) = ⊥
 IsStop b s item (reason.Missing need) = ⊥
 IsStop b s item (reason.Misfit misfit) = IsUnfit b.book s item misfit
+
+-- a resource stands as a line tells, or otherwise
+abbrev pub HasStood : StationValue → List ℕ → Outcome → Type 0
+HasStood s line Done = line ≡ stands_line (messages_in s.core)
+HasStood s line (Waits need) = ⊥
+HasStood s line (Stops why) = (why ≡ reason.Stands) × (line ≢ stands_line (messages_in s.core))
 
 -- what came of a line at which the resource doesn't end: it was done, which is this; or it is as before
 abbrev pub Meets : AuditedBook → Type 0 → StationValue → StationValue → Item → Outcome → Type 0
@@ -167,7 +193,8 @@ pub record IsFollowing (plant : PlantValue) (b : AuditedBook) (n : ℕ) (lines :
   pub reached : StandsAt plant n lines trail.at station
   pub led : IsLed station standing trail.last
   pub begun_before : trail.begun ≤ trail.at
-  pub ticket_is : ticket_at lines trail.at ≡ trail.at - trail.begun
+  pub stood_within : trail.begun + trail.stood ≤ trail.at
+  pub ticket_is : ticket_at lines trail.at ≡ trail.at - trail.begun - trail.stood
   pub left : AreLeft station.journal trail.past.left.items
   pub within : trail.at ≤ length lines
   pub tried : IsTried b station (slice_get lines trail.at) trail.last
