@@ -15,7 +15,7 @@ use text_lines::{behind, push_resource};
 
 /// A START of a resource of this name in another plant.
 #[derive(Clone, Copy)]
-pub(crate) struct ForeignStart {
+pub struct ForeignStart {
     pub resource: usize,
     pub incarnation: u32,
 }
@@ -99,7 +99,7 @@ fn foreign_start_of(
 }
 
 /// The START of a resource of a name in the plant, in another plant, that a line is. `line` is without its `;`.
-pub(crate) fn read_foreign_start(
+pub fn read_foreign_start(
     alloc: Global,
     plant: &Plant,
     line: &[u8],

@@ -10,7 +10,7 @@ use evaluation::Retained;
 use std_blocks::are_same_values;
 
 /// The retained values of a task with which the next line opens, if it is a START.
-pub(crate) fn opened_by(next: Option<&Item>, task: usize) -> Option<&Retained>
+pub fn opened_by(next: Option<&Item>, task: usize) -> Option<&Retained>
     ensures { MatchOption result (OpensNot (option_copied next.entry) task) (λ kept. OpensWith (option_copied next.entry) task kept.now) }
 {
     match next {
@@ -20,14 +20,14 @@ pub(crate) fn opened_by(next: Option<&Item>, task: usize) -> Option<&Retained>
 }
 
 /// Whether both have the same values in the same order.
-pub(crate) fn are_same(kept: &Retained, left: &Retained) -> bool
+pub fn are_same(kept: &Retained, left: &Retained) -> bool
     ensures { IsTrue result ↔ (kept.now ≡ left.now) }
 {
     are_same_values(kept.values(), left.values())
 }
 
 /// Whether both are the same values of the same tasks.
-pub(crate) fn are_all_same(kept: &[Retained], left: &[Retained]) -> bool
+pub fn are_all_same(kept: &[Retained], left: &[Retained]) -> bool
     ensures { IsTrue result ↔ (kept.now ≡ left.now) }
 {
     lists::are_same(kept, left, are_same)

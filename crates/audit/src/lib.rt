@@ -35,9 +35,15 @@ mod trail;
 mod whole_lines;
 
 pub use auditing::{Audited, audit};
+pub use foreign_start::{ForeignStart, read_foreign_start};
 pub use item::Item;
 pub use journal_file::JournalFile;
+pub use kept::{are_all_same, are_same, opened_by};
 pub use laws::{answers_are_told, one_reason, one_telling};
 pub use line::{Line, Place};
+pub use line_telling::read_item;
 pub use needs::Need;
 pub use reason::{Reason, Unshown};
+pub use rising::{not_rising, skipped_between};
+pub use start_line::{Start, read_start};
+pub use whole_lines::whole_line;

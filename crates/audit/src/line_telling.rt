@@ -29,7 +29,7 @@ fn is_task_of(plant: &Plant, resource: usize, task: TaskRef) -> bool
 
 /// What a line behind a START tells of its resource. `line` is without its `;`.
 #[tactic(auto, using(crate::proofs::LineTellings::asks_nothing, crate::proofs::LineTellings::asks_foreign))]
-pub(crate) fn read_item(
+pub fn read_item(
     alloc: Global,
     plant: &Plant,
     resource: usize,

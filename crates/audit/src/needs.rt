@@ -15,7 +15,7 @@ pub enum Need {
 
 impl Need {
     /// The resource that is to go on.
-    pub(crate) fn resource(self) -> usize
+    pub fn resource(self) -> usize
         ensures { result ≡ maker_of self }
     {
         match self {
@@ -25,7 +25,7 @@ impl Need {
     }
 
     /// The incarnation in which it is to be.
-    pub(crate) fn incarnation(self) -> u32
+    pub fn incarnation(self) -> u32
         ensures { result ≡ incarnation_of self }
     {
         match self {

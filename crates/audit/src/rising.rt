@@ -8,7 +8,7 @@ use crate::reason::Reason;
 const MOST_ABOVE: u32 = 1_000_000;
 
 /// Why a START or RESTART can't be done: its incarnation isn't above the present one, or too high above it.
-pub(crate) fn not_rising(present: u32, incarnation: u32) -> Option<Reason>
+pub fn not_rising(present: u32, incarnation: u32) -> Option<Reason>
     ensures { MatchOption result (IsAbove present incarnation) (IsNotRisen present incarnation) }
 {
     if incarnation <= present {
@@ -25,7 +25,7 @@ const MOST_SKIPPED: u32 = 1_000_000;
 
 /// How many incarnations are skipped between the present one and a greater one. `None`: with those that were skipped before
 /// they are too many.
-pub(crate) fn skipped_between(skipped: u32, present: u32, incarnation: u32) -> Option<u32>
+pub fn skipped_between(skipped: u32, present: u32, incarnation: u32) -> Option<u32>
     requires few { skipped ≤ 1000000 }
     requires above { present < incarnation }
     ensures { MatchOption result (SkipsTooMany skipped present incarnation)

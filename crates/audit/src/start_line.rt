@@ -20,7 +20,7 @@ use text_lines::behind;
 
 /// What a START tells: the resource, its incarnation, and the retained values of each of its tasks.
 #[derive(Drop)]
-pub(crate) struct Start {
+pub struct Start {
     pub resource: usize,
     pub incarnation: u32,
     pub kept: Vec<Retained>,
@@ -109,11 +109,7 @@ fn start_of(
 }
 
 /// The START of a resource of the plant that a line is. `line` is without its `;`.
-pub(crate) fn read_start(
-    alloc: Global,
-    plant: &Plant,
-    line: &[u8],
-) -> Result<Option<Start>, AllocError>
+pub fn read_start(alloc: Global, plant: &Plant, line: &[u8]) -> Result<Option<Start>, AllocError>
     ensures { IfOk result (λ found. MatchOption found (IsNoOwnStart plant.now line.now)
         (λ s. IsStart plant.now s.resource s.incarnation s.kept.items line.now)) }
 {

@@ -18,7 +18,7 @@ pub(crate) fn lines_in(alloc: Global, text: &[u8]) -> Result<Vec<&[u8]>, AllocEr
 
 /// What stands before the `;` with which a whole line ends. `None`: it was torn, and never done.
 #[tactic(auto, using(crate::proofs::WholeLines::whole, crate::proofs::WholeLines::torn_empty, crate::proofs::WholeLines::torn_other))]
-pub(crate) fn whole_line(line: &[u8]) -> Option<&[u8]>
+pub fn whole_line(line: &[u8]) -> Option<&[u8]>
     ensures { MatchOption result (IsTorn line.now) (λ front. IsWhole line.now front.now) }
 {
     let (last, front) = line.split_last()?;

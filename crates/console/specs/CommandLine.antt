@@ -259,9 +259,12 @@ journals_rule = record (new_rule (codes "JOURNAL")) {
   required = true;
 }
 
--- `audit PLANT JOURNAL..`
+abbrev pub from_stands_rule : Rule
+from_stands_rule = flag_of (codes "from-stands")
+
+-- `audit [--from-stands] PLANT JOURNAL..`
 abbrev pub audit_app : App
-audit_app = with_rule (with_rule (new_app (codes "audit")) plant_rule) journals_rule
+audit_app = with_rule (with_rule (with_rule (new_app (codes "audit")) plant_rule) journals_rule) from_stands_rule
 
 -- `page FILE`
 abbrev pub page_app : App
@@ -518,6 +521,7 @@ Asks found (Explain kind) = option_map (λ k. k.now) kind ≡ first_of (codes "K
 Asks found (Audit audit) =
     (audit.plant.now ≡ given_word (codes "PLANT") found)
     × (map (λ w. w.now) audit.journals.items ≡ journals_given found)
+    × (audit.from_stands ≡ is_given (codes "from-stands") found)
 
 -- the request is what the subcommand asks for, with what was found for its options
 abbrev pub AsksFor : Option (Text × List Row) → Request → Type 0

@@ -590,6 +590,7 @@ fn audit_request<'a>(alloc: Global, inner: &ArgMatches<'a>) -> Result<Request<'a
     Ok(Request::Audit(AuditRequest {
         plant: given_word(inner, "PLANT"),
         journals: journals_given(alloc, inner)?,
+        from_stands: is_given(inner, "from-stands"),
     }))
 }
 

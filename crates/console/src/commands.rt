@@ -1,6 +1,6 @@
 ghost use Rattle.std.specs.Prelude.{◌≡◌, false, IfOk, codes};
 ghost use Rattle.clap.specs.Words.{app_of, new_app, rule_of};
-ghost use Rattle.console.specs.CommandLine.{by_rule, certificate_rule, needed_word, option_of, flag_of, words_rule, plant_rule, file_rule, until_rule, state_rule, journal_rule, journal_full_rule, journal_size_rule, as_schedule_rule, paced_rule, clock_rule, cycle_rule, node_field_rule, end_rule, show_rule, chart_rule, color_rule, program_rule, vcd_rule, with_file_rule, svg_rule, traced, strict_rule, no_warnings_rule, warned, kind_rule, never_rule, given_rule, restart_rule, journals_rule, shown_app, eval_app, claimed_app, verify_app, check_app, plan_app, limited_app, sim_app, paced_app, run_app, node_app, explain_app, audit_app, page_app, versioned, commanded, plc_app, text_app};
+ghost use Rattle.console.specs.CommandLine.{by_rule, certificate_rule, needed_word, option_of, flag_of, words_rule, plant_rule, file_rule, until_rule, state_rule, journal_rule, journal_full_rule, journal_size_rule, as_schedule_rule, paced_rule, clock_rule, cycle_rule, node_field_rule, end_rule, show_rule, chart_rule, color_rule, program_rule, vcd_rule, with_file_rule, svg_rule, traced, strict_rule, no_warnings_rule, warned, kind_rule, never_rule, given_rule, restart_rule, journals_rule, from_stands_rule, shown_app, eval_app, claimed_app, verify_app, check_app, plan_app, limited_app, sim_app, paced_app, run_app, node_app, explain_app, audit_app, page_app, versioned, commanded, plc_app, text_app};
 
 use crate::help::{
     AUDIT_HELP, CHECK_HELP, EVAL_HELP, EXPLAIN_HELP, FIRST_STEPS, NODE_HELP, PAGE_HELP, PLAN_HELP,
@@ -588,6 +588,17 @@ fn journals_arg<'a>(alloc: Global) -> Arg<'a>
         .help("The file of a node's journal; several, in any order")
 }
 
+fn from_stands_arg<'a>(alloc: Global) -> Arg<'a>
+    ensures rule { rule_of result ≡ from_stands_rule }
+    ensures local { result.global ≡ false }
+{
+    flag_arg(
+        alloc,
+        "from-stands",
+        "Begins where a node stood, by a line STANDS, where what it did before isn't given",
+    )
+}
+
 fn audit_command<'a>(alloc: Global) -> Result<Command<'a>, AllocError>
     ensures { IfOk result (λ c. app_of c ≡ audit_app) }
 {
@@ -597,7 +608,8 @@ fn audit_command<'a>(alloc: Global) -> Result<Command<'a>, AllocError>
         )
         .after_help(AUDIT_HELP)
         .arg(plant_arg(alloc))?
-        .arg(journals_arg(alloc))
+        .arg(journals_arg(alloc))?
+        .arg(from_stands_arg(alloc))
 }
 
 fn page_command<'a>(alloc: Global) -> Result<Command<'a>, AllocError>

@@ -316,6 +316,11 @@ was then, FILE.N:1 is UNSHOWN, and standard error tells it.
 The lines of all of them are done once more, each as soon as what it needs is there: a message that was taken needs the
 evaluation that made it, and has to be equal to what that gave.
 
+With --from-stands a journal may begin with a further file: its second line STANDS tells where the node stood, which is believed.
+It is written first, as STANDS FILE:LINE R i; a message of an evaluation before it is believed too, and told as BELIEVED
+FILE:LINE R.T i.n. At last comes REPLAY from STANDS equal, where all else is shown. So the last files are audited by themselves,
+in memory for what goes from one resource to another alone.
+
 A line is written for each evaluation that is shown, in an order in which each one takes what was made before it; then
 UNSHOWN with FILE:LINE and the reason for each resource whose journal can't be followed further, and for each file without
 a START, and NOJOURNAL for each resource without a journal; at last whether a run of these evaluations in one thread makes

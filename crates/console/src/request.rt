@@ -279,6 +279,8 @@ pub struct NodeRequest<'a> {
 pub struct AuditRequest<'a> {
     pub plant: &'a str,
     pub journals: Vec<&'a str>,
+    /// Whether a journal may begin where a node stood.
+    pub from_stands: bool,
 }
 
 /// What the words of the command line ask for.

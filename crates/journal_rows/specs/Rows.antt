@@ -28,26 +28,30 @@ line_ends text = count_by (λ c. c == 10) text
 abbrev pub next_of : Texts → ℕ → List ℕ → Option ℕ
 next_of texts number before = position (λ t. goes_on_at number before t.now) texts
 
--- One file goes on from another, each of them from the one before: so many further ones. The last one is at this place of those
--- given; and this is noted in them, one behind the other.
-abbrev pub GoOn : Texts → ℕ → ℕ → ℕ → List ℕ → List ℕ → List ℕ → Type 0
-GoOn texts first zero last files ended noted =
+-- One file goes on from another, each of them from the one before: so many further ones, of which the first one has this number.
+-- The last one is at this place of those given; and this is noted in them, one behind the other.
+abbrev pub GoOn : Texts → (number first further last : ℕ) → List ℕ → List ℕ → List ℕ → Type 0
+GoOn texts number first zero last files ended noted =
     (only : Bor (List ℕ)) × (slice_get texts first ≡ Some only) × (last ≡ first) × (files ≡ first ∷ []) × (ended ≡ 0 ∷ [])
     × (noted ≡ only.now)
-GoOn texts first (suc k) last files ended noted =
-    (before : ℕ) × (these starts text : List ℕ) × (from to : Bor (List ℕ)) × GoOn texts first k before these starts text
-    × (slice_get texts before ≡ Some from) × (slice_get texts last ≡ Some to) × (next_of texts k from.now ≡ Some last)
+GoOn texts number first (suc k) last files ended noted =
+    (before : ℕ) × (these starts text : List ℕ) × (from to : Bor (List ℕ)) × GoOn texts number first k before these starts text
+    × (slice_get texts before ≡ Some from) × (slice_get texts last ≡ Some to) × (next_of texts (number + k) from.now ≡ Some last)
     × (files ≡ these ++ last ∷ []) × (ended ≡ starts ++ line_ends text ∷ []) × (noted ≡ text ++ behind_first_line to.now)
 
--- A row of files, from this one on: none that is given goes on from its last one.
-pub record IsRow (texts : Texts) (first : ℕ) (row : Row) : Type 0 where
+-- A row of files, from this one on, which has this number: none that is given goes on from its last one.
+pub record IsRowFrom (texts : Texts) (number first : ℕ) (row : Row) : Type 0 where
   pub further : ℕ
   pub last : ℕ
   pub text : Bor (List ℕ)
-  pub go_on : GoOn texts first further last row.files.items row.ended.items row.text.items
+  pub go_on : GoOn texts number first further last row.files.items row.ended.items row.text.items
   pub lines_are : row.lines ≡ line_ends row.text.items
   pub last_is : slice_get texts last ≡ Some text
-  pub ends : next_of texts further text.now ≡ None
+  pub ends : next_of texts (number + further) text.now ≡ None
+
+-- a row from a file that is no further one
+abbrev pub IsRow : Texts → ℕ → Row → Type 0
+IsRow texts first row = IsRowFrom texts 0 first row
 
 -- the rows of the first files: each that is no further one begins a row
 abbrev pub HaveRows : Texts → ℕ → List Row → Type 0
@@ -70,4 +74,35 @@ loose_of rows (suc k) = loose_of rows k ++ (if is_in rows k then [] else k ∷ [
 -- explained.
 pub record AreRows (texts : Texts) (rows : List Row) (loose : List LooseFile) : Type 0 where
   pub rows_are : HaveRows texts (length texts) rows
+  pub loose_are : loose ≡ map (loose_file texts) (loose_of rows (length texts))
+
+-- the digits behind the first ten bytes of a text, and the number of a further file that they write; 0 where they write none
+abbrev pub digits_in : List ℕ → List ℕ
+digits_in [] = []
+digits_in (c ∷ text) = if is_ascii_digit c then c ∷ digits_in text else []
+
+abbrev pub number_digits : List ℕ → List ℕ
+number_digits text = digits_in (drop 10 text)
+
+abbrev pub number_in : List ℕ → ℕ
+number_in text = unwrap_or (parsed_u64 (number_digits text)) 0
+
+-- a file goes on from none that is given
+abbrev pub begins_part : LooseFile → Bool
+begins_part f = is_missing f.cause
+
+-- behind the rows that there are: for each of the loose files that goes on from none that is given the row from it on
+abbrev pub HaveLooseRows : Texts → List LooseFile → List Row → List Row → Type 0
+HaveLooseRows texts [] old new = new ≡ old
+HaveLooseRows texts (f ∷ loose) old new =
+    ((begins_part f ≡ false) × HaveLooseRows texts loose old new)
+    ⊎ ((begins_part f ≡ true) × (text : Bor (List ℕ)) × (row : Row) × (slice_get texts f.file ≡ Some text)
+    × IsRowFrom texts (number_in text.now) f.file row × HaveLooseRows texts loose (old ++ row ∷ []) new)
+
+-- What files are, of which the first ones needn't be given: a further one that goes on from none begins a row, too.
+pub record AreRowsOfParts (texts : Texts) (rows : List Row) (loose : List LooseFile) : Type 0 where
+  pub whole : List Row
+  pub others : List LooseFile
+  pub joined : AreRows texts whole others
+  pub rows_are : HaveLooseRows texts others whole rows
   pub loose_are : loose ≡ map (loose_file texts) (loose_of rows (length texts))

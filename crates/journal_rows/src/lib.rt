@@ -10,4 +10,4 @@ mod rows;
 pub use digests::{digest_more, digest_of};
 pub use first_line::{continues_front, continues_line};
 pub use loose_files::{LooseCause, LooseFile};
-pub use rows::{Row, Rows, is_further, join};
+pub use rows::{Row, Rows, is_further, join, join_parts};

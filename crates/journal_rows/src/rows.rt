@@ -3,11 +3,11 @@
 ghost use Rattle.std.specs.Prelude.{◌≡◌, ◌<◌, ◌==◌, ◌++◌, ◌∷◌, [], IfOk, IfSome, OnOk, length};
 ghost use Rattle.std.specs.List.{list_any, position};
 ghost use Rattle.journal_rows.specs.ContinuesLine.{begins_with};
-ghost use Rattle.journal_rows.specs.Rows.{behind_first_line, is_further, is_in, line_ends, loose_of, AreRows, HaveRows, IsRow};
+ghost use Rattle.journal_rows.specs.Rows.{behind_first_line, is_further, is_in, line_ends, loose_of, number_digits, number_in, AreRows, AreRowsOfParts, HaveLooseRows, HaveRows, IsRowFrom};
 
 use crate::digests::digest_of;
 use crate::first_line::{begins_with, continues_front};
-use crate::loose_files::{LooseFile, explained};
+use crate::loose_files::{LooseCause, LooseFile, explained};
 use std::alloc::{AllocError, Global};
 
 /// Files of which each goes on from the one before, and what is noted in them.
@@ -103,14 +103,14 @@ impl Row {
     }
 }
 
-/// The row that begins with a file.
-fn row_from(alloc: Global, texts: &[&[u8]], first: usize) -> Result<Row, AllocError>
+/// The row that begins with a file, which has this number.
+fn row_from(alloc: Global, texts: &[&[u8]], first: usize, number: u64) -> Result<Row, AllocError>
     requires { first < length texts.now }
-    ensures { IfOk result (IsRow texts.now first) }
+    ensures { IfOk result (IsRowFrom texts.now number first) }
 {
     let mut row = Row::of(alloc, first, texts[first])?;
     let mut last = first;
-    for further in 0..u64::MAX {
+    for further in number..u64::MAX {
         let front = continues_front(alloc, further + 1, digest_of(texts[last]))?;
         let Some(next) = begun_by(texts, front.as_bytes()) else {
             return Ok(row);
@@ -129,7 +129,7 @@ fn rows_of(alloc: Global, texts: &[&[u8]]) -> Result<Vec<Row>, AllocError>
     let mut rows = Vec::new(alloc);
     for first in 0..texts.len() {
         if !is_further(texts[first]) {
-            rows.push(row_from(alloc, texts, first)?)?;
+            rows.push(row_from(alloc, texts, first, 0)?)?;
         }
     }
     Ok(rows)
@@ -167,6 +167,58 @@ pub fn join(alloc: Global, texts: &[&[u8]]) -> Result<Rows, AllocError>
     ensures { IfOk result (λ r. AreRows texts.now r.rows.items r.loose.items) }
 {
     let rows = rows_of(alloc, texts)?;
+    let loose = loose_of(alloc, rows.as_slice(), texts.len())?;
+    let loose = explained(alloc, texts, loose.as_slice())?;
+    Ok(Rows { rows, loose })
+}
+
+/// What stands behind the first line's first word, up to what is no digit.
+fn number_digits(text: &[u8]) -> &[u8]
+    ensures { result.now ≡ number_digits text.now }
+{
+    let Some(rest) = text.get(10..) else {
+        return &[];
+    };
+    match rest.iter().position(|c| !c.is_ascii_digit()) {
+        Some(end) => rest.split_at(end).0,
+        None => rest,
+    }
+}
+
+/// The number of a further file, by its first line; 0 where that tells none.
+fn number_of(text: &[u8]) -> u64
+    ensures { result ≡ number_in text.now }
+{
+    match std::str::from_utf8(number_digits(text)) {
+        Ok(digits) => digits.parse::<u64>().unwrap_or(0),
+        Err(_) => 0,
+    }
+}
+
+/// The rows that begin with loose files of which no file that is given tells anything before, behind those that there are.
+fn push_loose_rows(
+    alloc: Global,
+    texts: &[&[u8]],
+    loose: &[LooseFile],
+    rows: &mut Vec<Row>,
+) -> Result<(), AllocError>
+    ensures { OnOk result (HaveLooseRows texts.now loose.now rows.old.items rows.new.items) }
+{
+    for found in loose {
+        if found.cause == LooseCause::Missing && found.file < texts.len() {
+            let number = number_of(texts[found.file]);
+            rows.push(row_from(alloc, texts, found.file, number)?)?;
+        }
+    }
+    Ok(())
+}
+
+/// Which of the files go on from which; a further one that goes on from none that is given begins a row, too.
+pub fn join_parts(alloc: Global, texts: &[&[u8]]) -> Result<Rows, AllocError>
+    ensures { IfOk result (λ r. AreRowsOfParts texts.now r.rows.items r.loose.items) }
+{
+    let Rows { mut rows, loose } = join(alloc, texts)?;
+    push_loose_rows(alloc, texts, loose.as_slice(), &mut rows)?;
     let loose = loose_of(alloc, rows.as_slice(), texts.len())?;
     let loose = explained(alloc, texts, loose.as_slice())?;
     Ok(Rows { rows, loose })

@@ -4,7 +4,7 @@ ghost use Rattle.plc_main.specs.AuditCommand.{WritesAudit, ExplainsAudit};
 use audit::{JournalFile, audit};
 use console::CommandFault;
 use plant::Plant;
-use run_texts::tell_audit;
+use run_texts::{tell_audit, tell_parts};
 use std::alloc::Global;
 use std::io::Write;
 use std::sync::Arc;
@@ -26,4 +26,14 @@ pub fn audit_text<W: Write>(
     let shared = Arc::try_clone(&plant)?;
     let audited = audit(alloc, shared, files)?;
     Ok(tell_audit(alloc, plant, files, &audited, writer)?)
+}
+
+/// Audits journals that may begin where a node stood, and writes what is shown and what can't be. It tells whether all is shown.
+pub fn parts_text<W: Write>(
+    alloc: Global,
+    plant: Arc<Plant>,
+    files: &[JournalFile],
+    writer: &mut W,
+) -> Result<bool, CommandFault> {
+    Ok(tell_parts(alloc, &plant, files, writer)?)
 }

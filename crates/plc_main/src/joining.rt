@@ -2,7 +2,7 @@
 
 use audit::JournalFile;
 use console::Shown;
-use journal_rows::{LooseCause, LooseFile, Row, Rows, join};
+use journal_rows::{LooseCause, LooseFile, Row, Rows, join, join_parts};
 use std::alloc::{AllocError, Global};
 use std::io;
 
@@ -104,21 +104,31 @@ fn tell_loose<R: Eprint>(
     }
 }
 
-/// What is joined of files, and their names. Their texts go.
-fn rows_of(alloc: Global, files: Vec<JournalFile>) -> Result<(Rows, Vec<String>), AllocError> {
+/// What is joined of files, of which the first ones needn't be given if parts are asked for, and their names. Their texts go.
+fn rows_of(
+    alloc: Global,
+    parts: bool,
+    files: Vec<JournalFile>,
+) -> Result<(Rows, Vec<String>), AllocError> {
     let texts = texts_of(alloc, files.as_slice())?;
-    let rows = join(alloc, texts.as_slice())?;
+    let rows = if parts {
+        join_parts(alloc, texts.as_slice())?
+    } else {
+        join(alloc, texts.as_slice())?
+    };
     Ok((rows, names_of(alloc, files.as_slice())?))
 }
 
 /// The journals of files: one for each row, by the name of its first file; and one without lines for each file that goes on
-/// from none that is given. Which these are is told. The texts of the files go as soon as they are joined.
+/// from none that is given, unless `parts` are asked for. Which these are is told. The texts of the files go as soon as they
+/// are joined.
 pub fn joined_journals<R: Eprint + AllocGlobal>(
     rt: &R,
+    parts: bool,
     files: Vec<JournalFile>,
 ) -> io::Result<Joined> {
     let alloc = rt.alloc();
-    let (Rows { rows, loose }, names) = rows_of(alloc, files)?;
+    let (Rows { rows, loose }, names) = rows_of(alloc, parts, files)?;
     let mut journals = Vec::with_capacity(alloc, names.len())?;
     let mut seams = Vec::new(alloc);
     for row in rows {

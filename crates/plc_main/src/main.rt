@@ -23,7 +23,7 @@ ghost use Rattle.evaluation.specs.InputTexts.{IsRead};
 ghost use Rattle.console.specs.FieldWords.{one_text_of};
 
 use answering::{Terminals, answer_words};
-use audit_command::audit_text;
+use audit_command::{audit_text, parts_text};
 use console::{
     Answered, AuditRequest, CommandFault, FAILED, Pace, Prepared, RunRequest, file_plant,
     given_words, prepare, print_failure, print_fault, print_given_fault,
@@ -200,9 +200,15 @@ fn answer_audit<R: Files + Print + Eprint + AllocGlobal>(
         Ok(journals) => journals,
         Err(status) => return Ok(status),
     };
-    let joined = joined_journals(rt, journals)?;
+    let joined = joined_journals(rt, request.from_stands, journals)?;
     let mut writer = io::writer(rt);
-    match audit_text(rt.alloc(), plant, joined.journals.as_slice(), &mut writer) {
+    let files = joined.journals.as_slice();
+    let shown = if request.from_stands {
+        parts_text(rt.alloc(), plant, files, &mut writer)
+    } else {
+        audit_text(rt.alloc(), plant, files, &mut writer)
+    };
+    match shown {
         Ok(true) => Ok(0),
         Ok(false) => {
             joined.tell_seams(rt)?;

@@ -124,7 +124,7 @@ fn push_without(line: &mut String, plant: &Plant, resource: usize) -> Result<(),
 }
 
 /// Writes a line for each line of a journal from which on it can't be shown.
-fn write_unshown<W: Write>(
+pub(crate) fn write_unshown<W: Write>(
     alloc: Global,
     plant: &Plant,
     files: &[JournalFile],
@@ -145,7 +145,7 @@ fn write_unshown<W: Write>(
 }
 
 /// Writes a line for each resource of which there is no journal.
-fn write_without<W: Write>(
+pub(crate) fn write_without<W: Write>(
     alloc: Global,
     plant: &Plant,
     without: &[usize],

@@ -4,6 +4,7 @@
 
 mod audit_telling;
 mod audit_text;
+mod parts_telling;
 mod replay;
 mod report_text;
 mod run_commands;
@@ -11,6 +12,7 @@ mod run_plan;
 mod telling;
 
 pub use audit_telling::tell_audit;
+pub use parts_telling::tell_parts;
 pub use run_commands::planned_run;
 pub use run_plan::PlannedRun;
 pub use telling::tell_report;
