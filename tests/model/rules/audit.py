@@ -1,6 +1,7 @@
 """The audit of journals: what all nodes did as one book, and where their journals can't be followed further."""
 from .core import Core, Message, left_by
-from .journals import Evaluated, Foreign, Hello, Restart, Start, runs_of, told_of
+from .journals import Evaluated, Foreign, Hello, Restart, Stands, Start, runs_of, told_of
+from .stands import stands_line
 
 MOST_ABOVE = 1_000_000
 # So many restarts may be of no START or RESTART that was noted, in all journals together.
@@ -72,8 +73,14 @@ class Journal:
             self.hear(item)
         elif isinstance(item, Message):
             self.accept(item)
+        elif isinstance(item, Stands):
+            self.stand(item)
         else:
             self.evaluate(item)
+
+    def stand(self, item):
+        if stands_line(self.core) != item.line:
+            raise Stop("Stands")
 
     def rise(self, item):
         if item.incarnation <= self.incarnation:

@@ -11,7 +11,8 @@ from .inputs import BadInput, Inputs, parts_of
 from .kept_files import BadFile, KeptFiles
 from .lines import lines_of, without_comments
 from .networks import networks_of
-from .node import Node, NoFiles
+from .node import Node, NoFiles, NoJournal
+from .parts import Parts
 from .plan import plan_of, schedule_of
 from .plant_text import find, read_plant
 from .refusal import Refusal
@@ -78,7 +79,7 @@ SHAPES = {
     "sim": Shape(2, numbers=("--max-number",), names=("--vcd", "--svg")),
     "run": Shape(1, ("--until",), names=("--state", "--vcd", "--svg"), flags=("--paced",), needed=("--until",), has_more=True),
     "node": Shape(2, numbers=("--until", "--journal-size"), choices={"--journal-full": ("stop", "go-on")}, names=("--field", "--state", "--journal"), flags=("--cycle",)),
-    "audit": Shape(2, has_more=True),
+    "audit": Shape(2, flags=("--from-stands",), has_more=True),
 }
 
 
@@ -635,7 +636,9 @@ def node(write, files, paths, options, _more):
         raise Refused(REFUSED_WORDS)
     keeper = KeptFiles(files.folder, options["--state"]) if "--state" in options else NoFiles()
     try:
-        it = Node(plant, resource, keeper, notes_of(files, options, resource, write))
+        notes = notes_of(files, options, resource, write)
+        it = Node(plant, resource, keeper, notes.note)
+        notes.core = it.core
         for line in it.first:
             write(line)
         for line in node_answers(it, files, options):
@@ -647,12 +650,12 @@ def node(write, files, paths, options, _more):
 def notes_of(files, options, resource, write):
     """What notes each line of a node: nothing where there is no journal."""
     if "--journal" not in options:
-        return lambda line: None
+        return NoJournal()
     told = (lambda: write("UNNOTED")) if options.get("--journal-full") == "go-on" else None
     path = files.whole_path(options["--journal"])
     if "--journal-size" in options:
-        return RowJournal(path, resource, options["--journal-size"], told).note
-    return single_journal(path, told).note
+        return RowJournal(path, resource, options["--journal-size"], told)
+    return single_journal(path, told)
 
 
 def node_answers(it, files, options):
@@ -670,9 +673,11 @@ def node_answers(it, files, options):
             yield from it.answer(line)
 
 
-def audit(write, files, paths, _options, more):
+def audit(write, files, paths, options, more):
     plant, journals = files.plant(paths[0]), [paths[1], *more]
-    found = Audit(plant, joined([(path, files.text(path)) for path in journals]))
+    is_parts = "--from-stands" in options
+    texts = joined([(path, files.text(path)) for path in journals], is_parts)
+    found = (Parts if is_parts else Audit)(plant, texts)
     for line in found.lines():
         write(line)
     if not found.is_whole:

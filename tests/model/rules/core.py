@@ -58,7 +58,7 @@ class Core:
 
     def begin(self, incarnation):
         """All is forgotten but what is retained; of no other resource has this one heard."""
-        self.incarnation = incarnation
+        self.incarnation, self.kept = incarnation, dict(self.left)
         self.heard = [0] * len(self.plant.resources)
         self.heard[self.resource.place] = incarnation
         self.last = {}
@@ -91,12 +91,8 @@ class Core:
         before = self.last.get(task)
         state = copy_of(before.state) if before else self.warm_state(task)
         takes = [(producer, self.last.get(producer)) for producer in task.producers()]
-        fill(task, state, dict(takes), inputs)
-        for program in task.programs:
-            program.type.ladder.scan(state[program], elapsed)
-        image = {key_of(program, it): state[program].get(it.name) for program, it in task.outputs()}
         name = self.incarnation, before.name[1] + 1 if before else 1
-        return Evaluation(0, task, name, list(self.heard), takes, image, state)
+        return fill_and_scan(task, name, list(self.heard), takes, elapsed, inputs, state)
 
     def make(self, made):
         self.last[made.task] = made
@@ -107,6 +103,18 @@ class Core:
         for (program, it), value in zip(task.retained(), self.left[task]):
             state[program].set(it.name, value)
         return state
+
+
+def fill_and_scan(task, name, heard, takes, elapsed, inputs, before):
+    """An evaluation that is asked so."""
+    state = copy_of(before)
+    fill(task, state, dict(takes), inputs)
+    for program in task.programs:
+        program.type.ladder.scan(state[program], elapsed)
+    image = {key_of(program, it): state[program].get(it.name) for program, it in task.outputs()}
+    made = Evaluation(0, task, name, heard, takes, image, state)
+    made.asked = elapsed, inputs, before
+    return made
 
 
 def copy_of(state):

@@ -48,14 +48,36 @@ class Evaluated:
     inputs: object
 
 
+@dataclass
+class Stands:
+    """Where the resource stands, as a whole line."""
+
+    line: str
+
+
+def kept_words(resource, kept):
+    """The retained values of the tasks of a resource."""
+    return [f"{program.name}.{it.name}={words.shown(value)}" for task in resource.tasks for (program, it), value in zip(task.retained(), kept[task])]
+
+
+def kept_of(resource, given):
+    """The values that words tell for the retained variables of the tasks of a resource."""
+    kept = {}
+    for task in resource.tasks:
+        retained = task.retained()
+        kept[task] = [value_of(word, it.kind) for (_, it), word in zip(retained, given)]
+        if len(kept[task]) != len(retained):
+            raise BadFile
+        given = given[len(retained) :]
+    return kept
+
+
 def start_line(resource, incarnation, kept, marks=None):
     """The values with which the tasks of a resource open stand in it one by one, where it has such. Nodes noted it without the
     digests of the plant, too."""
-    values = [
-        f" {program.name}.{it.name}={words.shown(value)}" for task in resource.tasks for (program, it), value in zip(task.retained(), kept[task])
-    ]
+    values = "".join(f" {it}" for it in kept_words(resource, kept))
     told = f" {marks}" if marks else ""
-    return f"START {resource.name} {incarnation}{told}{' KEEPS' if values else ''}{''.join(values)}"
+    return f"START {resource.name} {incarnation}{told}{' KEEPS' if values else ''}{values}"
 
 
 def start_of(plant, line):
@@ -71,14 +93,8 @@ def start_of(plant, line):
         ends = not behind or (behind[0] == "KEEPS" and len(line) > line.index(" KEEPS") + len(" KEEPS"))
         is_foreign = ends and parts[1] == resource.name and parts[2] == str(incarnation)
         return Foreign(resource, incarnation) if is_foreign else None
-    kept, given = {}, behind[1:]
     try:
-        for task in resource.tasks:
-            retained = task.retained()
-            kept[task] = [value_of(word, it.kind) for (_, it), word in zip(retained, given)]
-            if len(kept[task]) != len(retained):
-                return None
-            given = given[len(retained) :]
+        kept = kept_of(resource, behind[1:])
     except BadFile:
         return None
     return Start(resource, incarnation, kept) if start_line(resource, incarnation, kept, marks) == line else None
@@ -117,6 +133,9 @@ def evaluate_of(parts):
 
 def item_of(plant, resource, line):
     """What a line of a resource's node says behind its START; None where no node of it writes such a line."""
+    restart = restart_of(resource, line)
+    if restart or line.startswith("STANDS "):
+        return restart or Stands(line)
     parts = parts_of(line)
     hello, event = hello_of(plant, parts), evaluate_of(parts)
     if hello:
@@ -124,7 +143,7 @@ def item_of(plant, resource, line):
     if isinstance(event, Evaluate):
         task = find(resource.tasks, event.task) if find(plant.resources, event.resource) is resource else None
         return Evaluated(task, event.elapsed, event.inputs) if task else None
-    return message_of(plant, line) or restart_of(resource, line)
+    return message_of(plant, line)
 
 
 @dataclass

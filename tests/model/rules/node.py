@@ -51,6 +51,13 @@ class NoFiles:
         pass
 
 
+class NoJournal:
+    """Nothing is noted."""
+
+    def note(self, _line):
+        pass
+
+
 class Journal:
     """The file to whose end a node notes. Where a note has no room the node ends; or it tells that once, and notes nothing more."""
 

@@ -1,7 +1,9 @@
 """The files of a journal that goes on in further ones, and which go on from which."""
 import os
+import re
 
 from .node import Journal
+from .stands import stands_line
 
 CONTINUES = "CONTINUES "
 
@@ -17,24 +19,46 @@ def first_line(number, before, resource, incarnation):
     return f"{CONTINUES}{number} {digest_of(before)} {resource} {incarnation};\n"
 
 
-def joined(files):
-    """The texts of rows of files, each by the first one's path; and an empty one for each file that goes on from none that is given."""
+def joined(files, parts=False):
+    """The texts of rows of files, each by the first one's path; and an empty one for each file that goes on from none that is given.
+    With parts a file that tells of none that is given begins a row, too."""
     rows, taken = [], set()
     for first, (path, text) in enumerate(files):
-        if text.startswith(CONTINUES):
-            continue
-        taken.add(first)
-        noted, last, number = text, text, 1
-        while True:
-            front = f"{CONTINUES}{number} {digest_of(last)} "
-            following = [k for k, (_, it) in enumerate(files) if it.startswith(front)]
-            if not following:
-                break
-            taken.add(following[0])
-            last, number = files[following[0]][1], number + 1
-            noted += "".join(last.partition("\n")[1:])
-        rows.append((path, noted))
+        if not text.startswith(CONTINUES):
+            rows.append((path, row_from(files, first, 0, taken)))
+    firsts = [k for k in range(len(files)) if k not in taken and parts and is_first(files, k)]
+    for first in firsts:
+        path, text = files[first]
+        rows.append((path, row_from(files, first, number_of(text), taken)))
     return rows + [(path, "") for k, (path, _) in enumerate(files) if k not in taken]
+
+
+def row_from(files, first, number, taken):
+    """What is noted from a file on, which has this number."""
+    taken.add(first)
+    noted = last = files[first][1]
+    while True:
+        number += 1
+        front = f"{CONTINUES}{number} {digest_of(last)} "
+        following = [k for k, (_, it) in enumerate(files) if it.startswith(front)]
+        if not following:
+            return noted
+        taken.add(following[0])
+        last = files[following[0]][1]
+        noted += "".join(last.partition("\n")[1:])
+
+
+def number_of(text):
+    found = re.match(r"[0-9]*", text[len(CONTINUES) :])[0]
+    return int(found) if found and int(found) < 2**64 else 0
+
+
+def is_first(files, at):
+    """Whether a further file, which no earlier one equals, tells of none that is given."""
+    text = files[at][1]
+    told = text.partition(" ")[2].partition(" ")[2]
+    is_again = any(it == text for _, it in files[:at])
+    return not is_again and not any(told.startswith(f"{digest_of(it)} ") for _, it in files)
 
 
 def numbers_of(path):
@@ -63,11 +87,17 @@ class RowJournal(Journal):
 
     def __init__(self, path, resource, size, tell=None):
         super().__init__(path, tell)
-        self.first, self.resource, self.size, self.incarnation = path, resource, size, 0
+        self.first, self.resource, self.size, self.incarnation, self.core = path, resource, size, 0, None
         self.number = max([0, *numbers_of(path)])
         self.path = f"{path}.{self.number}" if self.number else path
         if self.number and not is_further(self.path):
             raise OSError("the last file is none of the journal's")
+
+    def first_lines(self, before, core):
+        """Which file a further one goes on from; and where the node stands, if there is room for it."""
+        lines = first_line(self.number, before, self.resource.name, self.incarnation)
+        stood = f"{stands_line(core)};\n" if core and core.incarnation else ""
+        return lines + stood if len((lines + stood).encode()) <= self.size // 2 else lines
 
     def note(self, line):
         words = line.lstrip("\n").split()
@@ -80,5 +110,5 @@ class RowJournal(Journal):
                 self.number += 1
                 self.path = f"{self.first}.{self.number}"
                 with open(self.path, "x", encoding="utf-8", newline="") as file:
-                    file.write(first_line(self.number, before, self.resource.name, self.incarnation))
+                    file.write(self.first_lines(before, self.core))
         super().note(line)
