@@ -29,7 +29,8 @@ impl KeptMessages {
 
     /// One more.
     pub(crate) fn push(&mut self, message: Message) -> Result<(), AllocError> {
-        self.messages.push(Some(message))
+        self.messages.push(Some(message))?;
+        Ok(())
     }
 
     /// The first one.

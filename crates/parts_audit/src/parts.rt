@@ -81,7 +81,8 @@ impl Shared {
             return Ok(());
         }
         self.present[resource] = part.present();
-        self.risen[resource].push(part.present())
+        self.risen[resource].push(part.present())?;
+        Ok(())
     }
 }
 

@@ -5,6 +5,7 @@ from rules.kept_files import BadFile, KeptFiles
 from rules.node import Node
 from rules.plant_text import read_plant
 from rules.rows import first_line
+from rules.stands import STANDS, stands_line
 
 from .drawings import cased
 from .plants import PlantMaker, inputs
@@ -60,7 +61,7 @@ class Machines:
         self.chance, self.text = chance, text
         self.plant = read_plant(text)
         self.loss, self.doubling = chance.choice([0, 0.2, 0.4]), chance.choice([0, 0.2, 0.4])
-        self.fullness = chance.choice([0, 0, 0.25])
+        self.fullness, self.standing = chance.choice([0, 0, 0.25]), chance.choice([0, 0, 0.1, 0.3])
         self.journals, self.processes = {}, []
         self.folders = {it: Memory() for it in self.plant.resources}
         self.ahead = {it: [] for it in self.plant.resources}
@@ -93,7 +94,10 @@ class Machines:
             return
         text = f"{line};\n"
         written = len(text) if self.death is None else min(self.death, len(text))
-        self.journals[process.journal] = self.journals.get(process.journal, "") + text[:written]
+        noted = self.journals.get(process.journal, "")
+        if process.node and noted.endswith("\n") and self.chance.random() < self.standing:
+            noted += f"{stands_line(process.node.core)};\n"
+        self.journals[process.journal] = noted + text[:written]
         if self.death is not None:
             raise Died
 
@@ -298,12 +302,16 @@ def journals(chance):
     for name in list(left):
         if chance.random() < 0.3:
             left.update(parted(chance, name, left.pop(name)))
-    return {"it.plant": machines.text, **left}, [["audit", "it.plant", *shuffled(chance, left)]]
+    how = ["--from-stands"] if chance.random() < 0.4 else []
+    return {"it.plant": machines.text, **left}, [["audit", *how, "it.plant", *shuffled(chance, left)]]
 
 
 def parted(chance, name, text):
     """A journal in further files, each behind a line; now and then one is lost, or changed, or stands twice."""
-    ends = sorted(chance.sample([at + 1 for at, c in enumerate(text) if c == "\n"], chance.choice([1, 2, 3, 5]))) if text.count("\n") > 5 else []
+    places = [at + 1 for at, c in enumerate(text) if c == "\n"] if text.count("\n") > 5 else []
+    standing = [at for at in places if text.startswith(STANDS, at)]
+    ends = chance.sample(places, min(len(places), chance.choice([1, 2, 3, 5]))) + chance.sample(standing, min(len(standing), chance.choice([1, 2, 3])))
+    ends = sorted(set(ends))
     texts = [text[start:end] for start, end in zip([0, *ends], [*ends, len(text)])]
     for number in range(1, len(texts)):
         texts[number] = first_line(number, texts[number - 1], "R1", chance.randint(0, 3)) + texts[number]
