@@ -1,7 +1,7 @@
 """A journal that goes on in further files.
 
 What is noted in them is what one file has without --journal-size, and each is no longer than asked; a further one begins with its
-number and the digest of the file before. At a start the last one goes on; a further file that is none of the journal's is left as it
+number and the digest of the file before, and with where the node stood, unless it starts there. At a start the last one goes on; a further file that is none of the journal's is left as it
 is, and nothing is begun; nor is beside a node that goes on in a further one, also where the second one has no --journal-size. What a node that died left beside is replaced; where a further file can't be begun, nothing is left there.
 """
 import os
@@ -53,6 +53,9 @@ def whole(name):
     incarnation = 1
     for number, text in enumerate(texts[1:], 1):
         line, rest = text.split(b"\n", 1)
+        is_start = rest.startswith(b"\n")
+        holds(f"{files[number]} doesn't tell where the node stood", rest.startswith(b"STANDS R1 ") != is_start)
+        rest = rest if is_start else rest.split(b"\n", 1)[1]
         for word in texts[number - 1].split(b"\n") + [rest.split(b"\n")[0]]:
             if word.startswith((b"START R1 ", b"RESTART R1 ")):
                 incarnation = int(word.rstrip(b";").split()[2])
