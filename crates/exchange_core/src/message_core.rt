@@ -436,6 +436,8 @@ impl MessageCore {
         if !self.can_be_last(&frame) {
             return false;
         }
+        // The getter hands out that the image has the kinds of the code's outputs.
+        let _outputs = frame.outputs();
         let task = frame.name().task;
         self.table.set(task, Last::Whole(frame));
         true

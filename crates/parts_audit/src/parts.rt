@@ -1,5 +1,8 @@
 //! All resources go through their parts of the journals.
 
+ghost use Rattle.std.specs.Prelude.{IfOk};
+ghost use Rattle.parts_audit.specs.PartsText.{WritesParts};
+
 use crate::beginning::Beginning;
 use crate::doing::{Told, do_line};
 use crate::part::{Came, Part};
@@ -297,7 +300,9 @@ pub fn audit_parts<W: Write>(
     plant: &Arc<Plant>,
     files: &[JournalFile],
     writer: &mut W,
-) -> Result<PartsShown, SendFault> {
+) -> Result<PartsShown, SendFault>
+    ensures ok { IfOk result (WritesParts plant.now.value files.now (W.contents writer.old) (W.contents writer.new)) }
+{
     let Runs {
         runs,
         without_start,

@@ -1,0 +1,4 @@
+pub mod Parts
+pub mod PartsRead
+pub mod PartsText
+pub mod PartsLaws
