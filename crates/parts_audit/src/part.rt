@@ -218,13 +218,6 @@ impl Part {
         }
     }
 
-    /// Whether it can have been in an incarnation: it has come so far, and was put there, or in greater ones alone.
-    pub(crate) fn can_be_heard(&self, incarnation: u32) -> bool {
-        incarnation <= self.present()
-            && (self.risen.contains(&incarnation)
-                || self.risen.iter().all(|other| incarnation < *other))
-    }
-
     /// Whether it can take a message no more that others have made.
     pub(crate) fn is_past(&self, message: &Message) -> bool {
         if self.is_ended() {

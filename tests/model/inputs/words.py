@@ -44,7 +44,7 @@ COMMANDS = {
     "run": (PLANTS, {"--until": ["0", "20", "20", "x"], "--state": [".", "none"], **TRACES}, ["--paced"], ["%IX0=1", "%IX0=1 %IX1=0", "%ix0=0", "%IW0=-7", "%IX0=2", "x"]),
     "node": (PLANTS, {"--until": None, "--state": [".", "none"], "--journal": ["K", "J", "none/x", "pair.plant", "R1.tmp"], "--journal-full": ["stop", "go-on", "go"],
                       "--journal-size": ["4096", "4096", "4095", "x"], "--field": ["-"]}, ["--paced"], ["R1"] * 5 + ["r2", "R9"]),
-    "audit": (PLANTS, {"--until": None}, FLAGS, ["J", "J", "none", "-"]),
+    "audit": (PLANTS, {"--until": None}, ["--from-stands", "--from-stands", *FLAGS], ["J", "J", "none", "-"]),
 }
 NEEDED = {"verify": "--never", "plan": "--until", "run": "--until"}
 # `run` is in turns, and a word of sim is its second file.
