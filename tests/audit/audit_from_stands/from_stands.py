@@ -97,9 +97,7 @@ holds(f"a STANDS that no node writes is taken: {lines[:1]}", status == 3 and f"U
 put_back(ones[-1], text)
 
 last = twos[-1]
-with open(last, encoding="ascii") as opened:
-    numbered = [k for k, line in enumerate(opened, 1) if line.startswith("MESSAGE ")]
-text = edited(last, "A.N=", "A.N=1")
+text = edited(last, ";\nMESSAGE R1.FAST 1.", ";\nMESSAGE R1.FAST 1.9")
 status, lines, _ = plc("audit", "--from-stands", "pair.plant", ones[-1], last)
 holds(f"a changed byte in the last file isn't told: {lines[-2:]}", status == 3 and lines[-1] == "REPLAY from STANDS of what is shown equal")
 put_back(last, text)
