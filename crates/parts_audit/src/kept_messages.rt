@@ -24,7 +24,7 @@ impl KeptMessages {
 
     /// How many there are.
     pub(crate) fn len(&self) -> usize {
-        self.messages.len() - self.gone
+        self.messages.len().saturating_sub(self.gone)
     }
 
     /// One more.
@@ -40,8 +40,8 @@ impl KeptMessages {
 
     /// Lets the first one go.
     pub(crate) fn let_go(&mut self, alloc: Global) -> Result<(), AllocError> {
-        if self.gone < self.messages.len() {
-            self.messages[self.gone] = None;
+        if let Some(first) = self.messages.get_mut(self.gone) {
+            *first = None;
             self.gone += 1;
         }
         if self.gone > MOST_GONE && self.gone * 2 > self.messages.len() {

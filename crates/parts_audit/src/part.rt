@@ -100,7 +100,9 @@ impl Part {
         files: &[JournalFile],
     ) -> Result<Option<Line>, AllocError> {
         for _run in self.run..self.runs.len() {
-            let run = self.runs[self.run];
+            let Some(run) = self.runs.get(self.run).copied() else {
+                return Ok(None);
+            };
             let found = self.read_in(alloc, plant, files, &run)?;
             if found.is_some() {
                 return Ok(found);

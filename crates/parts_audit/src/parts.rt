@@ -59,6 +59,13 @@ impl Shared {
         })
     }
 
+    /// A resource begins where it was told to stand.
+    fn begin(&mut self, resource: usize, beginning: Option<Beginning>) {
+        if let Some(place) = self.beginnings.get_mut(resource) {
+            *place = beginning;
+        }
+    }
+
     /// Whether an evaluation was made before its maker's beginning.
     pub(crate) fn is_before(&self, name: Name) -> bool {
         match self.beginnings.get(name.task.resource) {
@@ -79,12 +86,17 @@ impl Shared {
 
     /// Notes where a resource has come to.
     fn note(&mut self, part: &Part) -> Result<(), AllocError> {
-        let resource = part.resource;
-        if self.present[resource] == part.present() {
+        let incarnation = part.present();
+        let Some(present) = self.present.get_mut(part.resource) else {
+            return Ok(());
+        };
+        if *present == incarnation {
             return Ok(());
         }
-        self.present[resource] = part.present();
-        self.risen[resource].push(part.present())?;
+        *present = incarnation;
+        if let Some(risen) = self.risen.get_mut(part.resource) {
+            risen.push(incarnation)?;
+        }
         Ok(())
     }
 }
@@ -180,9 +192,8 @@ fn go_round<W: Write>(
     text: &mut PartsText<'_, W>,
 ) -> Result<bool, SendFault> {
     let mut went = false;
-    for resource in 0..parts.len() {
-        if shared.crossing.waiting(resource) < MOST_WAITING {
-            let part = &mut parts[resource];
+    for part in parts.iter_mut() {
+        if shared.crossing.waiting(part.resource) < MOST_WAITING {
             went = take_turn(alloc, plant, files, shared, part, text)? || went;
         }
     }
@@ -198,8 +209,7 @@ fn go_any<W: Write>(
     parts: &mut Vec<Part>,
     text: &mut PartsText<'_, W>,
 ) -> Result<bool, SendFault> {
-    for resource in 0..parts.len() {
-        let part = &mut parts[resource];
+    for part in parts.iter_mut() {
         if take_turn(alloc, plant, files, shared, part, text)? {
             return Ok(true);
         }
@@ -247,14 +257,12 @@ fn begin_all<W: Write>(
     parts: &mut Vec<Part>,
     text: &mut PartsText<'_, W>,
 ) -> Result<(), SendFault> {
-    for resource in 0..parts.len() {
-        let part = &mut parts[resource];
+    for part in parts.iter_mut() {
         if stands_next(part) && go(alloc, plant, files, shared, part, text)? {
-            let beginning = part.beginning.take();
-            if let Some(found) = &beginning {
+            if let Some(found) = &part.beginning {
                 text.begun(plant, files, found)?;
             }
-            shared.beginnings[resource] = beginning;
+            shared.begin(part.resource, part.beginning.take());
         }
     }
     Ok(())

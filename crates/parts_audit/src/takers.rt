@@ -55,14 +55,16 @@ impl Crossing {
         self.tasks.get(task.resource)?.get(task.task)?.as_ref()
     }
 
+    fn of_mut(&mut self, task: TaskRef) -> Option<&mut KeptMessages> {
+        match self.tasks.get_mut(task.resource)?.get_mut(task.task)? {
+            Some(kept) => Some(kept),
+            None => None,
+        }
+    }
+
     /// Keeps a message that was made, if others take from its task.
     pub(crate) fn keep(&mut self, message: &Message) -> Result<(), AllocError> {
-        let task = message.name().task;
-        if self.of(task).is_none() {
-            return Ok(());
-        }
-        let row = &mut self.tasks[task.resource];
-        if let Some(kept) = &mut row[task.task] {
+        if let Some(kept) = self.of_mut(message.name().task) {
             kept.push(message.try_clone()?)?;
         }
         Ok(())
@@ -89,11 +91,10 @@ impl Crossing {
         let Some(first) = kept.first() else {
             return false;
         };
-        let resources = parts.len();
-        (0..resources).all(|other| {
-            other == task.resource
-                || !takes_from_task(plant, other, task)
-                || parts[other].is_past(first)
+        parts.iter().all(|other| {
+            other.resource == task.resource
+                || !takes_from_task(plant, other.resource, task)
+                || other.is_past(first)
         })
     }
 
@@ -108,9 +109,9 @@ impl Crossing {
             if !self.is_first_past(plant, parts, task) {
                 return Ok(());
             }
-            let row = &mut self.tasks[task.resource];
-            if let Some(kept) = &mut row[task.task] {
-                kept.let_go(self.alloc)?;
+            let alloc = self.alloc;
+            if let Some(kept) = self.of_mut(task) {
+                kept.let_go(alloc)?;
             }
         }
         Ok(())
