@@ -1,11 +1,13 @@
 //! An evaluation as it was asked, as words of a line, such as ` LAST R1.FAST 1.17 DT 10 HEARD R1=1 R2=1 INPUTS %IX0=1
 //! TAKES R2.SLOW=1.3 5 0 BEFORE 1 0 0100:5:0:10:5:0 ON`.
 
-ghost use Rattle.std.specs.Prelude.{◌≡◌, OnOk, length};
+ghost use Rattle.std.specs.Prelude.{◌≡◌, ◌++◌, OnOk, codes, length, map};
 ghost use Rattle.std.specs.List.{flat_map};
 ghost use Rattle.text_lines.specs.Growing.{GrowsBy};
 ghost use Rattle.text_lines.specs.Lists.{pair_text};
-ghost use Rattle.standing_lines.specs.LastTexts.{input_text, heard_words, values_text, taken_text, last_text};
+ghost use Rattle.standing_lines.specs.LastTexts.{heard_words, input_word, last_words, take_words};
+ghost use Rattle.standing_lines.specs.StateTexts.{words_text};
+ghost use Rattle.text_lines.specs.LineParts.{value_text};
 
 use crate::state_text::push_state;
 use evaluation::{Evaluation, FieldInput, Take};
@@ -17,7 +19,7 @@ use text_lines::{push_name, push_resource, push_task, push_value};
 
 /// Writes a field input, as ` %IX0=1` or ` %IW2=-7`, behind a text.
 fn push_input(text: &mut String, input: FieldInput) -> Result<(), AllocError>
-    ensures { OnOk result (GrowsBy text.old text.new (input_text input)) }
+    ensures { OnOk result (GrowsBy text.old text.new (codes " " ++ input_word input)) }
 {
     match input {
         FieldInput::Bit { number, value } => {
@@ -33,7 +35,7 @@ fn push_input(text: &mut String, input: FieldInput) -> Result<(), AllocError>
 
 /// Writes field inputs behind a text.
 fn push_inputs(text: &mut String, listed: &[FieldInput]) -> Result<(), AllocError>
-    ensures { OnOk result (GrowsBy text.old text.new (flat_map input_text listed.now)) }
+    ensures { OnOk result (GrowsBy text.old text.new (words_text (map input_word listed.now))) }
 {
     for input in listed {
         push_input(text, *input)?;
@@ -44,7 +46,7 @@ fn push_inputs(text: &mut String, listed: &[FieldInput]) -> Result<(), AllocErro
 /// Writes ` HEARD` and of which incarnation of each resource was heard, as ` R1=1 R2=1`, behind a text.
 pub(crate) fn push_heard(text: &mut String, plant: &Plant, heard: &[u32]) -> Result<(), AllocError>
     requires { length heard.now ≡ length plant.now.resources }
-    ensures { OnOk result (GrowsBy text.old text.new (heard_words plant.now heard.now)) }
+    ensures { OnOk result (GrowsBy text.old text.new (words_text (heard_words plant.now heard.now))) }
 {
     text.push_str(" HEARD")?;
     for resource in 0..heard.len() {
@@ -58,7 +60,7 @@ pub(crate) fn push_heard(text: &mut String, plant: &Plant, heard: &[u32]) -> Res
 
 /// Writes values, each behind a blank, behind a text.
 fn push_values(text: &mut String, values: &[Value]) -> Result<(), AllocError>
-    ensures { OnOk result (GrowsBy text.old text.new (values_text values.now)) }
+    ensures { OnOk result (GrowsBy text.old text.new (words_text (map value_text values.now))) }
 {
     for value in values {
         text.push_str(" ")?;
@@ -79,7 +81,7 @@ fn push_pair(text: &mut String, pair: Option<(u32, u32)>) -> Result<(), AllocErr
 
 /// Writes what was taken from a producer, with its values, as ` R2.SLOW=1.3 5 0`, behind a text.
 fn push_take(text: &mut String, plant: &Plant, take: &Take) -> Result<(), AllocError>
-    ensures { OnOk result (GrowsBy text.old text.new (taken_text plant.now take.now)) }
+    ensures { OnOk result (GrowsBy text.old text.new (words_text (take_words plant.now take.now))) }
 {
     text.push_str(" ")?;
     push_task(text, plant, take.producer)?;
@@ -90,7 +92,7 @@ fn push_take(text: &mut String, plant: &Plant, take: &Take) -> Result<(), AllocE
 
 /// Writes what was taken from all producers behind a text.
 fn push_takes(text: &mut String, plant: &Plant, takes: &[Take]) -> Result<(), AllocError>
-    ensures { OnOk result (GrowsBy text.old text.new (flat_map (taken_text plant.now) takes.now)) }
+    ensures { OnOk result (GrowsBy text.old text.new (words_text (flat_map (take_words plant.now) takes.now))) }
 {
     for take in takes {
         push_take(text, plant, take)?;
@@ -105,7 +107,7 @@ pub(crate) fn push_last(
     evaluation: &Evaluation,
 ) -> Result<(), AllocError>
     requires { length evaluation.now.heard ≡ length plant.now.resources }
-    ensures { OnOk result (GrowsBy text.old text.new (last_text plant.now evaluation.now)) }
+    ensures { OnOk result (GrowsBy text.old text.new (words_text (last_words plant.now evaluation.now))) }
 {
     let dt = evaluation.dt();
     text.push_str(" LAST ")?;

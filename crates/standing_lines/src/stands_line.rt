@@ -4,7 +4,7 @@ ghost use Rattle.std.specs.Prelude.{◌≡◌, ℕ, IfOk, OnOk, length, string_b
 ghost use Rattle.std.specs.List.{flat_map, range};
 ghost use Rattle.text_lines.specs.Growing.{GrowsBy};
 ghost use Rattle.exchange_core.specs.MessageCoreValue.{IsCore};
-ghost use Rattle.standing_lines.specs.StandsLine.{held_words, held_words_of, all_held_words, last_words, all_last_words, stands_line};
+ghost use Rattle.standing_lines.specs.StandsLine.{all_held, held_of_resource, held_of_task, last_of_task, stands_line};
 
 use crate::last_text::{push_heard, push_last};
 use exchange_core::MessageCore;
@@ -23,7 +23,7 @@ fn push_held(
     task: TaskRef,
 ) -> Result<(), AllocError>
     requires { core.now.plant ≡ plant.now }
-    ensures { OnOk result (GrowsBy text.old text.new (held_words core.now task)) }
+    ensures { OnOk result (GrowsBy text.old text.new (held_of_task core.now task)) }
 {
     let Some(message) = core.held(task) else {
         return Ok(());
@@ -40,7 +40,7 @@ fn push_held_of(
     resource: usize,
 ) -> Result<(), AllocError>
     requires { core.now.plant ≡ plant.now }
-    ensures { OnOk result (GrowsBy text.old text.new (held_words_of core.now resource)) }
+    ensures { OnOk result (GrowsBy text.old text.new (held_of_resource core.now resource)) }
 {
     for task in 0..plant.tasks(resource).len() {
         push_held(text, plant, core, TaskRef { resource, task })?;
@@ -51,7 +51,7 @@ fn push_held_of(
 /// Writes all messages held behind a text.
 fn push_all_held(text: &mut String, plant: &Plant, core: &MessageCore) -> Result<(), AllocError>
     requires { core.now.plant ≡ plant.now }
-    ensures { OnOk result (GrowsBy text.old text.new (all_held_words core.now)) }
+    ensures { OnOk result (GrowsBy text.old text.new (all_held core.now)) }
 {
     for resource in 0..plant.resources() {
         push_held_of(text, plant, core, resource)?;
@@ -67,7 +67,7 @@ fn push_all_last(
     tasks: usize,
 ) -> Result<(), AllocError>
     requires { core.now.plant ≡ plant.now }
-    ensures { OnOk result (GrowsBy text.old text.new (flat_map (last_words core.now) (range tasks))) }
+    ensures { OnOk result (GrowsBy text.old text.new (flat_map (last_of_task core.now) (range tasks))) }
 {
     for task in 0..tasks {
         if let Some(last) = core.last(task) {

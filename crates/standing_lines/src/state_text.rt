@@ -1,8 +1,8 @@
 //! What stands in the programs of a task, as words of a line, such as ` 1 -7 T#20ms 0100:5:0:10:5:0 ON.3.9`.
 
-ghost use Rattle.std.specs.Prelude.{OnOk};
+ghost use Rattle.std.specs.Prelude.{◌++◌, OnOk, codes};
 ghost use Rattle.text_lines.specs.Growing.{GrowsBy};
-ghost use Rattle.standing_lines.specs.StateTexts.{flags_text, block_text, slot_text, memories_text, program_text, state_text};
+ghost use Rattle.standing_lines.specs.StateTexts.{block_word, flags_text, memories_word, program_words, slot_word, state_words, words_text};
 
 use evaluation::TaskState;
 use power_flow::Snapshot;
@@ -23,7 +23,7 @@ fn push_flags(text: &mut String, flags: &[bool]) -> Result<(), AllocError>
 
 /// Writes a block behind a text: its flags, count and time, and what it shows.
 fn push_block(text: &mut String, block: &Instance) -> Result<(), AllocError>
-    ensures { OnOk result (GrowsBy text.old text.new (block_text block.now)) }
+    ensures { OnOk result (GrowsBy text.old text.new (block_word block.now)) }
 {
     let state = block.state;
     let (count, elapsed) = (state.count, state.elapsed);
@@ -39,7 +39,7 @@ fn push_block(text: &mut String, block: &Instance) -> Result<(), AllocError>
 
 /// Writes a blank and what stands at a name behind a text.
 fn push_slot(text: &mut String, slot: &Slot) -> Result<(), AllocError>
-    ensures { OnOk result (GrowsBy text.old text.new (slot_text slot.now)) }
+    ensures { OnOk result (GrowsBy text.old text.new (codes " " ++ slot_word slot.now)) }
 {
     text.push_str(" ")?;
     match slot {
@@ -50,7 +50,7 @@ fn push_slot(text: &mut String, slot: &Slot) -> Result<(), AllocError>
 
 /// Writes ` ON` and the numbers of the memories that are ON behind a text.
 fn push_memories(text: &mut String, on: &[usize]) -> Result<(), AllocError>
-    ensures { OnOk result (GrowsBy text.old text.new (memories_text on.now)) }
+    ensures { OnOk result (GrowsBy text.old text.new (codes " " ++ memories_word on.now)) }
 {
     text.push_str(" ON")?;
     for memory in on {
@@ -62,7 +62,7 @@ fn push_memories(text: &mut String, on: &[usize]) -> Result<(), AllocError>
 
 /// Writes the state of a program behind a text.
 fn push_program(text: &mut String, state: &Snapshot) -> Result<(), AllocError>
-    ensures { OnOk result (GrowsBy text.old text.new (program_text state.now)) }
+    ensures { OnOk result (GrowsBy text.old text.new (words_text (program_words state.now))) }
 {
     for place in 0..state.places() {
         if let Some(slot) = state.slot(place) {
@@ -74,7 +74,7 @@ fn push_program(text: &mut String, state: &Snapshot) -> Result<(), AllocError>
 
 /// Writes the state of a task behind a text, program by program.
 pub(crate) fn push_state(text: &mut String, state: &TaskState) -> Result<(), AllocError>
-    ensures { OnOk result (GrowsBy text.old text.new (state_text state.now)) }
+    ensures { OnOk result (GrowsBy text.old text.new (words_text (state_words state.now))) }
 {
     for program in state.states() {
         push_program(text, program)?;
