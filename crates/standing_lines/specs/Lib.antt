@@ -1,3 +1,4 @@
 pub mod StateTexts
 pub mod LastTexts
 pub mod StandsLine
+pub mod Steps

@@ -1,5 +1,12 @@
 //! An evaluation that is made once more as it was asked.
 
+ghost use Rattle.std.specs.Prelude.{◌≡◌, IfOk, IfSome, length};
+ghost use Rattle.std.specs.Option.{option_map};
+ghost use Rattle.evaluation.specs.Takes.{AreTakesOf};
+ghost use Rattle.standing_lines.specs.LastTexts.{heard_words};
+ghost use Rattle.standing_lines.specs.Steps.Lasts.{AreHeardOf, SameButTicket, all_take_words};
+ghost use Rattle.standing_lines.specs.Steps.Reads.{ahead, Reads};
+
 use crate::line_words::{LineWords, pair_of, parted};
 use crate::state_reading::read_state;
 use declared_names::Kind;
@@ -57,7 +64,11 @@ pub(crate) fn read_heard(
     alloc: Global,
     plant: &Plant,
     words: &mut LineWords,
-) -> Result<Option<Vec<u32>>, AllocError> {
+) -> Result<Option<Vec<u32>>, AllocError>
+    ensures each { IfOk result (λ found. IfSome found (λ heard. length heard.items ≡ length plant.now.resources)) }
+    ensures read { IfOk result (λ found. Reads (heard_words plant.now) (AreHeardOf plant.now) (ahead words.old) (ahead words.new)
+        (option_map (λ heard. heard.items) found)) }
+{
     let mut heard = Vec::with_capacity(alloc, plant.resources())?;
     if !words.takes(b"HEARD") {
         return Ok(None);
@@ -162,7 +173,10 @@ fn read_takes(
     plant: &Plant,
     code: &TaskCode,
     words: &mut LineWords,
-) -> Result<Option<Vec<Take>>, AllocError> {
+) -> Result<Option<Vec<Take>>, AllocError>
+    ensures { IfOk result (λ found. Reads (all_take_words plant.now) (AreTakesOf code.now) (ahead words.old) (ahead words.new)
+        (option_map (λ takes. takes.items) found)) }
+{
     let producers = code.producers().len();
     let mut takes = Vec::with_capacity(alloc, producers)?;
     for producer in 0..producers {
@@ -269,7 +283,9 @@ pub(crate) fn read_last(
     plant: &Plant,
     resource: usize,
     words: &mut LineWords,
-) -> Result<Option<Frame>, AllocError> {
+) -> Result<Option<Frame>, AllocError>
+    ensures { IfOk result (SameButTicket plant.now resource (ahead words.old) (ahead words.new)) }
+{
     let Some(name) = read_name(alloc, plant, resource, words)? else {
         return Ok(None);
     };

@@ -1,5 +1,11 @@
 //! The words of a line, one after the other.
 
+ghost use Rattle.std.specs.Prelude.{◌≡◌, ◌<◌, ◌^◌, ◌++◌, ℕ, IfOk, Some, codes};
+ghost use Rattle.std.specs.Option.{option_map};
+ghost use Rattle.std.specs.Fmt.{decimal};
+ghost use Rattle.evaluation.specs.InputTexts.{words_of};
+ghost use Rattle.standing_lines.specs.Steps.Reads.{ahead, TakesIf, TakesWord};
+
 use evaluation::push_words;
 use std::alloc::{AllocError, Global};
 use text_lines::{are_same, number_of};
@@ -24,7 +30,9 @@ pub(crate) fn parted(word: &[u8], byte: u8) -> Option<(&[u8], &[u8])> {
 }
 
 /// A number of up to 64 bits.
-pub(crate) fn long_number_of(digits: &[u8]) -> Option<u64> {
+pub(crate) fn long_number_of(digits: &[u8]) -> Option<u64>
+    ensures { (n : ℕ) → n < 2 ^ 64 → digits.now ≡ decimal n → result ≡ Some n }
+{
     match std::str::from_utf8(digits) {
         Ok(text) => text.parse::<u64>().ok(),
         Err(_) => None,
@@ -32,14 +40,18 @@ pub(crate) fn long_number_of(digits: &[u8]) -> Option<u64> {
 }
 
 /// An incarnation and a number, as `1.17`.
-pub(crate) fn pair_of(word: &[u8]) -> Option<(u32, u32)> {
+pub(crate) fn pair_of(word: &[u8]) -> Option<(u32, u32)>
+    ensures { (i n : ℕ) → i < 2 ^ 32 → n < 2 ^ 32 → word.now ≡ decimal i ++ codes "." ++ decimal n → result ≡ Some (i, n) }
+{
     let (incarnation, number) = parted(word, b'.')?;
     Some((number_of(incarnation)?, number_of(number)?))
 }
 
 impl<'a> LineWords<'a> {
     /// The words of a line.
-    pub(crate) fn of(alloc: Global, line: &'a [u8]) -> Result<LineWords<'a>, AllocError> {
+    pub(crate) fn of(alloc: Global, line: &'a [u8]) -> Result<LineWords<'a>, AllocError>
+        ensures { IfOk result (λ words. ahead words ≡ words_of line.now) }
+    {
         let mut words = Vec::new(alloc);
         push_words(&mut words, line)?;
         Ok(LineWords { words, at: 0 })
@@ -51,14 +63,18 @@ impl<'a> LineWords<'a> {
     }
 
     /// The next word.
-    pub(crate) fn next_word(&mut self) -> Option<&'a [u8]> {
+    pub(crate) fn next_word(&mut self) -> Option<&'a [u8]>
+        ensures { TakesWord (ahead self.old) (ahead self.new) (option_map (λ word. word.now) result) }
+    {
         let word = self.ahead()?;
         self.at += 1;
         Some(word)
     }
 
     /// Whether the next word is this one. It is read then.
-    pub(crate) fn takes(&mut self, word: &[u8]) -> bool {
+    pub(crate) fn takes(&mut self, word: &[u8]) -> bool
+        ensures { TakesIf word.now (ahead self.old) (ahead self.new) result }
+    {
         let is_next = match self.ahead() {
             Some(next) => are_same(next, word),
             None => false,

@@ -1,6 +1,15 @@
 //! What stands in the programs of a task, read. It is read freely: what was read is written again, and compared, where a
 //! line is read.
 
+ghost use Rattle.std.specs.Prelude.{◌≡◌, IfOk, IfSome, Some};
+ghost use Rattle.scan_steps.specs.declared.slot.Instance.{Instance as InstanceValue};
+ghost use Rattle.scan_steps.specs.declared.slot.Slot.{Slot as SlotValue};
+ghost use Rattle.scan_steps.specs.Slots.{IsSlotOf};
+ghost use Rattle.power_flow.specs.LadderValue.{Fits};
+ghost use Rattle.evaluation.specs.States.{AreStatesOf};
+ghost use Rattle.standing_lines.specs.StateTexts.{block_word, program_words, slot_word, state_words};
+ghost use Rattle.standing_lines.specs.Steps.Reads.{ahead, Reads};
+
 use crate::line_words::{LineWords, long_number_of, parted};
 use declared_names::Declared;
 use evaluation::TaskState;
@@ -49,7 +58,9 @@ fn shown(instance: &mut Instance, word: &[u8]) -> Option<()> {
 }
 
 /// The block of a type that a word tells.
-fn block_of(block: BlockType, word: &[u8]) -> Option<Instance> {
+fn block_of(block: BlockType, word: &[u8]) -> Option<Instance>
+    ensures { (i : InstanceValue) → i.state.block ≡ block → word.now ≡ block_word i → result ≡ Some i }
+{
     let mut instance = Instance::initial(block);
     let (flags, rest) = parted(word, b':')?;
     let (count, rest) = parted(rest, b':')?;
@@ -62,7 +73,9 @@ fn block_of(block: BlockType, word: &[u8]) -> Option<Instance> {
 }
 
 /// What a word tells to stand at a name that is declared so.
-fn slot_of(declared: Declared, word: &[u8]) -> Option<Slot> {
+fn slot_of(declared: Declared, word: &[u8]) -> Option<Slot>
+    ensures { (slot : SlotValue) → IsSlotOf declared slot → word.now ≡ slot_word slot → result ≡ Some slot }
+{
     match declared {
         Declared::Input(kind) | Declared::Output(kind) | Declared::Local(kind) => {
             Some(Slot::Variable(value_of(kind, word)?))
@@ -102,7 +115,10 @@ fn program_of(
     alloc: Global,
     ladder: &Ladder,
     words: &mut LineWords,
-) -> Result<Option<Snapshot>, AllocError> {
+) -> Result<Option<Snapshot>, AllocError>
+    ensures fits { IfOk result (λ found. IfSome found (Fits ladder.now)) }
+    ensures read { IfOk result (Reads program_words (Fits ladder.now) (ahead words.old) (ahead words.new)) }
+{
     let mut state = ladder.initial(alloc)?;
     if put_slots(ladder, words, &mut state).is_none() {
         return Ok(None);
@@ -121,7 +137,10 @@ pub(crate) fn read_state(
     alloc: Global,
     code: &TaskCode,
     words: &mut LineWords,
-) -> Result<Option<TaskState>, AllocError> {
+) -> Result<Option<TaskState>, AllocError>
+    ensures fits { IfOk result (λ found. IfSome found (AreStatesOf code.now)) }
+    ensures read { IfOk result (Reads state_words (AreStatesOf code.now) (ahead words.old) (ahead words.new)) }
+{
     let mut states = Vec::with_capacity(alloc, code.programs())?;
     for program in 0..code.programs() {
         let Some(ladder) = code.ladder(program) else {
