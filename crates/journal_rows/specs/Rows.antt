@@ -1,10 +1,13 @@
 -- Which files go on from which, and what is noted in them.
-use Rattle.std.specs.Prelude.{◌≡◌, ◌⊎◌, ℕ, zero, suc, ◌+◌, ◌++◌, ◌==◌, map, Bool, true, false, List, [], ◌∷◌, Option, Some, None, codes, length, slice_get, if◌then◌else◌}
+use Rattle.std.specs.Prelude.{◌≡◌, ◌≢◌, ◌⊎◌, ℕ, zero, suc, ◌+◌, ◌<◌, ◌^◌, ◌++◌, ◌==◌, drop, map, Bool, true, false, List, [], ◌∷◌, Option, Some, None, codes, length, slice_get, if◌then◌else◌}
 use Rattle.std.specs.Borrow.{Bor}
+use Rattle.std.specs.Char.{is_ascii_digit}
+use Rattle.std.specs.Fmt.{decimal}
 use Rattle.std.specs.List.{count_by, list_any, position}
 use Rattle.journal_rows.specs.ContinuesLine.{begins_with, digest_of, continues_front}
 use Rattle.journal_rows.specs.LooseFiles.{Texts, loose_file}
 use Rattle.journal_rows.specs.declared.loose_files.LooseFile.{LooseFile}
+use Rattle.journal_rows.specs.declared.loose_files.LooseCause.TheVariants.{Missing}
 use Rattle.journal_rows.specs.declared.rows.Row.{Row}
 
 -- a text is that of a further file
@@ -76,7 +79,7 @@ pub record AreRows (texts : Texts) (rows : List Row) (loose : List LooseFile) : 
   pub rows_are : HaveRows texts (length texts) rows
   pub loose_are : loose ≡ map (loose_file texts) (loose_of rows (length texts))
 
--- the digits behind the first ten bytes of a text, and the number of a further file that they write; 0 where they write none
+-- the digits with which a text begins, and those behind its first ten bytes
 abbrev pub digits_in : List ℕ → List ℕ
 digits_in [] = []
 digits_in (c ∷ text) = if is_ascii_digit c then c ∷ digits_in text else []
@@ -84,20 +87,17 @@ digits_in (c ∷ text) = if is_ascii_digit c then c ∷ digits_in text else []
 abbrev pub number_digits : List ℕ → List ℕ
 number_digits text = digits_in (drop 10 text)
 
-abbrev pub number_in : List ℕ → ℕ
-number_in text = unwrap_or (parsed_u64 (number_digits text)) 0
-
--- a file goes on from none that is given
-abbrev pub begins_part : LooseFile → Bool
-begins_part f = is_missing f.cause
+-- a text tells this number, if those digits write one of 64 bits
+abbrev pub TellsNumber : List ℕ → ℕ → Type 0
+TellsNumber text number = (n : ℕ) → n < 2 ^ 64 → number_digits text ≡ decimal n → number ≡ n
 
 -- behind the rows that there are: for each of the loose files that goes on from none that is given the row from it on
 abbrev pub HaveLooseRows : Texts → List LooseFile → List Row → List Row → Type 0
 HaveLooseRows texts [] old new = new ≡ old
 HaveLooseRows texts (f ∷ loose) old new =
-    ((begins_part f ≡ false) × HaveLooseRows texts loose old new)
-    ⊎ ((begins_part f ≡ true) × (text : Bor (List ℕ)) × (row : Row) × (slice_get texts f.file ≡ Some text)
-    × IsRowFrom texts (number_in text.now) f.file row × HaveLooseRows texts loose (old ++ row ∷ []) new)
+    ((f.cause ≢ Missing) × HaveLooseRows texts loose old new)
+    ⊎ ((f.cause ≡ Missing) × (text : Bor (List ℕ)) × (number : ℕ) × (row : Row) × (slice_get texts f.file ≡ Some text)
+    × TellsNumber text.now number × IsRowFrom texts number f.file row × HaveLooseRows texts loose (old ++ row ∷ []) new)
 
 -- What files are, of which the first ones needn't be given: a further one that goes on from none begins a row, too.
 pub record AreRowsOfParts (texts : Texts) (rows : List Row) (loose : List LooseFile) : Type 0 where

@@ -3,7 +3,7 @@
 ghost use Rattle.std.specs.Prelude.{◌≡◌, ◌<◌, ◌==◌, ◌++◌, ◌∷◌, [], IfOk, IfSome, OnOk, length};
 ghost use Rattle.std.specs.List.{list_any, position};
 ghost use Rattle.journal_rows.specs.ContinuesLine.{begins_with};
-ghost use Rattle.journal_rows.specs.Rows.{behind_first_line, is_further, is_in, line_ends, loose_of, number_digits, number_in, AreRows, AreRowsOfParts, HaveLooseRows, HaveRows, IsRowFrom};
+ghost use Rattle.journal_rows.specs.Rows.{behind_first_line, is_further, is_in, line_ends, loose_of, number_digits, AreRows, AreRowsOfParts, HaveLooseRows, HaveRows, IsRowFrom, TellsNumber};
 
 use crate::digests::digest_of;
 use crate::first_line::{begins_with, continues_front};
@@ -187,7 +187,7 @@ fn number_digits(text: &[u8]) -> &[u8]
 
 /// The number of a further file, by its first line; 0 where that tells none.
 fn number_of(text: &[u8]) -> u64
-    ensures { result ≡ number_in text.now }
+    ensures { TellsNumber text.now result }
 {
     match std::str::from_utf8(number_digits(text)) {
         Ok(digits) => digits.parse::<u64>().unwrap_or(0),

@@ -1,5 +1,6 @@
 -- What an audit of journals shows that may begin where nodes stood.
 use Rattle.std.specs.Prelude.{◌≡◌, ◌≢◌, ◌⊎◌, ◌==◌, ℕ, zero, suc, ◌+◌, ◌<◌, ◌≤◌, ◌++◌, true, false, List, [], ◌∷◌, Contains, Option, Some, length, slice_get}
+use Rattle.std.specs.Global.{Vec}
 use Rattle.std.specs.List.{filter}
 use Rattle.std_blocks.specs.declared.value.Value.{Value}
 use Rattle.task_codes.specs.declared.task_ref.TaskRef.{TaskRef}
@@ -103,9 +104,9 @@ WasBefore s name =
 -- it was made before where its maker was told to stand
 abbrev pub WasBeforeIn : PlantValue → List Shown → Name → Type 0
 WasBeforeIn plant all name =
-    (c : Shown) × (s : NodeValue) × (line : Line) × (text : List ℕ) × (slice_get all name.task.resource ≡ Some c)
+    (c : Shown) × (s : NodeValue) × (line : Line) × (text : Vec ℕ) × (slice_get all name.task.resource ≡ Some c)
     × (slice_get c.lines 0 ≡ Some line) × IsStanding plant name.task.resource s
-    × (line.item ≡ Stands (record { items = text })) × (text ≡ stands_line s.core) × WasBefore s name
+    × (line.item ≡ Stands text) × (text.items ≡ stands_line s.core) × WasBefore s name
 
 -- A message that a resource takes at a line that is shown: it is that of an evaluation that was made, or believed.
 abbrev pub AreTruly : PlantValue → List Shown → List Evaluated → List Place → ℕ → Shown → Type 0

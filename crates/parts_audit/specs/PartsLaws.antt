@@ -1,5 +1,6 @@
 -- An audit from where nodes stood shows what an audit of all shows behind there.
 use Rattle.std.specs.Prelude.{◌≡◌, ℕ, ◌+◌, ◌≤◌, ◌++◌, List, Some, length, slice_get, drop}
+use Rattle.std.specs.Global.{Vec}
 use Rattle.plant.specs.PlantValue.{PlantValue, IsSoundPlant}
 use Rattle.evaluation.specs.Meaning.{Evaluated}
 use Rattle.evaluation.specs.Messages.{message_of}
@@ -25,8 +26,8 @@ AreAllSame xs ys =
 -- line on does the same: it makes the same evaluations.
 abbrev pub PartsGoOn : Type 0
 PartsGoOn =
-    (plant : PlantValue) (n from more : ℕ) (lines : List Line) (text : List ℕ) (stood stands : StationValue) → IsSoundPlant plant
-    → item_at lines from ≡ Some (Stands (record { items = text }))
+    (plant : PlantValue) (n from more : ℕ) (lines : List Line) (text : Vec ℕ) (stood stands : StationValue) → IsSoundPlant plant
+    → item_at lines from ≡ Some (Stands text)
     → StandsAt plant n lines from stood → StandsAt plant n lines (from + 1 + more) stands
     → (s : NodeValue) × (these later : List Evaluated)
     × ComesTo plant n (drop from lines) (1 + more) s these

@@ -1,6 +1,8 @@
 -- Which lines an audit of parts goes through.
 use Rattle.std.specs.Prelude.{◌≡◌, ◌⊎◌, ◌==◌, ◌&&◌, ◌||◌, ℕ, zero, suc, ◌+◌, ◌++◌, ◌∷◌, [], Bool, true, List, Some, codes, length, map, nat_lt, slice_get, string_bytes}
-use Rattle.std.specs.List.{filter, flat_map, IsPermutation}
+use Rattle.std.specs.Global.{Vec}
+use Rattle.std.specs.List.{filter, flat_map}
+use Rattle.std.specs.List.Sorted.{IsPermutation}
 use Rattle.std.specs.Option.{option_map}
 use Rattle.std.specs.Fmt.{decimal}
 use Rattle.lists.specs.Items.{items_or_none}
@@ -27,7 +29,9 @@ place_text files place =
 -- a line that tells where a resource stands begins a run
 pub record BeginsStanding (plant : PlantValue) (place : Place) (line : List ℕ) (run : Run) : Type 0 where
   pub stands : IsStands line
-  pub lines : run.lines.items ≡ record { place = place; item = Stands (record { items = line }) } ∷ []
+  pub text : Vec ℕ
+  pub text_is : text.items ≡ line
+  pub lines : run.lines.items ≡ record { place = place; item = Stands text } ∷ []
 
 -- One more whole line: where no run is before in its file, one that tells where a resource stands begins one; else it is as in an
 -- audit of whole journals.
@@ -69,6 +73,6 @@ pub record AreLinesOf (plant : PlantValue) (files : List JournalFile) (all : Lis
       → nat_lt b.incarnation a.incarnation ≡ true → ⊥
   pub lines_are : (n : ℕ) (c : Shown) → slice_get all n ≡ Some c → c.lines ≡ lines_of sorted n
   pub standing_are : (e : Place × ℕ × ℕ) (k : ℕ) → slice_get standing k ≡ Some e
-      → (c : Shown) × (line : Line) × (s : NodeValue) × (slice_get all e.1 ≡ Some c) × (slice_get c.lines 0 ≡ Some line)
-      × (line.place ≡ e.0) × IsStanding plant e.1 s × (line.item ≡ Stands (record { items = stands_line s.core }))
-      × (s.core.incarnation ≡ e.2)
+      → (c : Shown) × (line : Line) × (text : Vec ℕ) × (s : NodeValue) × (slice_get all e.1 ≡ Some c)
+      × (slice_get c.lines 0 ≡ Some line) × (line.place ≡ e.0) × (line.item ≡ Stands text) × IsStanding plant e.1 s
+      × (text.items ≡ stands_line s.core) × (s.core.incarnation ≡ e.2)

@@ -1,6 +1,6 @@
 -- The line of where a node stands.
 use Rattle.std.specs.Prelude.{◌≡◌, ◌≢◌, ℕ, ◌<◌, ◌++◌, ◌∷◌, List, [], Option, Some, None, codes, length, map}
-use Rattle.std.specs.List.{flat_map, range}
+use Rattle.std.specs.List.{flat_map, range_with_len}
 use Rattle.std.specs.Fmt.{decimal}
 use Rattle.task_codes.specs.declared.task_ref.TaskRef.{TaskRef}
 use Rattle.plant.specs.PlantValue.{PlantValue, tasks_at}
@@ -26,10 +26,10 @@ held_of_task core task = held_text core.plant (held_of core task)
 -- those of the tasks of a resource, and of all resources
 abbrev pub held_of_resource : MessageCoreValue → ℕ → List ℕ
 held_of_resource core n =
-    flat_map (λ (task : ℕ). held_of_task core (record { resource = n; task = task })) (range (length (tasks_at core.plant n)))
+    flat_map (λ (task : ℕ). held_of_task core (record { resource = n; task = task })) (range_with_len 0 (length (tasks_at core.plant n)))
 
 abbrev pub all_held : MessageCoreValue → List ℕ
-all_held core = flat_map (held_of_resource core) (range (length core.plant.resources))
+all_held core = flat_map (held_of_resource core) (range_with_len 0 (length core.plant.resources))
 
 -- a last evaluation, if there is one
 abbrev pub last_told : PlantValue → Option Evaluated → List (List ℕ)
@@ -41,7 +41,7 @@ abbrev pub last_of_task : MessageCoreValue → ℕ → List ℕ
 last_of_task core task = words_text (last_told core.plant (own_last core task))
 
 abbrev pub all_last : MessageCoreValue → List ℕ
-all_last core = flat_map (last_of_task core) (range (length (tasks_at core.plant core.resource)))
+all_last core = flat_map (last_of_task core) (range_with_len 0 (length (tasks_at core.plant core.resource)))
 
 -- Where a resource stands: its incarnation, what it has heard, what its tasks began this incarnation with, the messages that it
 -- holds, and the last evaluation of each of its tasks.

@@ -1,7 +1,7 @@
 //! The line of where a node stands.
 
 ghost use Rattle.std.specs.Prelude.{◌≡◌, ℕ, IfOk, OnOk, length, string_bytes};
-ghost use Rattle.std.specs.List.{flat_map, range};
+ghost use Rattle.std.specs.List.{flat_map, range_with_len};
 ghost use Rattle.text_lines.specs.Growing.{GrowsBy};
 ghost use Rattle.exchange_core.specs.MessageCoreValue.{IsCore};
 ghost use Rattle.standing_lines.specs.StandsLine.{all_held, held_of_resource, held_of_task, last_of_task, stands_line};
@@ -67,7 +67,7 @@ fn push_all_last(
     tasks: usize,
 ) -> Result<(), AllocError>
     requires { core.now.plant ≡ plant.now }
-    ensures { OnOk result (GrowsBy text.old text.new (flat_map (last_of_task core.now) (range tasks))) }
+    ensures { OnOk result (GrowsBy text.old text.new (flat_map (last_of_task core.now) (range_with_len 0 tasks))) }
 {
     for task in 0..tasks {
         if let Some(last) = core.last(task) {
