@@ -200,12 +200,12 @@ fn answer_audit<R: Files + Print + Eprint + AllocGlobal>(
         Ok(journals) => journals,
         Err(status) => return Ok(status),
     };
-    let joined = joined_journals(rt, journals.as_slice())?;
+    let joined = joined_journals(rt, journals)?;
     let mut writer = io::writer(rt);
     match audit_text(rt.alloc(), plant, joined.journals.as_slice(), &mut writer) {
         Ok(true) => Ok(0),
         Ok(false) => {
-            joined.tell_seams(rt, journals.as_slice())?;
+            joined.tell_seams(rt)?;
             Ok(FAILED)
         }
         Err(fault) => print_fault(rt, "", "", &[], fault),

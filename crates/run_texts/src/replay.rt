@@ -14,7 +14,7 @@ use node_reports::{Journal, are_equal};
 use plant::Plant;
 use std::alloc::{AllocError, Global};
 use std::sync::Arc;
-use world::{Schedule, World, one_run};
+use world::{World, fitting_entries_replay, one_run, run_entries};
 
 /// Whether both lists have the same evaluations, which are by the plant's codes.
 fn are_same(frames: &[Frame], others: &[Frame]) -> bool
@@ -64,12 +64,10 @@ fn is_replayed(
     requires of_plant { AreOfPlant plant.value book.now.entries }
     ensures { IfOk result (IsReplay plant.value first.now (lists_of opening.now) book.now) }
 {
-    let schedule = book.schedule(alloc)?;
+    fitting_entries_replay();
     let mut world = World::new(alloc, plant, first, opening, u32::MAX)?;
-    match world.run(alloc, &schedule) {
-        Ok(()) => Ok(are_same(world.log(), book.entries())),
-        Err(_) => Err(AllocError),
-    }
+    run_entries(alloc, &mut world, book)?;
+    Ok(are_same(world.log(), book.entries()))
 }
 
 /// Runs the schedule of a book in one thread, from the journals' first incarnations and openings, and tells whether that

@@ -39,7 +39,7 @@ pub use openings::{are_openings, initial_openings};
 pub use plant_world::World;
 pub use read_line::read_event;
 pub use replay_laws::{fitting_entries_replay, runs_could_be_made, runs_replay};
-pub use schedule::Schedule;
+pub use schedule::{Schedule, run_entries};
 pub use sim_fault::SimFault;
 pub use simulation::{Simulated, simulate, simulate_world};
 pub use world_fault::WorldFault;

@@ -38,7 +38,7 @@ impl Model for World {
         w.events.items w.log.items w.cores.items };
 }
 
-ghost use Rattle.std.specs.Prelude.{◌≡◌, ◌∷◌, [], true, IfOk, IfErr, IfSome, OnOk, OnErr, Contains, length, reverse, take, ◌<◌, slice_index};
+ghost use Rattle.std.specs.Prelude.{◌≡◌, ◌∷◌, [], true, IfOk, IfErr, IfSome, OnOk, OnErr, Contains, Some, length, reverse, take, ◌<◌, slice_get, slice_index};
 ghost use Rattle.std.specs.Option.{option_copied};
 ghost use Rattle.world.specs.declared.event.Event.TheVariants.{Evaluate, Deliver, Restart, Hear};
 ghost use Rattle.task_codes.specs.CodeValue.{lists_of};
@@ -189,6 +189,16 @@ impl World {
     {
         takes_never_fall();
         self.log.as_slice()
+    }
+
+    /// Keeps an evaluation that is the log's at this place once more, so that both are one in memory.
+    pub fn share(&mut self, place: usize, frame: Frame)
+        requires { slice_get self.old.log place ≡ Some frame }
+        ensures { self.new ≡ self.old }
+    {
+        if place < self.log.len() {
+            self.log[place] = frame;
+        }
     }
 
     /// The events that were done, in order.

@@ -1,4 +1,4 @@
-//! Events that make the entries of a book again.
+//! Events that make the entries of a book again, and these done in a world.
 
 mod deliveries;
 mod hearings;
@@ -11,9 +11,11 @@ ghost use Rattle.std.specs.Prelude.{◌≡◌, ◌++◌, IfOk, OnOk, reverse};
 ghost use Rattle.world.specs.Replays.{Replays};
 ghost use Rattle.book.specs.Fits.{Fits};
 ghost use Rattle.world.specs.Schedule.{events_of, schedule_of};
+ghost use Rattle.world.specs.Step.{HaveRun};
 ghost use Rattle.world.specs.Steps.Tables.{before, IsAt};
 
 use crate::event::Event;
+use crate::plant_world::World;
 use crate::schedule::deliveries::push_deliveries;
 use crate::schedule::hearings::push_hearings;
 use crate::schedule::restarts::push_restarts;
@@ -48,6 +50,48 @@ fn push_events(
         dt: evaluation.dt(),
         inputs,
     })?;
+    Ok(())
+}
+
+/// Does these events in a world.
+fn run_all(alloc: Global, world: &mut World, events: &[Event]) -> Result<(), AllocError>
+    ensures { OnOk result (HaveRun world.old world.new events.now) }
+{
+    match world.run(alloc, events) {
+        Ok(()) => Ok(()),
+        Err(_) => Err(AllocError),
+    }
+}
+
+/// Keeps an entry in the place of the evaluation of the log at this place, where both are equal.
+fn share_entry(world: &mut World, place: usize, entry: &Frame) -> Result<(), AllocError>
+    ensures { world.new ≡ world.old }
+{
+    let is_same = match world.log().get(place) {
+        Some(made) => made.same(entry),
+        None => false,
+    };
+    if is_same {
+        world.share(place, entry.try_clone()?);
+    }
+    Ok(())
+}
+
+/// Does in a world the events that make the entries of a book again, entry by entry. An evaluation that is made so, and is
+/// its entry once more, is kept as this: so it takes no room of its own.
+pub fn run_entries(alloc: Global, world: &mut World, book: &Book) -> Result<(), AllocError>
+    ensures { OnOk result (HaveRun world.old world.new (schedule_of book.now.first (reverse book.now.entries))) }
+{
+    let entries = book.entries();
+    let mut tables = Tables::new(alloc, book.first())?;
+    for i in 0..entries.len() {
+        let frame = &entries[i];
+        let mut events = Vec::new(alloc);
+        push_events(&mut events, book, i, &tables, frame)?;
+        tables.note(frame.evaluation(), i)?;
+        run_all(alloc, world, events.as_slice())?;
+        share_entry(world, i, frame)?;
+    }
     Ok(())
 }
 
