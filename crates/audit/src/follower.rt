@@ -1,7 +1,8 @@
 //! A resource goes through its lines.
 
-ghost use Rattle.std.specs.Prelude.{◌≡◌, ◌<◌, ◌↔◌, ℕ, Bool, false, IsTrue, length, take, IfOk};
+ghost use Rattle.std.specs.Prelude.{◌≡◌, ◌<◌, ◌↔◌, ℕ, Bool, false, IsTrue, Some, length, take, IfOk, IfSome};
 ghost use Rattle.std.specs.List.{list_any};
+ghost use Rattle.audit.specs.declared.item.Item.TheVariants as item;
 ghost use Rattle.audit.specs.declared.line.Line.{Line as LineValue};
 ghost use Rattle.exchange_core.specs.Openings.{AreOpeningOf};
 ghost use Rattle.plant.specs.PlantValue.{PlantValue};
@@ -18,7 +19,7 @@ use crate::line::Line;
 use crate::past::Past;
 use crate::standing::Standing;
 use crate::trail::Trail;
-use evaluation::Retained;
+use evaluation::{Message, Retained};
 use exchange_core::{CoreFault, initial_opening, is_opening};
 use node_reports::{Journal, Opening, Station};
 use plant::Plant;
@@ -112,6 +113,37 @@ fn begin_in(lines: &[Line], first: usize, incarnation: u32) -> bool
         .any(|line| begins(&line.item, incarnation))
 }
 
+/// Keeps the message of an entry in the place of an equal one of the line at a place, so that both are one in memory.
+fn share_message(lines: &mut Vec<Line>, place: usize, book: &BookOfAudit) -> Result<(), AllocError>
+    ensures { lines.new ≡ lines.old }
+{
+    let Some(shared) = message_in(lines.as_slice(), place, book)? else {
+        return Ok(());
+    };
+    lines[place].item = Item::Message(shared);
+    Ok(())
+}
+
+/// The message of an entry that is equal to that of the line at a place.
+fn message_in(
+    lines: &[Line],
+    place: usize,
+    book: &BookOfAudit,
+) -> Result<Option<Message>, AllocError>
+    ensures { IfOk result (λ found. IfSome found (λ m. item_at lines.now place ≡ Some (item.Message m))) }
+{
+    let Some(line) = lines.get(place) else {
+        return Ok(None);
+    };
+    let Item::Message(message) = &line.item else {
+        return Ok(None);
+    };
+    match book.find(message.name()) {
+        Some(entry) if entry.message().same(message) => Ok(Some(entry.message().try_clone()?)),
+        _ => Ok(None),
+    }
+}
+
 impl Follower {
     /// A resource before its first line.
     pub(crate) fn new(
@@ -152,7 +184,7 @@ impl Follower {
     {
         let Follower {
             standing,
-            lines,
+            mut lines,
             mut trail,
         } = self;
         let mut standing = standing;
@@ -163,6 +195,7 @@ impl Follower {
             if !done {
                 break;
             }
+            share_message(&mut lines, trail.at.saturating_sub(1), book)?;
         }
         let went = trail.at != from;
         Ok((
